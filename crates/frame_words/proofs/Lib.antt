@@ -1,0 +1,5 @@
+pub mod BitLemmas
+pub mod GroupLemmas
+pub mod LaneLemmas
+pub mod RunLemmas
+pub mod WordLemmas

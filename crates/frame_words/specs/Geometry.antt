@@ -1,0 +1,39 @@
+-- The sizes of memory, and the limits of a geometry.
+use Rattle.std.specs.Prelude.{ℕ, ◌+◌, ◌-◌, ◌*◌, ◌/◌, ◌≤◌, min}
+
+-- the frames of a child
+abbrev pub child_frames : ℕ
+child_frames = 512
+
+-- the children of a tree, of which the last tree may have fewer
+abbrev pub tree_children : ℕ
+tree_children = 8
+
+-- the frames of a whole tree
+abbrev pub tree_frames : ℕ
+tree_frames = 4096
+
+-- the most children that memory may have
+abbrev pub most_children : ℕ
+most_children = 4096
+
+-- the most trees that memory may have
+abbrev pub most_trees : ℕ
+most_trees = 512
+
+-- the most cores that may use memory
+abbrev pub most_cores : ℕ
+most_cores = 64
+
+-- from 1 to 4,096 children and from 1 to 64 cores
+abbrev pub IsWithinLimits : ℕ → ℕ → Type 0
+IsWithinLimits children cores =
+    (1 ≤ children) × (children ≤ most_children) × (1 ≤ cores) × (cores ≤ most_cores)
+
+-- the trees that so many children fill, the last of them perhaps in part
+abbrev pub tree_count : ℕ → ℕ
+tree_count children = (children + 7) / tree_children
+
+-- the frames of a tree: those of its children, as far as there are so many
+abbrev pub tree_size : ℕ → ℕ → ℕ
+tree_size children tree = child_frames * min tree_children (children - tree_children * tree)

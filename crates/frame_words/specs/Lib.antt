@@ -1,0 +1,4 @@
+pub mod Faults
+pub mod Geometry
+pub mod Runs
+pub mod Words

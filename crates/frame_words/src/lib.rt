@@ -1,0 +1,23 @@
+//! The numbers of the frame allocator: faults, sizes, masks, runs of clear bits, and its words.
+#![tactic(auto)]
+
+mod entry_word;
+mod fault;
+mod geometry;
+mod lanes;
+mod local_word;
+mod masks;
+mod runs;
+mod tree_word;
+
+pub use entry_word::{entry, entry_free, entry_huge};
+pub use fault::{Fault, TakeFault};
+pub use geometry::{Geometry, child_of, tree_of};
+pub use lanes::{lane, with_lane};
+pub use local_word::{local, local_of};
+pub use masks::mask;
+pub use runs::{find_run, find_words};
+pub use tree_word::{tree, tree_free, tree_reserved};
+
+#[cfg(test)]
+mod tests;
