@@ -1,0 +1,259 @@
+-- A seat takes in another: an idle one, or one with a block, which comes in flight or is kept.
+use Rattle.std.proofs.Common.{◌≡◌, ◌≢◌, inr, ⊎_elim, ℕ, ◌+◌, ◌/◌, ◌<◌, ◌≤◌, List, [], ◌∷◌, Bool, true, false, set, refl, ap, subst, ◌∙◌, arith}
+use Rattle.std.specs.Prelude.{◌||◌}
+use Rattle.std.specs.List.{All}
+use Rattle.std.proofs.lemmas.Bool.{cases_eq}
+use Rattle.std.proofs.lemmas.List.Elements.{All-head, All-append}
+use borrow.Author.Differences.{up, down}
+use mathlib.Core.Option.{some}
+use lib.ListN.{get_elem?}
+use Rattle.atomic_table.proofs.Lists.{set_else}
+use Rattle.frame_core.specs.declared.block.FrameBlock.{FrameBlock}
+use Rattle.frame_core.specs.declared.key.Key.{Key}
+use Rattle.frame_core.specs.declared.view.View.{View}
+use Rattle.frame_core.specs.Key.{child_of}
+use Rattle.frame_core.specs.Block.{IsBlock, small_at, whole_at, smalls, wholes}
+use Rattle.frame_core.specs.View.{count_in, names, is_at, spent, ground_in, LiesIn, IsIdle, HasNoPart, HasOneBlock, IsViewOf}
+use Rattle.frame_core.specs.Fit.{total, Fit}
+use Rattle.frame_core.specs.Seats.{join_idle, hand_in, keep_in, CanTakeIn, CanHandIn, CanJoinIdle, joined_by}
+use Rattle.frame_core.proofs.Sums.{sum_set, at-le-sum}
+use Rattle.frame_core.proofs.Amounts.{count_none, is_at_none, names_none}
+use Rattle.frame_core.proofs.Blocks.{smalls_cons, wholes_cons, smalls_none, wholes_none, smalls_both, wholes_both, small_elsewhere, whole_elsewhere}
+use Rattle.frame_core.proofs.Keeps.{total_is}
+use Rattle.frame_core.proofs.Balances.{join_step}
+use Rattle.frame_core.proofs.Steps.Shared.{named, none_out, view_of}
+use Rattle.frame_core.proofs.Steps.Seats.{lent_back, lent_both, one_out, spent_out, ground_yes, ground_no, ground_same, spent_is}
+
+-- an idle view has filled nothing
+pub idle_unfilled : (key : Key) (u : View) → IsViewOf key u → IsIdle u → (k : ℕ) → names k u.filled ≡ 0
+idle_unfilled key u i idle k =
+    ⊎_elim (λ z. z) (λ p. absurd (omega (
+      arith,
+      (i.filled k (omega (arith, p))).own,
+      ap (wholes (k / 8)) idle.own,
+      wholes_none (k / 8),
+    ))) (cases_eq (names k u.filled) 0)
+
+first_block : (key : Key) (bs : List FrameBlock) (b : FrameBlock) → bs ≡ b ∷ [] → All (IsBlock key) bs
+    → IsBlock key b
+first_block key bs b e all = All-head (IsBlock key) b [] (subst (All (IsBlock key)) e all)
+
+or_ground : (v u w : View) → w.is_ground ≡ (v.is_ground || u.is_ground) → ground_in v + ground_in u ≤ 1
+    → ground_in w ≡ ground_in v + ground_in u
+or_ground v u w e few = by v.is_ground u.is_ground refl refl
+  where
+    by : (a b : Bool) → v.is_ground ≡ a → u.is_ground ≡ b → ground_in w ≡ ground_in v + ground_in u
+    by true true p q = absurd (omega (arith, ground_yes v p, ground_yes u q))
+    by true false p q = omega (arith, ground_yes v p, ground_no u q, ground_yes w (e ∙ ap (λ x. x || u.is_ground) p))
+    by false true p q = omega (
+      arith,
+      ground_no v p,
+      ground_yes u q,
+      ground_yes w (e ∙ ap (λ x. x || u.is_ground) p ∙ q),
+    )
+    by false false p q = omega (arith, ground_no v p, ground_no u q, ground_no w (e ∙ ap (λ x. x || u.is_ground) p ∙ q))
+
+module _ (t : ℕ → ℕ) (key : Key) (shares : ℕ) (ws : List ℕ) (vs : List View) (id : ℕ) (v : View)
+    (fit : Fit key shares ws vs) (at : get_elem? vs id ≡ some v)
+    (other : ℕ) (u : View) (apart : other ≢ id) (there : get_elem? vs other ≡ some u) where
+  u_is : IsViewOf key u
+  u_is = view_of key shares ws vs other u fit there
+
+  two-le-total : (f : View → ℕ) → f spent ≡ 0 → f v + f u ≤ total key f vs
+  two-le-total f z = omega (
+    arith,
+    total_is key f vs,
+    sum_set f vs id v spent at,
+    at-le-sum f (set vs id spent) other u (set_else vs id other spent apart ∙ there),
+    z,
+  )
+
+  pub join_idle_keeps : CanJoinIdle v u
+      → Fit key shares ws (set (set vs id (joined_by t join_idle v u)) other spent)
+  join_idle_keeps can =
+      let i : IsViewOf key v = view_of key shares ws vs id v fit at in
+      let had : 0 < v.share = can.keeper.share in
+      let had_u : 0 < u.share = can.other.share in
+      let both : View = joined_by t join_idle v u in
+      let both_has : 0 < both.share = omega (arith, had) in
+      let l : LiesIn v (i.one_child had).0 = (i.one_child had).1 in
+      let one : ground_in v + ground_in u ≤ 1 = omega (arith, fit.one_ground, two-le-total ground_in (ground_no spent refl)) in
+      join_step key shares ws vs id v fit at other u both spent (set_else vs id other both apart ∙ there) (record {
+        wholes = λ c. omega (arith, wholes_both c v.kept u.kept, ap (wholes c) can.other.own, wholes_none c);
+        smalls = λ x. omega (arith, smalls_both x v.kept u.kept, ap (smalls x) can.other.own, smalls_none x);
+        marks = λ x. omega (
+          arith,
+          smalls_both x v.kept u.kept,
+          ap (smalls x) can.other.own,
+          smalls_none x,
+          names_none (x / 64),
+          idle_unfilled key u u_is can.other (x / 64),
+        );
+        charged = λ c. omega (arith, ap (count_in c) can.other.charged, count_none c);
+        paid = λ k. omega (arith, ap (count_in k) can.other.paid, count_none k);
+        reserves = λ k. omega (arith, ap (is_at k) can.other.reserving, is_at_none k);
+        shares = omega arith;
+        lents = omega (
+          arith,
+          lent_both v.lent u.lent,
+          none_out v had,
+          none_out u had_u,
+          none_out both both_has,
+          spent_out,
+        );
+        grounds = omega (arith, or_ground v u both refl one, ground_no spent refl);
+      })
+      (record {
+        named = inr (named key v i had);
+        own = i.own;
+        kept = All-append (IsBlock key) v.kept u.kept i.kept u_is.kept;
+        no_part = λ z. absurd (omega arith);
+        one_block = λ z g. absurd (omega arith);
+        one_child = λ z. ((i.one_child had).0, record { charged = l.charged; smalls = l.smalls; wholes = l.wholes });
+        filled = λ k q. let h = i.filled k q in record { inside = h.inside; share = both_has; own = h.own };
+        charged = i.charged;
+        paid = i.paid;
+        reserving = i.reserving;
+        some_charged = i.some_charged;
+        some_paid = i.some_paid;
+      })
+      (spent_is key)
+
+  pub hand_in_keeps : CanHandIn v u
+      → Fit key shares ws (set (set vs id (joined_by t hand_in v u)) other spent)
+  hand_in_keeps can =
+      let i : IsViewOf key v = view_of key shares ws vs id v fit at in
+      let take : CanTakeIn v u = can.takes in
+      let b : FrameBlock = take.block in
+      let had : 0 < v.share = take.share in
+      let none : HasNoPart u = u_is.no_part take.out in
+      let one : HasOneBlock u = u_is.one_block take.out take.not_ground in
+      let both : View = joined_by t hand_in v u in
+      let l : LiesIn v (child_of b.frame) = can.one_child in
+      let is_block : IsBlock key b = first_block key u.own b take.owns u_is.own in
+      let smalls_u : (x : ℕ) → smalls x u.own ≡ small_at x b = λ x. omega (
+        arith,
+        ap (smalls x) take.owns,
+        smalls_cons x b [],
+        smalls_none x,
+      ) in
+      let wholes_u : (c : ℕ) → wholes c u.own ≡ whole_at c b = λ c. omega (
+        arith,
+        ap (wholes c) take.owns,
+        wholes_cons c b [],
+        wholes_none c,
+      ) in
+      join_step key shares ws vs id v fit at other u both spent (set_else vs id other both apart ∙ there) (record {
+        wholes = λ c. omega (arith, wholes_both c u.own v.own, ap (wholes c) none.kept, wholes_none c);
+        smalls = λ x. omega (arith, smalls_both x u.own v.own, ap (smalls x) none.kept, smalls_none x);
+        marks = λ x. omega (
+          arith,
+          smalls_both x u.own v.own,
+          ap (smalls x) none.kept,
+          smalls_none x,
+          ap (names (x / 64)) none.filled,
+          names_none (x / 64),
+        );
+        charged = λ c. omega (arith, ap (count_in c) none.charged, count_none c);
+        paid = λ k. omega (arith, ap (count_in k) none.paid, count_none k);
+        reserves = λ k. omega (arith, ap (is_at k) none.reserving, is_at_none k);
+        shares = omega (arith, take.out);
+        lents = omega (
+          arith,
+          lent_back v.lent,
+          ap up one.lent,
+          ap down one.lent,
+          none_out v had,
+          one_out u b take.not_ground take.out take.owns,
+          none_out both had,
+          spent_out,
+        );
+        grounds = omega (arith, ground_same v both refl, ground_no u take.not_ground, ground_no spent refl);
+      })
+      (record {
+        named = inr (named key v i had);
+        own = All-append (IsBlock key) u.own v.own u_is.own i.own;
+        kept = i.kept;
+        no_part = λ z. absurd (omega (arith, had));
+        one_block = λ z g. absurd (omega (arith, had));
+        one_child = λ z. (
+          child_of b.frame,
+          record {
+            charged = l.charged;
+            smalls = λ x ne. omega (
+              arith,
+              smalls_both x u.own v.own,
+              smalls_u x,
+              small_elsewhere key b is_block x ne,
+              l.smalls x ne,
+            );
+            wholes = λ d ne. omega (
+              arith,
+              wholes_both d u.own v.own,
+              wholes_u d,
+              whole_elsewhere b d ne,
+              l.wholes d ne,
+            );
+          },
+        );
+        filled = λ k q. let h = i.filled k q in record { inside = h.inside; share = had; own = omega (arith, h.own, wholes_both (k / 8) u.own v.own) };
+        charged = i.charged;
+        paid = i.paid;
+        reserving = i.reserving;
+        some_charged = i.some_charged;
+        some_paid = i.some_paid;
+      })
+      (spent_is key)
+
+  pub keep_in_keeps : CanTakeIn v u
+      → Fit key shares ws (set (set vs id (joined_by t keep_in v u)) other spent)
+  keep_in_keeps take =
+      let i : IsViewOf key v = view_of key shares ws vs id v fit at in
+      let b : FrameBlock = take.block in
+      let had : 0 < v.share = take.share in
+      let none : HasNoPart u = u_is.no_part take.out in
+      let one : HasOneBlock u = u_is.one_block take.out take.not_ground in
+      let both : View = joined_by t keep_in v u in
+      let l : LiesIn v (i.one_child had).0 = (i.one_child had).1 in
+      join_step key shares ws vs id v fit at other u both spent (set_else vs id other both apart ∙ there) (record {
+        wholes = λ c. omega (arith, wholes_both c u.own v.kept, ap (wholes c) none.kept, wholes_none c);
+        smalls = λ x. omega (arith, smalls_both x u.own v.kept, ap (smalls x) none.kept, smalls_none x);
+        marks = λ x. omega (
+          arith,
+          smalls_both x u.own v.kept,
+          ap (smalls x) none.kept,
+          smalls_none x,
+          ap (names (x / 64)) none.filled,
+          names_none (x / 64),
+        );
+        charged = λ c. omega (arith, ap (count_in c) none.charged, count_none c);
+        paid = λ k. omega (arith, ap (count_in k) none.paid, count_none k);
+        reserves = λ k. omega (arith, ap (is_at k) none.reserving, is_at_none k);
+        shares = omega (arith, take.out);
+        lents = omega (
+          arith,
+          lent_back v.lent,
+          ap up one.lent,
+          ap down one.lent,
+          none_out v had,
+          one_out u b take.not_ground take.out take.owns,
+          none_out both had,
+          spent_out,
+        );
+        grounds = omega (arith, ground_same v both refl, ground_no u take.not_ground, ground_no spent refl);
+      })
+      (record {
+        named = inr (named key v i had);
+        own = i.own;
+        kept = All-append (IsBlock key) u.own v.kept u_is.own i.kept;
+        no_part = λ z. absurd (omega (arith, had));
+        one_block = λ z g. absurd (omega (arith, had));
+        one_child = λ z. ((i.one_child had).0, record { charged = l.charged; smalls = l.smalls; wholes = l.wholes });
+        filled = λ k q. let h = i.filled k q in record { inside = h.inside; share = had; own = h.own };
+        charged = i.charged;
+        paid = i.paid;
+        reserving = i.reserving;
+        some_charged = i.some_charged;
+        some_paid = i.some_paid;
+      })
+      (spent_is key)

@@ -1,0 +1,14 @@
+use Rattle.std.proofs.Common.{ℕ, List, true, refl, sym, subst, ◌∙◌}
+use Rattle.frame_core.specs.Plain.{plain_key, FitsIdle}
+use Rattle.frame_core.proofs.PlainOpening.{sealed_opens}
+use Rattle.frame_core.proofs.plain.PlainMoves.new.Goals as goal
+
+pub of-requires-clause-fits : goal.of-requires-clause-fits
+of-requires-clause-fits c =
+    let geometry = c.args.geometry.now in
+    let key = plain_key geometry true in
+    let image = c.in_ok-image in
+    let same = c.in_ok-words.ensures.items_if_clones_equal (λ t y e. e) ∙ c.words.ensures in
+    subst (λ (l : List ℕ). ∥ FitsIdle key l ∥₁) (sym same)
+    (sealed_opens key image.image.words refl c.requires refl geometry.some_cores
+    image.ensures.in_range.in_range image.ensures.all_free)

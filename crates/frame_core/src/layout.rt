@@ -1,0 +1,82 @@
+//! Where each word of a table stands in its list. Word 0 is the anchor, which nothing writes.
+
+ghost use Rattle.std.specs.Prelude.{◌≡◌, ◌+◌, ◌*◌, ◌<◌};
+ghost use Rattle.frame_core.specs.declared.key.Key.{Key};
+ghost use Rattle.frame_core.specs.Key.{key_of, tree_count};
+ghost use Rattle.frame_core.specs.Words.{entry_word_count, entry_place, tree_place, local_place};
+ghost use Rattle.frame_core.specs.Words.{bits_place, word_count};
+
+use frame_words::Geometry;
+
+/// Words before the first entry, and words from one local word to the next: a cache line each.
+const LINE_WORDS: usize = 8;
+
+const LANES: usize = 4;
+
+const CHILD_WORDS: usize = 8;
+
+/// The place of the word that the entry of this child stands in, beside three others.
+#[inline]
+#[tactic(auto, unfolding(crate::specs::Words::entry_place, crate::specs::Words::word_count))]
+pub fn entry_place(child: u32) -> usize
+    ensures value { result ≡ entry_place child }
+    ensures inside { (key : Key) → child < key.children → result < word_count key }
+{
+    LINE_WORDS + child as usize / LANES
+}
+
+/// The place of the word of this tree.
+#[inline]
+#[tactic(auto, unfolding(crate::specs::Words::tree_place, crate::specs::Words::word_count))]
+pub fn tree_place(geometry: Geometry, tree: u32) -> usize
+    ensures value { result ≡ tree_place (key_of geometry) tree }
+    ensures inside { tree < tree_count (key_of geometry) → result < word_count (key_of geometry) }
+{
+    LINE_WORDS + entry_words(geometry) + tree as usize
+}
+
+/// The place of the local word of this core. The seven words behind it are not used.
+#[inline]
+#[tactic(auto, unfolding(crate::specs::Words::local_place, crate::specs::Words::word_count))]
+pub fn local_place(geometry: Geometry, core: u32) -> usize
+    ensures value { result ≡ local_place (key_of geometry) core }
+    ensures inside { core < geometry.cores → result < word_count (key_of geometry) }
+{
+    first_local(geometry) + LINE_WORDS * core as usize
+}
+
+/// The place of a bit word; those of the child `c` are `8 * c` to `8 * c + 7`.
+#[inline]
+#[tactic(auto, unfolding(crate::specs::Words::bits_place, crate::specs::Words::word_count))]
+pub fn bits_place(geometry: Geometry, word: u32) -> usize
+    ensures value { result ≡ bits_place (key_of geometry) word }
+    ensures inside { word < 8 * geometry.children → result < word_count (key_of geometry) }
+{
+    first_local(geometry) + LINE_WORDS * geometry.cores as usize + word as usize
+}
+
+/// How many words a table has.
+#[inline]
+#[tactic(auto, unfolding(crate::specs::Words::word_count))]
+pub fn word_count(geometry: Geometry) -> usize
+    ensures { result ≡ word_count (key_of geometry) }
+{
+    first_local(geometry)
+        + LINE_WORDS * geometry.cores as usize
+        + CHILD_WORDS * geometry.children as usize
+}
+
+#[inline]
+fn entry_words(geometry: Geometry) -> usize
+    ensures { result ≡ entry_word_count (key_of geometry) }
+{
+    (geometry.children as usize).div_ceil(LANES)
+}
+
+// Seven words behind the trees are not used, so that the first local word has its line alone.
+#[inline]
+fn first_local(geometry: Geometry) -> usize
+    ensures { result ≡ 15 + entry_word_count (key_of geometry) + tree_count (key_of geometry) }
+{
+    2 * LINE_WORDS - 1 + entry_words(geometry) + geometry.trees() as usize
+}

@@ -1,0 +1,325 @@
+//! Each move on plain words: what it does to its word and to the parts of the own view.
+
+ghost use Rattle.std.specs.Prelude.{◌≡◌, ℕ, ◌+◌, ◌*◌, ◌^◌, ◌<◌, ◌≤◌, Bool, true, vec_len, slice_index, slice_get};
+ghost use Rattle.std.specs.VecDeque.{deque_len, deque_capacity};
+ghost use Rattle.frame_words.specs.Geometry.{most_children};
+ghost use Rattle.frame_core.specs.Steps.Amounts.{put_in};
+ghost use Rattle.frame_core.specs.Block.{block};
+ghost use Rattle.frame_core.specs.Words.{run, word_count};
+ghost use Rattle.frame_core.specs.Moves.{place_of, IsPlace, OfRun};
+ghost use Rattle.frame_core.specs.Plain.{plain_key};
+
+use super::PlainMoves;
+use super::amounts::{amount_in, amount_of, tree_in, with_less, with_more};
+use super::blocks::leave;
+use crate::block::{FrameBlock, HeldBlock, PlainBlock};
+use crate::layout::{bits_place, entry_place, local_place, tree_place};
+use crate::moves::Moves;
+use crate::place::Place;
+use frame_words::{
+    Geometry, entry, entry_free, lane, local, local_of, tree as tree_word, tree_free,
+    tree_reserved, with_lane,
+};
+use std::collections::VecDeque;
+
+const HUGE_ORDER: u8 = 9;
+
+const CHILD_FRAMES: u32 = 512;
+
+const TREE_CHILDREN: u32 = 8;
+
+const FLAG: u64 = 32768;
+
+// The number of the word in a table of these sizes.
+#[tactic(auto, unfolding(crate::specs::Words::entry_place, crate::specs::Words::tree_place, crate::specs::Words::local_place, crate::specs::Words::bits_place, crate::specs::Words::word_count))]
+fn number_of(geometry: Geometry, place: Place) -> usize
+    requires { IsPlace (plain_key geometry true) place }
+    ensures number { (sealed : Bool) → result ≡ place_of (plain_key geometry sealed) place }
+    ensures inside { (sealed : Bool) → result < word_count (plain_key geometry sealed) }
+{
+    match place {
+        Place::Entry(child) => entry_place(child),
+        Place::Bits(word) => bits_place(geometry, word),
+        Place::Tree(tree) => tree_place(geometry, tree),
+        Place::Local(core) => local_place(geometry, core),
+    }
+}
+
+// The word as it stands.
+fn plain_word(words: &Vec<u64>, geometry: Geometry, place: Place) -> u64
+    requires place { IsPlace (plain_key geometry true) place }
+    requires length { vec_len words.now ≡ word_count (plain_key geometry true) }
+    ensures value { (sealed : Bool) → slice_index words.now.items (place_of (plain_key geometry sealed) place)
+        ≡ result }
+    ensures found { (sealed : Bool) → slice_get words.now.items (place_of (plain_key geometry sealed) place)
+        ≡ Some result }
+{
+    words[number_of(geometry, place)]
+}
+
+fn huge_block(child: u32) -> FrameBlock
+    requires { child < most_children }
+    ensures { result ≡ block (512 * child) 9 }
+{
+    FrameBlock {
+        frame: CHILD_FRAMES * child,
+        order: HUGE_ORDER,
+    }
+}
+
+// The first bit and the order of the run with these bits.
+fn run_of(mask: u64) -> (u32, u8)
+    requires { (from : ℕ) × ((order : ℕ) × ((mask ≡ run from (2 ^ order)) × (from + 2 ^ order ≤ 64))) }
+    ensures { OfRun mask (λ from order. (result.0 ≡ from) × (result.1 ≡ order)) }
+{
+    (
+        mask.trailing_zeros(),
+        mask.count_ones().trailing_zeros() as u8,
+    )
+}
+
+// The word is among those of the list, each of which it has once.
+fn add_word(list: &mut VecDeque<u32>, word: u32)
+    requires { deque_len list.old < deque_capacity list.old }
+    ensures items { list.new.items ≡ put_in word list.old.items }
+    ensures room { deque_capacity list.new ≡ deque_capacity list.old }
+{
+    if list.contains(&word) {
+        return;
+    }
+    list.push_front_reserved(word);
+}
+
+impl Moves for PlainMoves {
+    ghost use Rattle.std.specs.Prelude.{Some, false, slice_get, refl};
+    ghost use Rattle.frame_core.specs.Plain.{
+      plain_key,
+      plain_view,
+      plain_tick,
+      IsOutIn,
+      plain_fits,
+      plain_outs,
+      plain_tick_most,
+      plain_tick_up,
+    };
+
+    type Held = PlainBlock;
+
+    ghost Tie = { Unit {0} };
+
+    ghost tie = { λ _. tt };
+
+    ghost key = { λ m. plain_key m.geometry m.sealed };
+
+    ghost view = { λ m. plain_view (plain_key m.geometry m.sealed) m.outs.items m.paid m.charged m.reserving
+        m.own.items m.filled.items m.moves };
+
+    ghost read = { λ m i. slice_get m.words.items i };
+
+    ghost words = { λ m. Some m.words.items };
+
+    ghost undisturbed = { λ _. Unit {0} };
+
+    ghost alone = { λ _. Unit {0} };
+
+    ghost loses_at_will = { λ _. ⊥ };
+
+    ghost has_missed = { λ _. false };
+
+    ghost is_out = { λ m b. IsOutIn m.outs.items b };
+
+    ghost tick = { plain_tick };
+
+    ghost fits = { λ m ws e. plain_fits _ _ _ _ ws refl m.agrees e };
+
+    ghost outs_are_blocks = { λ m b o. plain_outs _ _ _ _ b m.agrees o };
+
+    ghost stays_alone = { λ _ _. tt };
+
+    ghost counts_at_most = { plain_tick_most };
+
+    ghost counts_up = { plain_tick_up };
+
+    fn geometry(&self) -> Geometry {
+        self.geometry
+    }
+
+    fn missed(&self) -> bool {
+        false
+    }
+
+    fn clear_missed(&mut self) {}
+
+    fn load(&mut self, place: Place) -> u64 {
+        self.moves = self.moves.saturating_add(1);
+        plain_word(&self.words, self.geometry, place)
+    }
+
+    fn charge(&mut self, child: u32, seen: u64, n: u32) -> bool {
+        let left = entry(entry_free(lane(seen, child)) - n, false);
+        self.charged = with_more(self.charged, child, n);
+        self.words[number_of(self.geometry, Place::Entry(child))] = with_lane(seen, child, left);
+        self.moves = self.moves.saturating_add(1);
+        true
+    }
+
+    fn refund(&mut self, child: u32, n: u32) {
+        let found = plain_word(&self.words, self.geometry, Place::Entry(child));
+        let left = lane(found, child) + u64::from(n);
+        self.charged = with_less(self.charged, child, n);
+        self.words[number_of(self.geometry, Place::Entry(child))] = with_lane(found, child, left);
+        self.moves = self.moves.saturating_add(1);
+    }
+
+    fn claim(&mut self, word: u32, seen: u64, mask: u64) -> bool {
+        let (bit, order) = run_of(mask);
+        self.charged = with_less(self.charged, word / 8, 1 << order);
+        self.paid = with_less(self.paid, word / 64, 1 << order);
+        self.own.push_front_reserved(FrameBlock {
+            frame: 64 * word + bit,
+            order,
+        });
+        self.words[number_of(self.geometry, Place::Bits(word))] = seen | mask;
+        self.moves = self.moves.saturating_add(1);
+        true
+    }
+
+    fn release(&mut self, word: u32, mask: u64) {
+        let found = plain_word(&self.words, self.geometry, Place::Bits(word));
+        let (bit, order) = run_of(mask);
+        self.charged = with_more(self.charged, word / 8, 1 << order);
+        self.paid = with_more(self.paid, word / 64, 1 << order);
+        leave(
+            &mut self.own,
+            FrameBlock {
+                frame: 64 * word + bit,
+                order,
+            },
+        );
+        self.words[number_of(self.geometry, Place::Bits(word))] = found & !mask;
+        self.moves = self.moves.saturating_add(1);
+    }
+
+    fn take_huge(&mut self, child: u32, seen: u64) -> bool {
+        let left = entry(0, true);
+        self.paid = with_less(self.paid, child / TREE_CHILDREN, CHILD_FRAMES);
+        self.own.push_front_reserved(huge_block(child));
+        self.words[number_of(self.geometry, Place::Entry(child))] = with_lane(seen, child, left);
+        self.moves = self.moves.saturating_add(1);
+        true
+    }
+
+    fn give_huge(&mut self, child: u32) {
+        let found = plain_word(&self.words, self.geometry, Place::Entry(child));
+        let left = lane(found, child) - (FLAG - u64::from(CHILD_FRAMES));
+        self.paid = with_more(self.paid, child / TREE_CHILDREN, CHILD_FRAMES);
+        leave(&mut self.own, huge_block(child));
+        self.words[number_of(self.geometry, Place::Entry(child))] = with_lane(found, child, left);
+        self.moves = self.moves.saturating_add(1);
+    }
+
+    fn hand_out(&mut self, frame: u32, order: u8) -> PlainBlock {
+        leave(&mut self.own, FrameBlock { frame, order });
+        self.outs[frame as usize] = order + 1;
+        self.moves = self.moves.saturating_add(1);
+        PlainBlock::of(frame, order)
+    }
+
+    fn hand_in(&mut self, held: PlainBlock) {
+        let frame = held.frame();
+        let order = held.order();
+        self.own.push_front_reserved(FrameBlock { frame, order });
+        self.outs[frame as usize] = 0;
+        self.moves = self.moves.saturating_add(1);
+    }
+
+    fn tree_pay(&mut self, tree: u32, seen: u64, n: u32) -> bool {
+        let left = tree_word(tree_free(seen) - n, tree_reserved(seen));
+        self.paid = with_more(self.paid, tree, n);
+        self.words[number_of(self.geometry, Place::Tree(tree))] = left;
+        self.moves = self.moves.saturating_add(1);
+        true
+    }
+
+    fn tree_refund(&mut self, tree: u32, n: u32) {
+        let found = plain_word(&self.words, self.geometry, Place::Tree(tree));
+        self.paid = with_less(self.paid, tree, n);
+        self.words[number_of(self.geometry, Place::Tree(tree))] = found + u64::from(n);
+        self.moves = self.moves.saturating_add(1);
+    }
+
+    fn reserve(&mut self, tree: u32, seen: u64) -> bool {
+        let left = tree_word(0, true);
+        self.paid = amount_of(tree, tree_free(seen));
+        self.reserving = Some(tree);
+        self.words[number_of(self.geometry, Place::Tree(tree))] = left;
+        self.moves = self.moves.saturating_add(1);
+        true
+    }
+
+    fn swap_local(&mut self, core: u32, put: Option<(u32, u32)>) -> Option<(u32, u32)> {
+        let found = local_of(plain_word(&self.words, self.geometry, Place::Local(core)));
+        self.paid = amount_in(found);
+        self.reserving = tree_in(found);
+        self.words[number_of(self.geometry, Place::Local(core))] = local(put);
+        self.moves = self.moves.saturating_add(1);
+        found
+    }
+
+    fn unreserve(&mut self, tree: u32, n: u32) {
+        let found = plain_word(&self.words, self.geometry, Place::Tree(tree));
+        self.paid = with_less(self.paid, tree, n);
+        self.reserving = None;
+        self.words[number_of(self.geometry, Place::Tree(tree))] = found - (FLAG - u64::from(n));
+        self.moves = self.moves.saturating_add(1);
+    }
+
+    fn local_pay(&mut self, core: u32, seen: u64, n: u32) -> bool {
+        let (tree, resting) = local_of(seen).unwrap();
+        let left = local(Some((tree, resting - n)));
+        self.paid = with_more(self.paid, tree, n);
+        self.words[number_of(self.geometry, Place::Local(core))] = left;
+        self.moves = self.moves.saturating_add(1);
+        true
+    }
+
+    fn local_refund(&mut self, core: u32, seen: u64, n: u32) -> bool {
+        let (tree, resting) = local_of(seen).unwrap();
+        let left = local(Some((tree, resting + n)));
+        self.paid = with_less(self.paid, tree, n);
+        self.words[number_of(self.geometry, Place::Local(core))] = left;
+        self.moves = self.moves.saturating_add(1);
+        true
+    }
+
+    fn collect(&mut self, tree: u32, seen: u64) -> bool {
+        let left = tree_word(0, tree_reserved(seen));
+        self.paid = with_more(self.paid, tree, tree_free(seen));
+        self.words[number_of(self.geometry, Place::Tree(tree))] = left;
+        self.moves = self.moves.saturating_add(1);
+        true
+    }
+
+    fn fill_word(&mut self, word: u32) {
+        add_word(&mut self.filled, word);
+        self.words[number_of(self.geometry, Place::Bits(word))] = u64::MAX;
+        self.moves = self.moves.saturating_add(1);
+    }
+
+    fn drop_flag(&mut self, child: u32) {
+        let found = plain_word(&self.words, self.geometry, Place::Entry(child));
+        let entry = lane(found, child);
+        let left = entry - FLAG;
+        let frame = CHILD_FRAMES * child;
+        let order = HUGE_ORDER - 1;
+        leave(&mut self.own, huge_block(child));
+        self.own.push_front_reserved(FrameBlock {
+            frame: frame + CHILD_FRAMES / 2,
+            order,
+        });
+        self.own.push_front_reserved(FrameBlock { frame, order });
+        self.filled.clear();
+        self.words[number_of(self.geometry, Place::Entry(child))] = with_lane(found, child, left);
+        self.moves = self.moves.saturating_add(1);
+    }
+}
