@@ -1,0 +1,70 @@
+-- What every kind of step leaves of its seat, and that its word is one of the table's.
+use Rattle.std.proofs.Common.{◌≡◌, ℕ, ◌*◌, ◌<◌, refl, arith}
+use Rattle.frame_core.specs.declared.key.Key.{Key}
+use Rattle.frame_core.specs.declared.view.View.{View}
+use Rattle.frame_core.specs.Words.{word_count, bits_place}
+use Rattle.frame_core.specs.Steps.{Kind, charge, refund, claim, release, take_huge, give_huge, tree_pay, tree_refund, reserve, swap_local, unreserve, local_pay, local_refund, collect, fill_word, drop_flag, place, May, effect}
+use Rattle.frame_core.proofs.ImageLemmas.{entry_place-lt, tree_place-lt, local_place-lt}
+
+bits_place-lt : (key : Key) (w : ℕ) → w < 8 * key.children → bits_place key w < word_count key
+unfolding bits_place word_count
+bits_place-lt key w h = omega arith
+
+pub effect_about : (t : ℕ → ℕ) (kind : Kind) (found : ℕ) (v : View) → (effect t kind found v).about ≡ v.about
+effect_about t (charge c seen n) found v = refl
+effect_about t (refund c n) found v = refl
+effect_about t (claim w seen from o) found v = refl
+effect_about t (release w from o rest) found v = refl
+effect_about t (take_huge c seen) found v = refl
+effect_about t (give_huge c rest) found v = refl
+effect_about t (tree_pay u seen n) found v = refl
+effect_about t (tree_refund u n) found v = refl
+effect_about t (reserve u seen) found v = refl
+effect_about t (swap_local k put) found v = refl
+effect_about t (unreserve u n) found v = refl
+effect_about t (local_pay k seen n) found v = refl
+effect_about t (local_refund k seen n) found v = refl
+effect_about t (collect u seen) found v = refl
+effect_about t (fill_word w) found v = refl
+effect_about t (drop_flag c rest) found v = refl
+
+pub effect_share : (t : ℕ → ℕ) (kind : Kind) (found : ℕ) (v : View) → (effect t kind found v).share ≡ v.share
+effect_share t (charge c seen n) found v = refl
+effect_share t (refund c n) found v = refl
+effect_share t (claim w seen from o) found v = refl
+effect_share t (release w from o rest) found v = refl
+effect_share t (take_huge c seen) found v = refl
+effect_share t (give_huge c rest) found v = refl
+effect_share t (tree_pay u seen n) found v = refl
+effect_share t (tree_refund u n) found v = refl
+effect_share t (reserve u seen) found v = refl
+effect_share t (swap_local k put) found v = refl
+effect_share t (unreserve u n) found v = refl
+effect_share t (local_pay k seen n) found v = refl
+effect_share t (local_refund k seen n) found v = refl
+effect_share t (collect u seen) found v = refl
+effect_share t (fill_word w) found v = refl
+effect_share t (drop_flag c rest) found v = refl
+
+pub place_inside : (key : Key) (kind : Kind) (v : View) → May key kind v → place key kind < word_count key
+place_inside key (charge c seen n) v may = entry_place-lt key c may.inside
+place_inside key (refund c n) v may = entry_place-lt key c may.inside
+place_inside key (claim w seen from o) v may = bits_place-lt key w may.is_run.inside
+place_inside key (release w from o rest) v may = bits_place-lt key w may.is_run.inside
+place_inside key (take_huge c seen) v may = entry_place-lt key c may.inside
+place_inside key (give_huge c rest) v may = entry_place-lt key c may.inside
+place_inside key (tree_pay u seen n) v may = tree_place-lt key u may.inside
+place_inside key (tree_refund u n) v may = tree_place-lt key u may.inside
+place_inside key (reserve u seen) v may = tree_place-lt key u may.inside
+place_inside key (swap_local k put) v may = local_place-lt key k may.inside
+place_inside key (unreserve u n) v may = tree_place-lt key u may.inside
+place_inside key (local_pay k seen n) v may = local_place-lt key k may.inside
+place_inside key (local_refund k seen n) v may = local_place-lt key k may.inside
+place_inside key (collect u seen) v may = tree_place-lt key u may.inside
+place_inside key (fill_word w) v may = bits_place-lt key w may.inside
+place_inside key (drop_flag c rest) v may = entry_place-lt key c may.inside
+
+-- the table has words
+pub some_words : (key : Key) → 0 < word_count key
+unfolding word_count
+some_words key = omega arith

@@ -1,0 +1,10 @@
+pub mod Laid
+pub mod Effects
+pub mod Lifting
+pub mod Becoming
+pub mod Numbers
+pub mod RunEnds
+pub mod Handing
+pub mod Dealing
+pub mod Gathering
+pub mod Imaged

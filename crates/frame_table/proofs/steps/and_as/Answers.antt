@@ -1,0 +1,45 @@
+use Rattle.std.proofs.Common.{ℕ, bit_and, None, arith, ◌∙◌, ap, sym, subst}
+use Rattle.atomic_table.specs.Table.{Allows, step}
+use Rattle.frame_core.specs.declared.view.View.{View}
+use Rattle.frame_core.specs.Steps.{effect, next}
+use Rattle.frame_core.specs.Events.{last_seen}
+use Rattle.frame_core.specs.Moves.{ReadsBut}
+use Rattle.frame_table.specs.Rule.{Holds, Changes}
+use Rattle.frame_table.specs.Seats.{key_at, id_of, view_of, reads_of}
+use Rattle.frame_table.proofs.Effects.{effect_share, place_inside}
+use Rattle.frame_table.proofs.Lifting.{change_allows}
+use Rattle.frame_table.proofs.Becoming.{Stepped, changed}
+use Rattle.frame_table.proofs.steps.and_as.Given as given
+use Rattle.frame_table.proofs.steps.and_as.Goals as goal
+
+pub fetch_and-requires : goal.fetch_and-requires
+fetch_and-requires g c =
+    let t = c.args.table.now in
+    let seat = c.args.seat.now.seat in
+    let sits = c.requires.seat.at in
+    let kind = g.P.Stepping.kind in
+    let slots = t.grid.shared.table_id.slots in
+    let turn : ℕ → ℕ = λ old. bit_and old c.args.mask in
+    let inside = place_inside (key_at t) kind (view_of c.args.seat.now) c.requires.may in
+    let At : ℕ → Type 0 = λ i. Allows (Holds t.grid.shared.key) slots seat.id seat.me i turn (Changes kind (step slots i c.args.mask 0 mathlib.Core.Option.none) seat.me) in (
+      sits.table,
+      omega (arith, t.words, c.requires.word, inside),
+      subst At (sym c.requires.word)
+          (change_allows t.grid.shared.key slots seat.id seat.me sits.bare sits.about kind (omega (arith, c.requires.seat.one)) c.requires.may c.args.mask turn c.requires.always c.requires.left),
+    )
+
+after : (g : given.Over) (c : goal.After-fetch_and g)
+    → Stepped (id_of c.args.table.now) (key_at c.args.table.now) c.fetch_and.new.seat.table_id c.args.seat.now.seat.me c.fetch_and.new.seat.me c.args.word None (effect next g.P.Stepping.kind c.fetch_and.result (view_of c.args.seat.now))
+after g c =
+    let t = c.args.table.now in
+    let seat = c.args.seat.now.seat in
+    changed (id_of t) (key_at t) seat.table_id c.fetch_and.new.seat.table_id seat.me c.fetch_and.new.seat.me c.requires.seat.at c.fetch_and.ensures.0 c.args.word g.P.Stepping.kind t.grid.shared.table_id.slots c.args.mask c.fetch_and.result c.fetch_and.ensures.2
+
+pub returns-clause-seat : goal.returns-clause-seat
+returns-clause-seat g c = record {
+  at = (after g c).sits;
+  one = ap (λ (v : View). v.share) (after g c).view ∙ (effect_share next g.P.Stepping.kind c.fetch_and.result (view_of c.args.seat.now) ∙ c.requires.seat.one);
+}
+
+pub returns-clause-read : goal.returns-clause-read
+returns-clause-read g c = subst (λ i. ReadsBut i (reads_of c.args.seat.now) (last_seen c.fetch_and.new.seat.me.0.read)) c.requires.word (after g c).others

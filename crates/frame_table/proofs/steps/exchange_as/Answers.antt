@@ -1,0 +1,63 @@
+use Rattle.std.proofs.Common.{◌≡◌, ℕ, Bool, true, false, eqb, Some, None, arith, ◌∙◌, ap, sym, subst, refl, eq-eqb}
+use Rattle.std.specs.Prelude.{MatchBool}
+use Rattle.atomic_table.specs.Table.{Allows, step}
+use Rattle.frame_core.specs.declared.view.View.{View}
+use Rattle.frame_core.specs.Steps.{effect, after_loss, next}
+use Rattle.frame_core.specs.Events.{last_seen}
+use Rattle.frame_core.specs.Moves.{ReadsBut}
+use Rattle.frame_table.specs.Rule.{Holds, Exchanges}
+use Rattle.frame_table.specs.Seats.{key_at, id_of, view_of, reads_of}
+use Rattle.frame_table.proofs.Effects.{effect_share, place_inside}
+use Rattle.frame_table.proofs.Lifting.{exchange_allows}
+use Rattle.frame_table.proofs.Becoming.{Stepped, exchanged}
+use Rattle.frame_table.proofs.steps.exchange_as.Given as given
+use Rattle.frame_table.proofs.steps.exchange_as.Goals as goal
+
+pub compare_exchange-found-requires : goal.compare_exchange-found-requires
+compare_exchange-found-requires g c =
+    let t = c.args.table.now in
+    let seat = c.args.seat.now.seat in
+    let sits = c.requires.seat.at in
+    let kind = g.P.Stepping.kind in
+    let slots = t.grid.shared.table_id.slots in
+    let inside = place_inside (key_at t) kind (view_of c.args.seat.now) c.requires.may in
+    let At : ℕ → Type 0 = λ i. Allows (Holds t.grid.shared.key) slots seat.id seat.me i (λ n. prog.Atomic.either (eqb n c.args.seen) c.args.left n) (Exchanges kind (step slots i c.args.seen c.args.left mathlib.Core.Option.none) seat.me) in (
+      sits.table,
+      omega (arith, t.words, c.requires.word, inside),
+      subst At (sym c.requires.word)
+          (exchange_allows t.grid.shared.key slots seat.id seat.me sits.bare sits.about kind (omega (arith, c.requires.seat.one)) c.requires.may c.args.seen c.args.left c.requires.seen c.requires.left),
+    )
+
+abbrev After : (g : given.Over) (c : goal.After-compare_exchange-found g) → Bool → Type 0
+After g c won = MatchBool won
+    (Stepped (id_of c.args.table.now) (key_at c.args.table.now) c.compare_exchange-found.new.seat.table_id c.args.seat.now.seat.me c.compare_exchange-found.new.seat.me c.args.word None (effect next g.P.Stepping.kind c.args.seen (view_of c.args.seat.now)))
+    (Stepped (id_of c.args.table.now) (key_at c.args.table.now) c.compare_exchange-found.new.seat.table_id c.args.seat.now.seat.me c.compare_exchange-found.new.seat.me c.args.word (Some c.compare_exchange-found.result) (after_loss next (view_of c.args.seat.now)))
+
+after : (g : given.Over) (c : goal.After-compare_exchange-found g) (won : Bool) → eqb c.compare_exchange-found.result c.args.seen ≡ won → After g c won
+after g c won is =
+    let t = c.args.table.now in
+    let seat = c.args.seat.now.seat in
+    exchanged (id_of t) (key_at t) seat.table_id c.compare_exchange-found.new.seat.table_id seat.me c.compare_exchange-found.new.seat.me c.requires.seat.at c.compare_exchange-found.ensures.0 c.args.word g.P.Stepping.kind t.grid.shared.table_id.slots c.args.seen c.args.left c.compare_exchange-found.result won is c.compare_exchange-found.ensures.2
+
+pub returns-clause-seat : goal.returns-clause-seat
+returns-clause-seat g c = by (eqb c.compare_exchange-found.result c.args.seen) (after g c (eqb c.compare_exchange-found.result c.args.seen) refl)
+  where
+    by : (won : Bool) → After g c won → Rattle.frame_table.specs.Seats.Sits c.args.table.now (record { seat = c.compare_exchange-found.new.seat })
+    by true a = record { at = a.sits; one = ap (λ (v : View). v.share) a.view ∙ (effect_share next g.P.Stepping.kind c.args.seen (view_of c.args.seat.now) ∙ c.requires.seat.one) }
+    by false a = record { at = a.sits; one = ap (λ (v : View). v.share) a.view ∙ c.requires.seat.one }
+
+pub returns-clause-lost : goal.returns-clause-lost
+returns-clause-lost g c is here =
+    let found : ℕ = c.compare_exchange-found.result in
+    let a = after g c false is in
+    let read : Some found ≡ Some c.args.seen = sym a.here ∙ (ap (last_seen c.compare_exchange-found.new.seat.me.0.read) c.requires.word ∙ here) in
+    let same : found ≡ c.args.seen = (cc) in
+    let won : eqb found c.args.seen ≡ true = eq-eqb found c.args.seen same in
+    absurd (cc)
+
+pub returns-clause-read : goal.returns-clause-read
+returns-clause-read g c = subst (λ i. ReadsBut i (reads_of c.args.seat.now) (last_seen c.compare_exchange-found.new.seat.me.0.read)) c.requires.word (by (eqb c.compare_exchange-found.result c.args.seen) (after g c (eqb c.compare_exchange-found.result c.args.seen) refl))
+  where
+    by : (won : Bool) → After g c won → ReadsBut c.args.word (reads_of c.args.seat.now) (last_seen c.compare_exchange-found.new.seat.me.0.read)
+    by true a = a.others
+    by false a = a.others

@@ -1,0 +1,5 @@
+pub mod Rule
+pub mod Seats
+pub mod Ties
+pub mod Openings
+pub mod Closing

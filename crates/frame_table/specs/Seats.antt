@@ -1,0 +1,70 @@
+-- What clauses say of seats.
+use Rattle.std.specs.Prelude.{◌≡◌, ℕ, ◌<◌, ◌≤◌, List, [], Option, Some}
+use Rattle.atomic_table.specs.Table.{Me}
+use Rattle.atomic_table.specs.Seated.{TableId}
+use Rattle.frame_core.specs.declared.key.Key.{Key}
+use Rattle.frame_core.specs.declared.view.Eye.{Eye}
+use Rattle.frame_core.specs.declared.view.Sighting.{Sighting}
+use Rattle.frame_core.specs.declared.view.View.{View}
+use Rattle.frame_core.specs.Block.{block, IsBlock}
+use Rattle.frame_core.specs.declared.block.FrameBlock.{FrameBlock}
+use Rattle.frame_core.specs.Seats.{Cut, recall}
+use Rattle.frame_core.specs.Without.{less_one}
+use Rattle.frame_core.specs.Events.{last_seen}
+use Rattle.frame_core.specs.Key.{tree_count}
+use Rattle.frame_core.specs.Words.{entry_place, tree_place, local_place}
+use Rattle.frame_words.specs.Words.{free_in, flag_in, lane_in, rest_in}
+use Rattle.frame_table.specs.Rule.{key_from}
+use Rattle.frame_table.specs.declared.block.Block.{Block}
+use Rattle.frame_table.specs.declared.seats.CoreSeat.{CoreSeat}
+use Rattle.frame_table.specs.declared.table.FrameTable.{FrameTable}
+
+-- the key of the table's memory
+abbrev pub key_at : FrameTable → Key
+key_at t = key_from t.grid.shared.key
+
+-- which table it is
+abbrev pub id_of : FrameTable → TableId
+id_of t = t.grid.shared.table_id
+
+-- what the seat has in flight
+abbrev pub view_of : CoreSeat → View
+view_of s = s.seat.me.0.view
+
+-- what the seat has read of each word
+abbrev pub reads_of : CoreSeat → ℕ → Option ℕ
+reads_of s = last_seen s.seat.me.0.read
+
+-- what was read of a word counts no more than its place can have
+pub record AreLaid (key : Key) (read : List Sighting) : Type 0 where
+  pub entries : (c seen : ℕ) → c < key.children → last_seen read (entry_place c) ≡ Some seen
+      → (free_in (lane_in seen c) ≤ 512) × (flag_in (lane_in seen c) ≤ 1)
+  pub trees : (t seen : ℕ) → t < tree_count key → last_seen read (tree_place key t) ≡ Some seen
+      → (free_in seen ≤ 4096) × (flag_in seen ≤ 1)
+  pub locals : (k seen tree resting : ℕ) → k < key.cores → last_seen read (local_place key k) ≡ Some seen
+      → rest_in seen ≡ Some (tree, resting) → (tree < tree_count key) × (resting ≤ 4096)
+
+-- a seat of a table, with this view and these readings
+pub record IsSeat (id : TableId) (key : Key) (seat : TableId) (me : Me (Unit {0}) Eye) : Type 0 where
+  pub table : seat ≡ id
+  pub bare : me.1 ≡ []
+  pub about : me.0.view.about ≡ Some key
+  pub laid : AreLaid key me.0.read
+
+-- the seat of a core at this table
+pub record Sits (t : FrameTable) (s : CoreSeat) : Type 0 where
+  pub at : IsSeat (id_of t) (key_at t) s.seat.table_id s.seat.me
+  pub one : (view_of s).share ≡ 1
+
+-- the frames of a block that was handed out
+abbrev pub block_in : Block → FrameBlock
+block_in b = block b.frame b.order
+
+-- a kept block is handed out again
+abbrev pub recall_block : FrameBlock → Cut
+recall_block b = recall b (less_one b)
+
+-- the block was handed out at this table, and is one of its memory
+pub record IsOut (t : FrameTable) (b : Block) : Type 0 where
+  pub table : b.seat.table_id ≡ id_of t
+  pub is_block : IsBlock (key_at t) (block b.frame b.order)

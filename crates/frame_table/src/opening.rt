@@ -1,0 +1,191 @@
+//! Opening a table, and what was held before.
+
+ghost use Rattle.std.specs.Prelude.{◌≡◌, ◌+◌, ◌-◌, ◌*◌, ◌^◌, ◌<◌, ◌≤◌, [], ◌∷◌, ℕ, Some, true, IfOk, IfErr, vec_len, vec_capacity};
+ghost use Rattle.std.specs.List.{All};
+ghost use Rattle.frame_words.specs.Geometry.{child_frames};
+ghost use Rattle.frame_core.specs.Block.{block, IsBlock};
+ghost use Rattle.frame_core.specs.Key.{key_of};
+ghost use Rattle.frame_core.specs.View.{idle, ground_with};
+ghost use Rattle.frame_core.specs.Fit.{Fit};
+ghost use Rattle.frame_core.specs.Steps.{next};
+ghost use Rattle.frame_core.specs.Seats.{left_by, part_share, part_ground};
+ghost use Rattle.frame_core.specs.Rebuilt.{IsRebuilt};
+ghost use Rattle.frame_core.specs.Openings.{held_blocks, IsSealedOpening};
+ghost use Rattle.frame_core.specs.Without.{HasFrames};
+ghost use Rattle.frame_table.specs.Rule.{key_from, first_view};
+ghost use Rattle.frame_table.specs.Seats.{key_at, id_of, view_of, block_in, Sits, IsSeat, IsOut};
+ghost use Rattle.frame_table.specs.Openings.{unsealed_key, sealed_key, moved, IsNew, ground_view, IsGround, adopt_block};
+
+use crate::block::Block;
+use crate::rule::Origin;
+use crate::seats::CoreSeat;
+use crate::steps::cut_seat;
+use crate::table::FrameTable;
+use atomic_table::{Seat, Table};
+use frame_core::{Eye, FrameBlock, Image};
+use frame_words::{Fault, Geometry};
+use std::alloc::Global;
+use std::marker::Brand;
+use std::snapshot::Snapshot;
+
+/// What was held before the opening. It has no bytes.
+#[derive(Drop)]
+pub struct GroundSeat {
+    pub(crate) seat: Seat<(), Eye>,
+}
+
+impl GroundSeat {
+    /// Parts off a block that was held before the opening.
+    pub fn part(&mut self, table: &FrameTable, frame: u32, order: u8) -> Block
+        requires seat { IsGround table.now self.old }
+        requires block { IsBlock (key_at table.now) (block frame order) }
+        requires exists { frame + 2 ^ order ≤ (key_at table.now).frames }
+        requires held { HasFrames (ground_view self.old).own (block frame order) }
+        ensures seat { IsGround table.now self.new }
+        ensures view { ground_view self.new
+            ≡ left_by next (adopt_block (block frame order)) (ground_view self.old) }
+        ensures block { (block_in result ≡ block frame order) × IsOut table.now result }
+    {
+        let seat = cut_seat::<Brand>(table, &mut self.seat, FrameBlock { frame, order });
+        Block::of(frame, order, seat)
+    }
+}
+
+/// Opens a table at the words of an image that equals its own rebuilding: one idle seat for each
+/// core, in order, and what the image holds. Refused only for want of memory.
+pub fn open_table_at(
+    alloc: Global,
+    image: &Image,
+) -> Result<(FrameTable, Vec<CoreSeat>, GroundSeat), Fault>
+    requires { IsRebuilt (unsealed_key image.now.geometry) image.now.words image.now.words }
+    ensures table { IfOk result (λ r. key_at r.0 ≡ unsealed_key image.now.geometry) }
+    ensures count { IfOk result (λ r. vec_len r.1 ≡ image.now.geometry.cores) }
+    ensures seats { IfOk result (λ r. All (IsNew r.0) r.1.items) }
+    ensures ground_seat { IfOk result (λ r. IsGround r.0 r.2) }
+    ensures held { IfOk result (λ r. ground_view r.2
+        ≡ ground_with (unsealed_key image.now.geometry)
+        (held_blocks (unsealed_key image.now.geometry) image.now.words)) }
+    ensures err { IfErr result (λ e. e ≡ Fault.NoMemory) }
+{
+    let none = Vec::new(alloc);
+    let origin = Origin {
+        image: Snapshot::of(image),
+        ranges: Snapshot::of(&none),
+        sealed: false,
+    };
+    let cores = image.geometry().cores() as usize;
+    let Ok(seats) = Vec::with_capacity(alloc, cores) else {
+        return Err(Fault::NoMemory);
+    };
+    let (table, mut seat) = open_words(alloc, image, origin)?;
+    let held = part_ground_off(&table, &mut seat);
+    let seats = deal(&table, seat, seats);
+    Ok((table, seats, held))
+}
+
+/// Opens a table at the words of an image that holds just the frames past the end and those of
+/// the ranges, which are never given out: one idle seat for each core, in order. Refused only for
+/// want of memory.
+pub fn open_sealed(
+    alloc: Global,
+    image: &Image,
+    ranges: &[(u32, u32)],
+) -> Result<(FrameTable, Vec<CoreSeat>), Fault>
+    requires { IsSealedOpening (sealed_key image.now.geometry ranges.now) image.now.words }
+    ensures table { IfOk result (λ r. key_at r.0 ≡ sealed_key image.now.geometry ranges.now) }
+    ensures count { IfOk result (λ r. vec_len r.1 ≡ image.now.geometry.cores) }
+    ensures seats { IfOk result (λ r. All (IsNew r.0) r.1.items) }
+    ensures err { IfErr result (λ e. e ≡ Fault.NoMemory) }
+{
+    let Ok(kept_back) = Vec::from_slice(alloc, ranges) else {
+        return Err(Fault::NoMemory);
+    };
+    let origin = Origin {
+        image: Snapshot::of(image),
+        ranges: Snapshot::of(&kept_back),
+        sealed: true,
+    };
+    let cores = image.geometry().cores() as usize;
+    let Ok(seats) = Vec::with_capacity(alloc, cores) else {
+        return Err(Fault::NoMemory);
+    };
+    let (table, seat) = open_words(alloc, image, origin)?;
+    let seats = deal(&table, seat, seats);
+    Ok((table, seats))
+}
+
+/// Opens a table of a memory of which no frame is held: one idle seat for each core, in order.
+/// Refused only for want of memory. A memory that ends inside a child cannot be opened so yet.
+pub fn open_table(alloc: Global, geometry: &Geometry) -> Result<(FrameTable, Vec<CoreSeat>), Fault>
+    requires whole { geometry.now.frames ≡ child_frames * geometry.now.children }
+    ensures table { IfOk result (λ r. key_at r.0 ≡ key_of geometry.now) }
+    ensures count { IfOk result (λ r. vec_len r.1 ≡ geometry.now.cores) }
+    ensures seats { IfOk result (λ r. All (IsNew r.0) r.1.items) }
+    ensures err { IfErr result (λ e. e ≡ Fault.NoMemory) }
+{
+    let image = Image::new(alloc, geometry)?;
+    open_sealed(alloc, &image, &[])
+}
+
+// The one seat of a table with the image's words.
+fn open_words(
+    alloc: Global,
+    image: &Image,
+    origin: Origin,
+) -> Result<(FrameTable, Seat<(), Eye>), Fault>
+    requires origin { origin.image.value ≡ image.now }
+    requires fits { Fit (key_from origin) (key_from origin).cores image.now.words
+        (first_view origin ∷ []) }
+    requires about { (first_view origin).about ≡ Some (key_from origin) }
+    ensures key { IfOk result (λ r. key_at r.0 ≡ key_from origin) }
+    ensures seat { IfOk result (λ r. IsSeat (id_of r.0) (key_at r.0) r.1.table_id r.1.me) }
+    ensures view { IfOk result (λ r. r.1.me.0.view ≡ first_view origin) }
+    ensures err { IfErr result (λ e. e ≡ Fault.NoMemory) }
+{
+    let Ok((grid, seat)) = Table::of_words(alloc, image.words(), &origin) else {
+        return Err(Fault::NoMemory);
+    };
+    Ok((FrameTable::of(grid, image.geometry()), seat))
+}
+
+// A seat for each core, from the one seat.
+fn deal(table: &FrameTable, mut seat: Seat<(), Eye>, mut seats: Vec<CoreSeat>) -> Vec<CoreSeat>
+    requires seat { IsSeat (id_of table.now) (key_at table.now) seat.table_id seat.me }
+    requires view { (first : ℕ) × ((first ≤ 1)
+        × (seat.me.0.view ≡ moved first (idle (key_at table.now) (key_at table.now).cores))) }
+    requires room { (seats.items ≡ []) × ((key_at table.now).cores ≤ vec_capacity seats) }
+    ensures count { vec_len result ≡ (key_at table.now).cores }
+    ensures new { All (IsNew table.now) result.items }
+{
+    for _core in 0..table.geometry.cores - 1 {
+        seats.push_reserved(part_share_off(table, &mut seat));
+    }
+    seats.push_reserved(CoreSeat { seat });
+    seats
+}
+
+fn part_share_off(table: &FrameTable, seat: &mut Seat<(), Eye>) -> CoreSeat
+    requires seat { IsSeat (id_of table.now) (key_at table.now) seat.old.table_id seat.old.me }
+    requires many { 1 < seat.old.me.0.view.share }
+    ensures seat { IsSeat (id_of table.now) (key_at table.now) seat.new.table_id seat.new.me }
+    ensures view { seat.new.me.0.view ≡ left_by next (part_share 1) seat.old.me.0.view }
+    ensures new { Sits table.now result × (view_of result ≡ idle (key_at table.now) 1) }
+{
+    let nothing = FrameBlock { frame: 0, order: 0 };
+    let seat = cut_seat::<Brand>(table, seat, nothing);
+    CoreSeat { seat }
+}
+
+fn part_ground_off(table: &FrameTable, seat: &mut Seat<(), Eye>) -> GroundSeat
+    requires seat { IsSeat (id_of table.now) (key_at table.now) seat.old.table_id seat.old.me }
+    requires share { 0 < seat.old.me.0.view.share }
+    requires holds { seat.old.me.0.view.is_ground ≡ true }
+    ensures seat { IsSeat (id_of table.now) (key_at table.now) seat.new.table_id seat.new.me }
+    ensures view { seat.new.me.0.view ≡ left_by next part_ground seat.old.me.0.view }
+    ensures held { IsGround table.now result
+        × (ground_view result ≡ ground_with (key_at table.now) seat.old.me.0.view.kept) }
+{
+    let nothing = FrameBlock { frame: 0, order: 0 };
+    let seat = cut_seat::<Brand>(table, seat, nothing);
+    GroundSeat { seat }
+}

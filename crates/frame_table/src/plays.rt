@@ -1,0 +1,98 @@
+//! What each atomic operation on the table tells of the seat that steps.
+
+use atomic_table::{Join, Play, Split};
+use frame_core::Eye;
+use std::marker::{Brand, PhantomData};
+
+/// Which kind of step on a word it is. Each call picks it.
+pub trait Stepping {
+    ghost use Rattle.frame_core.specs.Steps.{Kind};
+
+    ghost kind: { Kind };
+}
+
+impl Stepping for Brand {
+    ghost use Rattle.frame_core.specs.Steps.{refund};
+
+    ghost kind = { refund 0 0 };
+}
+
+/// How a seat is cut in two. Each call picks it.
+pub trait Cutting {
+    ghost use Rattle.frame_core.specs.Seats.{Cut};
+
+    ghost cut: { Cut };
+}
+
+impl Cutting for Brand {
+    ghost use Rattle.frame_core.specs.Seats.{part_share};
+
+    ghost cut = { part_share 0 };
+}
+
+/// How a seat takes in another. Each call picks it.
+pub trait Joining {
+    ghost use Rattle.frame_core.specs.Seats.{Join};
+
+    ghost join: { Join };
+}
+
+impl Joining for Brand {
+    ghost use Rattle.frame_core.specs.Seats.{join_idle};
+
+    ghost join = { join_idle };
+}
+
+pub struct Look;
+
+impl Play<(), Eye> for Look {
+    ghost use Rattle.frame_table.specs.Rule.{Looks};
+
+    ghost then = { Looks };
+}
+
+/// An exchange, which is made or lost.
+pub struct Exchange<P> {
+    of: PhantomData<P>,
+}
+
+impl<P: Stepping> Play<(), Eye> for Exchange<P> {
+    ghost use Rattle.frame_table.specs.Rule.{Exchanges};
+
+    ghost then = { Exchanges P.kind };
+}
+
+/// A step that is always made.
+pub struct Change<P> {
+    of: PhantomData<P>,
+}
+
+impl<P: Stepping> Play<(), Eye> for Change<P> {
+    ghost use Rattle.frame_table.specs.Rule.{Changes};
+
+    ghost then = { Changes P.kind };
+}
+
+pub struct CutIn<P> {
+    of: PhantomData<P>,
+}
+
+impl<P: Cutting> Split<Eye> for CutIn<P> {
+    ghost use Rattle.frame_table.specs.Rule.{left_eye, right_eye};
+
+    ghost left = { left_eye P.cut };
+
+    ghost right = { right_eye P.cut };
+}
+
+pub struct TakeIn<P> {
+    of: PhantomData<P>,
+}
+
+impl<P: Joining> Join<Eye> for TakeIn<P> {
+    ghost use Rattle.frame_table.specs.Rule.{both_eyes, nobody};
+
+    ghost both = { both_eyes P.join };
+
+    ghost spent = { nobody };
+}
