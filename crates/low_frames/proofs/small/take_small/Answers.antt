@@ -1,0 +1,34 @@
+use Rattle.std.proofs.Common.{◌∙◌, arith}
+use Rattle.low_frames.proofs.ViewLemmas.{charged_of, can_hand_out_claimed, can_refund, refunded, handed_out}
+use Rattle.low_frames.proofs.small.take_small.Goals as goal
+
+pub claim_in-requires-clause-charged : goal.claim_in-requires-clause-charged
+claim_in-requires-clause-charged g c =
+    let M = g.M.Moves in
+    omega (arith, charged_of c.args.child c.frames_of-n.result (M.view c.args.m.now) (M.view c.try_charge.new.m) c.if-not-try_charge.ensures.view c.requires.charged, c.frames_of-n.ensures)
+
+pub hand_out-requires : goal.hand_out-requires
+hand_out-requires g c =
+    let M = g.M.Moves in
+    let s = c.in-Some.ensures.some in
+    record {
+      may = can_hand_out_claimed (M.key c.claim_in.new.m) (M.key c.try_charge.new.m) c.args.child c.in-Some.frame c.args.order c.frames_of-n.result (M.view c.args.m.now) (M.view c.try_charge.new.m) (M.view c.claim_in.new.m) c.in-Some.ensures.tie.1 (omega (arith, c.requires.order)) c.requires.share
+          c.if-not-try_charge.ensures.view c.requires.own s.1 s.0.is_block;
+    }
+
+pub refund-requires-clause-may : goal.refund-requires-clause-may
+refund-requires-clause-may g c =
+    let M = g.M.Moves in
+    can_refund (M.key c.claim_in.new.m) (M.key c.args.m.now) c.args.child c.frames_of-n.result (M.view c.args.m.now) (M.view c.try_charge.new.m) (M.view c.claim_in.new.m) (c.in-None.ensures.tie.1 ∙ c.if-not-try_charge.ensures.tie.1) c.requires.child c.if-not-try_charge.ensures.view c.requires.charged
+    c.in-None.ensures.none
+
+pub returns-in-Some-clause-some : goal.returns-in-Some-clause-some
+returns-in-Some-clause-some g c =
+    let M = g.M.Moves in
+    handed_out M.tick (M.key c.try_charge.new.m) c.args.child c.in-Some.frame c.args.order c.frames_of-n.result (M.view c.args.m.now) (M.view c.try_charge.new.m) (M.view c.claim_in.new.m) (M.view c.hand_out.new.self) c.frames_of-n.ensures c.if-not-try_charge.ensures.view c.requires.charged c.requires.own
+    c.in-Some.ensures.some.1 c.in-Some.ensures.some.0.is_block c.hand_out.ensures.view
+
+pub returns-in-None-clause-none : goal.returns-in-None-clause-none
+returns-in-None-clause-none g c =
+    let M = g.M.Moves in
+    refunded M.tick c.args.child c.frames_of-n.result (M.view c.args.m.now) (M.view c.try_charge.new.m) (M.view c.claim_in.new.m) (M.view c.refund.new.self) c.if-not-try_charge.ensures.view c.requires.charged c.in-None.ensures.none c.refund.ensures.view

@@ -1,0 +1,19 @@
+use Rattle.std.proofs.Common.{◌≡◌, ◌+◌, ◌-◌, ◌*◌}
+use Rattle.low_frames.specs.Takes.{Counts}
+use Rattle.low_frames.specs.Words.{HoldsWords, HasClaimedWords, WasReadClear, ReadsOutside}
+use Rattle.low_frames.proofs.wide.claim_words.Given as goal
+
+abbrev pub invariant-loop-i : goal.invariant-loop-i
+invariant-loop-i g l =
+    let M = g.M.Moves in
+    record {
+      tie : M.tie l.m ≡ M.tie l.fn.m;
+      key : M.key l.m ≡ M.key l.fn.m;
+      view : HasClaimedWords l.child (64 * l.i) (M.view l.fn.m) (M.view l.m);
+      own : HoldsWords (M.key l.fn.m) (M.view l.m).own (8 * l.child + l.first) l.i;
+      seen : WasReadClear (M.key l.fn.m) (M.read l.m) (8 * l.child + l.first + l.i) (l.count - l.i);
+      read : ReadsOutside (M.key l.fn.m) (8 * l.child + l.first) l.count (M.read l.fn.m) (M.read l.m);
+      counts : Counts (7 * l.i) (M.has_missed l.fn.m) (M.view l.fn.m) (M.has_missed l.m) (M.view l.m);
+      alone : M.alone l.fn.m → M.alone l.m;
+      out : (b : g.row.M-Held.Denot) → M.is_out l.fn.m b → M.is_out l.m b;
+    }

@@ -1,0 +1,3 @@
+pub mod Takes
+pub mod Gives
+pub mod Words

@@ -1,0 +1,75 @@
+-- What a take leaves of the view of the one who takes.
+use Rattle.std.specs.Prelude.{◌≡◌, ℕ, pos, ◌+◌, ◌*◌, ◌/◌, ◌^◌, ◌+ℤ◌, ◌<◌, ◌≤◌, ◌∷◌, Bool, ◌||◌, nat_lt}
+use Rattle.frame_core.specs.declared.block.FrameBlock.{FrameBlock}
+use Rattle.frame_core.specs.declared.key.Key.{Key}
+use Rattle.frame_core.specs.declared.view.View.{View}
+use Rattle.frame_core.specs.Key.{child_of, tree_of, tree_of_child}
+use Rattle.frame_core.specs.Block.{block, IsBlock}
+use Rattle.frame_core.specs.Steps.Amounts.{more, less}
+
+-- the view is as before, but for its counts of moves and of lost exchanges
+abbrev pub IsAsBefore : View → View → Type 0
+IsAsBefore v w = w ≡ record v { moves = w.moves; lost = w.lost }
+
+-- and n frames of the child are charged
+abbrev pub HasCharged : ℕ → ℕ → View → View → Type 0
+HasCharged child n v w =
+    w ≡ record v { charged = more child n v.charged; moves = w.moves; lost = w.lost }
+
+-- and the frames of a block in the child, charged and paid before, are in flight
+abbrev pub HasClaimedIn : ℕ → ℕ → ℕ → View → View → Type 0
+HasClaimedIn child frame order v w = w ≡ record v {
+  charged = less child (2 ^ order) v.charged;
+  paid = less (tree_of_child child) (2 ^ order) v.paid;
+  own = block frame order ∷ v.own;
+  moves = w.moves;
+  lost = w.lost;
+}
+
+-- and the frames of a run in the bit word, charged and paid before, are in flight
+abbrev pub HasClaimed : ℕ → ℕ → ℕ → View → View → Type 0
+HasClaimed word bit order v w = w ≡ record v {
+  charged = less (word / 8) (2 ^ order) v.charged;
+  paid = less (word / 64) (2 ^ order) v.paid;
+  own = block (64 * word + bit) order ∷ v.own;
+  moves = w.moves;
+  lost = w.lost;
+}
+
+-- and the whole child, whose frames were paid, is in flight
+abbrev pub HasTakenHuge : ℕ → View → View → Type 0
+HasTakenHuge child v w = w ≡ record v {
+  paid = less (tree_of_child child) 512 v.paid;
+  own = block (512 * child) 9 ∷ v.own;
+  moves = w.moves;
+  lost = w.lost;
+}
+
+-- and a block of the order, whose frames were paid in the tree, was handed out
+abbrev pub HasHandedOut : ℕ → ℕ → View → View → Type 0
+HasHandedOut tree order v w = w ≡ record v {
+  paid = less tree (2 ^ order) v.paid;
+  lent = v.lent +ℤ pos 1;
+  moves = w.moves;
+  lost = w.lost;
+}
+
+-- a block of this order in the child
+pub record IsBlockIn (key : Key) (child order : ℕ) (b : FrameBlock) : Type 0 where
+  pub is_block : IsBlock key b
+  pub has_order : b.order ≡ order
+  pub in_child : child_of b.frame ≡ child
+
+-- At most n moves were made, and an exchange is known to be lost exactly where one was before or
+-- the count of losses rose; counts below 2 ^ 63 are exact.
+pub record Counts (n : ℕ) (was : Bool) (v : View) (is : Bool) (w : View) : Type 0 where
+  pub moves : w.moves ≤ v.moves + n
+  pub lost : w.lost ≤ v.lost + n
+  pub risen : v.lost + n < 2 ^ 63 → v.lost ≤ w.lost
+  pub missed : v.lost + n < 2 ^ 63 → is ≡ (was || nat_lt v.lost w.lost)
+
+-- a block of this order in the tree
+pub record IsBlockOfTree (key : Key) (tree order : ℕ) (b : FrameBlock) : Type 0 where
+  pub is_block : IsBlock key b
+  pub has_order : b.order ≡ order
+  pub in_tree : tree_of b.frame ≡ tree
