@@ -1,0 +1,15 @@
+pub mod LabelLemmas
+pub mod ChainSteps
+pub mod ChainLists
+pub mod TableLemmas
+pub mod PlainBytes
+pub mod PlainFit
+pub mod PlainHolding
+pub mod PlainMarks
+pub mod PlainPermutations
+pub mod PlainSearch
+pub mod PlainSteps
+pub mod PlainSums
+pub mod Slots
+pub mod StoreLemmas
+pub mod Outcomes

@@ -1,0 +1,15 @@
+use Rattle.std.proofs.Common.{arith, refl, ◌≡◌, ◌≤◌, length}
+use Rattle.core_frames.specs.FramePlaces.{no_page, most_children}
+use Rattle.core_frames.proofs.TableLemmas.{filled_same}
+use Rattle.core_frames.proofs.frame_places.make_directory.Goals as goal
+
+pub returns-in_ok-resize-clause-same : goal.returns-in_ok-resize-clause-same
+returns-in_ok-resize-clause-same c child =
+    let old = c.args.pages.now in
+    let new = c.resize.new.self in
+    let e = c.in_ok-resize.ensures in
+    let size : length new.items ≡ most_children = omega (arith, e.len, new.ok) in
+    let less : length old.items ≤ most_children = omega (arith, c.if-len-lt-MOST_CHILDREN.true, c.len.ensures, old.ok) in
+    filled_same old.items new.items most_children no_page child less size
+    (λ k d below inside. e.by_index.0 k d below (omega (arith, inside, old.ok)))
+    (λ k d past below. e.by_index.1 k d refl (omega (arith, past, old.ok)) below)

@@ -1,0 +1,31 @@
+-- What a contract sees of an allocator for one thread, and what the image says that it leaves.
+use Rattle.std.specs.Prelude.{◌≡◌, ℕ, ◌<◌, List, ◌++◌}
+use Rattle.frame_words.specs.declared.geometry.Geometry.{Geometry}
+use Rattle.frame_core.specs.declared.block.FrameBlock.{FrameBlock}
+use Rattle.frame_core.specs.declared.key.Key.{Key}
+use Rattle.frame_core.specs.Key.{key_of, frame_count}
+use Rattle.frame_core.specs.Block.{smalls, wholes}
+use Rattle.frame_core.specs.Holding.{holders}
+use Rattle.frame_core.specs.Report.{held_at}
+use Rattle.frame_core.specs.Words.{bit_of, huge_of}
+
+-- the memory, the blocks that were taken and neither given nor kept, and those that were kept
+pub record PlainState : Type 0 where
+  pub geometry : Geometry
+  pub out : List FrameBlock
+  pub kept : List FrameBlock
+
+-- the key of the allocator's memory
+abbrev pub key_by : PlainState → Key
+key_by state = key_of state.geometry
+
+-- the blocks that are held: those that are out, and those that were kept
+abbrev pub held_by : PlainState → List FrameBlock
+held_by state = state.out ++ state.kept
+
+-- the words hold exactly the frames of these blocks: those of order 9 by the flag of their child,
+-- the others by the bits of their frames
+pub record HoldsExactly (key : Key) (words : List ℕ) (held : List FrameBlock) : Type 0 where
+  pub smalls : (x : ℕ) → x < frame_count key → bit_of key words x ≡ smalls x held
+  pub wholes : (c : ℕ) → c < key.children → huge_of words c ≡ wholes c held
+  pub frames : (x : ℕ) → x < frame_count key → held_at key words x ≡ holders x held

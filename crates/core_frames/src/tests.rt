@@ -1,0 +1,5 @@
+//! What no clause says.
+
+mod labels;
+mod lists;
+mod plain;
