@@ -1,0 +1,8 @@
+pub mod Fields
+pub mod Cores
+pub mod Parsing
+pub mod Desks
+pub mod Running
+pub mod HeldWords
+pub mod Commands
+pub mod Statuses

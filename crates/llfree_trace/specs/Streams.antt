@@ -1,0 +1,54 @@
+-- What a run from a reader to a writer writes.
+use Rattle.std.specs.Prelude.{ℕ, ◌≡◌, ◌<◌, List, length, Option, Ok, IsSomeAnd}
+use Rattle.std.specs.Io.KnownBytes.{Appends}
+use Rattle.frame_core.specs.Image.{Contents, key_in}
+use Rattle.frame_core.specs.Report.{free_frames, held_frames}
+use Rattle.frame_image.specs.Devices.{WritesFront}
+use Rattle.frame_image.specs.declared.devices.TheConstants.{MOST_BYTES}
+use Rattle.frame_words.specs.declared.fault.Fault.{Fault}
+use Rattle.frame_words.specs.declared.fault.Fault.TheVariants as fault
+use Rattle.frame_words.specs.declared.geometry.Geometry.{Geometry}
+use Rattle.llfree_trace.specs.AnswerText.{answers_of}
+use Rattle.llfree_trace.specs.Outcome.{Fits, MayRefuse, MustRefuse}
+use Rattle.llfree_trace.specs.TraceText.{trace_of}
+use Rattle.llfree_trace.specs.declared.line.Line.{Line}
+use Rattle.llfree_trace.specs.declared.reply.Answer.{Answer}
+
+-- the text of answers, and of how many frames of the image are held and free
+abbrev pub outcome_answers : List Answer → Contents → List ℕ
+outcome_answers answers image =
+    answers_of answers (held_frames (key_in image) image.words)
+    (free_frames (key_in image) image.words)
+
+-- the bytes are the answers of an outcome that fits what the text says as a trace; a take is
+-- refused in it only where no block of its order is free
+pub record IsRunOf (geometry : Geometry) (text out : List ℕ) : Type 0 where
+  pub lines : List Line
+  pub answers : List Answer
+  pub image : Contents
+  pub says : trace_of geometry.cores text ≡ Ok lines
+  pub of : image.geometry ≡ geometry
+  pub fits : Fits MayRefuse lines answers image
+  pub exact : Fits MustRefuse lines answers image
+  pub spells : out ≡ outcome_answers answers image
+
+-- the known bytes grow by such answers
+abbrev pub WritesRun : Geometry → List ℕ → Option (List ℕ) → Option (List ℕ) → Type 0
+WritesRun geometry text old new = (out : List ℕ) × IsRunOf geometry text out × Appends old new out
+
+-- the known bytes grow by a front of such answers
+abbrev pub WritesFrontOfRun : Geometry → List ℕ → Option (List ℕ) → Option (List ℕ) → Type 0
+WritesFrontOfRun geometry text old new =
+    (out : List ℕ) × IsRunOf geometry text out × WritesFront old new out
+
+-- the bytes that a reader has left are known, and more than are read
+abbrev pub IsTooLong : Option (List ℕ) → Type 0
+IsTooLong input = IsSomeAnd input (λ text. MOST_BYTES < length text)
+
+-- the faults of a run from a reader to a writer
+abbrev pub IsRunFault : Fault → Type 0
+IsRunFault fault.NoMemory = Unit {0}
+IsRunFault (fault.BadTrace line) = Unit {0}
+IsRunFault fault.ReadFailed = Unit {0}
+IsRunFault fault.WriteFailed = Unit {0}
+IsRunFault _ = ⊥

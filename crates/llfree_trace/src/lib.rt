@@ -1,0 +1,22 @@
+//! Traces of takes and gives: reading them, running them and answering them.
+#![tactic(auto)]
+
+mod answers;
+mod desk;
+mod line;
+mod one_core;
+mod parser;
+mod program;
+mod reply;
+mod streams;
+mod totals;
+
+pub use line::{Line, Request, Trace};
+pub use one_core::run_one;
+pub use parser::parse_trace;
+pub use program::run_program;
+pub use reply::{Answer, Outcome, Reply};
+pub use streams::{Show, run_over};
+
+#[cfg(test)]
+mod tests;

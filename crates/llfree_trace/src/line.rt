@@ -1,0 +1,83 @@
+//! The records of a trace.
+
+ghost use Rattle.std.specs.Prelude.{◌≡◌, ◌≤◌, length};
+ghost use Rattle.llfree_trace.specs.Trace.{core_count, cores_in as the_cores_in};
+
+use core_frames::Label;
+use std::marker::Model;
+
+/// What a core asks for.
+#[derive(Drop)]
+pub enum Request {
+    Take { label: Label, order: u8 },
+    Give { label: Label },
+    GiveAt { frame: u32, order: u8 },
+}
+
+/// A record of a trace.
+#[derive(Drop)]
+pub enum Line {
+    Ask { core: u32, request: Request },
+    /// The end of a round, which has no answer.
+    Round,
+}
+
+/// The records of a trace, in order: at most 1,000,000.
+#[derive(Drop)]
+pub struct Trace {
+    lines: Vec<Line>,
+}
+
+impl Model for Trace {
+    ghost use Rattle.std.specs.Prelude.{List, ◌≤◌, length};
+    ghost use Rattle.llfree_trace.specs.declared.line.Line.{Line};
+    ghost use Rattle.llfree_trace.specs.Trace.{core_count};
+
+    ghost Value = { List Line };
+
+    ghost view = { λ t. t.lines.items };
+
+    ghost invariant = { λ t. (length t.lines.items ≤ 1_000_000) × (core_count t.lines.items ≤ 64) };
+}
+
+impl Trace {
+    // The trace of these records.
+    pub(crate) fn of(lines: Vec<Line>) -> Trace
+        requires few { length lines.items ≤ 1_000_000 }
+        requires cores { core_count lines.items ≤ 64 }
+        ensures { result ≡ lines.items }
+    {
+        Trace { lines }
+    }
+
+    /// The records, in order.
+    pub fn lines(&self) -> &[Line]
+        ensures value { result.now ≡ self.now }
+        ensures few { length result.now ≤ 1_000_000 }
+    {
+        self.lines.as_slice()
+    }
+
+    /// One more than the greatest core that a record names, or 0 where none names one.
+    pub fn cores(&self) -> u32
+        ensures value { result ≡ core_count self.now }
+        ensures few { result ≤ 64 }
+    {
+        let mut count = 0;
+        for line in &self.lines {
+            count = cores_in(line).max(count);
+        }
+        count
+    }
+}
+
+// One more than the greatest core that a record names.
+fn cores_in(line: &Line) -> u32
+    requires { the_cores_in line.now ≤ 64 }
+    ensures { result ≡ the_cores_in line.now }
+{
+    match line {
+        Line::Ask { core, .. } => *core + 1,
+        Line::Round => 0,
+    }
+}

@@ -1,0 +1,40 @@
+//! A run of a trace on one core, on the calling thread.
+
+ghost use Rattle.std.specs.Prelude.{◌≡◌, ◌≤◌, IfErr, IfOk};
+ghost use Rattle.llfree_trace.specs.Outcome.{Fits, MayRefuse, MustRefuse};
+ghost use Rattle.llfree_trace.specs.Trace.{core_count};
+
+use crate::desk::PlainDesk;
+use crate::line::{Line, Trace};
+use crate::reply::{Answer, Outcome};
+use frame_words::{Fault, Geometry};
+use std::alloc::Global;
+
+/// Runs a trace that names no core but 0.
+///
+/// It waits for nobody. A take is refused only where no block of its order is free.
+pub fn run_one(alloc: Global, geometry: Geometry, trace: &Trace) -> Result<Outcome, Fault>
+    requires { core_count trace.now ≤ 1 }
+    ensures fits { IfOk result (λ o. Fits MayRefuse trace.now o.answers.items o.image) }
+    ensures exact { IfOk result (λ o. Fits MustRefuse trace.now o.answers.items o.image) }
+    ensures geometry { IfOk result (λ o. o.image.geometry ≡ geometry) }
+    ensures fault { IfErr result (λ e. e ≡ Fault.NoMemory) }
+{
+    let mut desk = PlainDesk::open(alloc, geometry)?;
+    let mut answers = Vec::new(alloc);
+    let mut number: u32 = 0;
+    for line in trace.lines() {
+        number += 1;
+        let Line::Ask { core, request } = line else {
+            continue;
+        };
+        let reply = desk.answer(request)?;
+        answers.push(Answer {
+            line: number,
+            core: *core,
+            reply,
+        })?;
+    }
+    let image = desk.close(alloc)?;
+    Ok(Outcome { answers, image })
+}

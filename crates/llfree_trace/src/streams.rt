@@ -1,0 +1,99 @@
+//! Runs from a reader to a writer.
+
+ghost use Rattle.std.specs.Prelude.{◌≡◌, ◌≢◌, ◌<◌, ◌⊎◌, true, false, length, ℕ, Err};
+ghost use Rattle.std.specs.Prelude.{IfErr, IfOk, IfSome, IsErrOf, OnOk};
+ghost use Rattle.std.specs.Io.KnownBytes.{Appends};
+ghost use Rattle.frame_image.specs.Devices.{device_of, has_failed, WritesFront};
+ghost use Rattle.llfree_trace.specs.Streams.{IsRunFault, IsRunOf, IsTooLong, WritesFrontOfRun};
+ghost use Rattle.llfree_trace.specs.Streams.{WritesRun, outcome_answers};
+ghost use Rattle.llfree_trace.specs.TraceText.{Explains, trace_of};
+
+use crate::answers::answers_text;
+use crate::one_core::run_one;
+use crate::parser::parse_trace;
+use crate::reply::Outcome;
+use crate::totals::held_frames_of;
+use frame_image::{MOST_BYTES, Watched, read_all, write_out};
+use frame_words::{Fault, Geometry};
+use std::alloc::Global;
+use std::io::{Read, Write};
+
+/// The frames of a child.
+const CHILD_FRAMES: u32 = 512;
+
+/// What a run shows.
+#[derive(Clone, Copy, Debug, PartialEq, Eq)]
+pub enum Show {
+    /// The answers, and how many frames are held and free at the end.
+    Answers,
+}
+
+/// Runs the trace that the reader has left on one core, and writes what is to be shown.
+///
+/// All text is made before the first byte is written.
+pub fn run_over<R: Read, W: Write>(
+    alloc: Global,
+    geometry: Geometry,
+    show: Show,
+    input: &mut Watched<R>,
+    output: &mut Watched<W>,
+) -> Result<(), Fault>
+    requires { geometry.cores ≡ 1 }
+
+    // What is written is the answers of an outcome that fits the trace, and nothing else.
+    ensures written { OnOk result (IfSome (R.remaining (device_of input.old)) (λ text.
+        WritesRun geometry text (W.contents (device_of output.old))
+        (W.contents (device_of output.new)))) }
+    ensures sound { OnOk result ((has_failed input.new ≡ false) × (has_failed output.new ≡ false)) }
+
+    // The reader failed, or its text is too long.
+    ensures read_failed { has_failed input.new ≡ true → IsErrOf result Fault.ReadFailed }
+    ensures too_long { IsErrOf result Fault.ReadFailed → (has_failed input.new ≡ true)
+        ⊎ IfSome (R.remaining (device_of input.old)) (λ text. MOST_BYTES < length text) }
+
+    ensures limit { IsTooLong (R.remaining (device_of input.old))
+        → IsErrOf result Fault.ReadFailed ⊎ IsErrOf result Fault.NoMemory }
+
+    // A record is refused, the lowest of all that the reader had left.
+    ensures bad_trace { (line : ℕ) → IsErrOf result (Fault.BadTrace line)
+        → IfSome (R.remaining (device_of input.old)) (λ text.
+        trace_of geometry.cores text ≡ Err line) }
+
+    // A write failed, and a front of the answers was written.
+    ensures write_failed { IsErrOf result Fault.WriteFailed → (has_failed output.new ≡ true)
+        × IfSome (R.remaining (device_of input.old)) (λ text.
+        WritesFrontOfRun geometry text (W.contents (device_of output.old))
+        (W.contents (device_of output.new))) }
+
+    // Any other refusal has written nothing.
+    ensures others { IfErr result (λ e. IsRunFault e) }
+    ensures untouched { IfErr result (λ e. e ≢ Fault.WriteFailed → output.new ≡ output.old) }
+{
+    let text = read_all(alloc, input)?;
+    let shown = run_text(alloc, geometry, show, text.as_slice())?;
+    write_out(output, shown.as_slice())
+}
+
+// What a run of the trace that the text spells shows.
+fn run_text(alloc: Global, geometry: Geometry, show: Show, text: &[u8]) -> Result<Vec<u8>, Fault>
+    requires { geometry.cores ≡ 1 }
+    ensures ok { IfOk result (λ out. IsRunOf geometry text.now out.items) }
+    ensures err { IfErr result (λ e. Explains e (trace_of geometry.cores text.now)) }
+{
+    let trace = parse_trace(alloc, &geometry, text)?;
+    let outcome = run_one(alloc, geometry, &trace)?;
+    match show {
+        Show::Answers => outcome_text(alloc, &outcome),
+    }
+}
+
+// The answers of an outcome, and how many frames are held and free at its end.
+fn outcome_text(alloc: Global, outcome: &Outcome) -> Result<Vec<u8>, Fault>
+    ensures text { IfOk result (λ text. text.items ≡ outcome_answers outcome.now.answers.items
+        outcome.now.image) }
+    ensures fault { IfErr result (λ e. e ≡ Fault.NoMemory) }
+{
+    let held = held_frames_of(&outcome.image);
+    let free = CHILD_FRAMES * outcome.image.geometry().children() - held;
+    answers_text(alloc, outcome.answers.as_slice(), held, free)
+}

@@ -1,0 +1,407 @@
+use super::*;
+use frame_image::{Watched, write_out};
+use frame_words::Geometry;
+use std::alloc::{AllocError, Global};
+use std::cell::Cell;
+use std::io::{Error, ErrorKind, Read, Result as IoResult, Write};
+use std::process::Abort;
+use std::test::Fail;
+
+const TAKES: &[u8] = b"0,take,a,0\n0,take,b,3\n0,take,c,0\n";
+
+const TAKES_ANSWERED: &[u8] = b"1,0,Taken,0,0\n2,0,Taken,8,3\n3,0,Taken,1,0\nend,,Closed,10,502\n";
+
+const USAGE: &str = "usage: llfree run CHILDREN CORES | llfree image CHILDREN CORES \
+    | llfree rebuild | llfree report\n";
+
+// The status, the output and the errors of the program.
+fn program(
+    alloc: Global,
+    words: &[&str],
+    text: &[u8],
+) -> Result<(u8, Vec<u8>, Vec<u8>), AllocError> {
+    let mut list = Vec::new(alloc);
+    for word in words {
+        list.push(String::from_str(alloc, word)?)?;
+    }
+    let mut taken = Vec::new(alloc);
+    let mut errors = Vec::new(alloc);
+    let status = {
+        let mut input = Watched::new(text);
+        let mut output = Watched::new(&mut taken);
+        run_program(alloc, list.as_slice(), &mut input, &mut output, &mut errors)
+    };
+    Ok((status, taken, errors))
+}
+
+// Checks what a run of a trace prints.
+fn answers(
+    rt: &impl Abort,
+    alloc: Global,
+    words: &[&str],
+    text: &str,
+    want: &str,
+) -> Result<(), AllocError> {
+    let (status, output, errors) = program(alloc, words, text.as_bytes())?;
+    assert_eq!(rt; status, 0, "on {text}");
+    assert_eq!(rt; output.as_slice(), want.as_bytes(), "on {text}");
+    assert!(rt; errors.is_empty());
+    Ok(())
+}
+
+#[test]
+fn worked_traces_are_answered(rt: HostRuntime) -> Result<(), Fail> {
+    for (text, want) in [
+        ("", "end,,Closed,0,512\n"),
+        ("0,take,a,0", "1,0,Taken,0,0\nend,,Closed,1,511\n"),
+        (
+            "0,take,a,0\n0,take,b,3\n0,take,c,0\n",
+            "1,0,Taken,0,0\n2,0,Taken,8,3\n3,0,Taken,1,0\nend,,Closed,10,502\n",
+        ),
+        (
+            "0,take,a,0\n0,take,b,6\n0,take,c,7\n0,take,d,8\n0,take,e,9\n0,take,f,0\n",
+            "1,0,Taken,0,0\n2,0,Taken,64,6\n3,0,Taken,128,7\n4,0,Taken,256,8\n\
+             5,0,NoBlock,,\n6,0,Taken,1,0\nend,,Closed,450,62\n",
+        ),
+        (
+            "0,take,a,9\n0,take,b,0\n0,give,a,\n0,take,b,0\n",
+            "1,0,Taken,0,9\n2,0,NoBlock,,\n3,0,Given,0,9\n4,0,Taken,0,0\nend,,Closed,1,511\n",
+        ),
+        ("0,take,a,10\n", "1,0,BadOrder,,\nend,,Closed,0,512\n"),
+        ("0,take,a,255\n", "1,0,BadOrder,,\nend,,Closed,0,512\n"),
+        (
+            "0,take,a,1\n0,giveat,0,0\n0,giveat,0,1\n0,giveat,0,1\n0,giveat,0,10\n0,give,a,\n",
+            "1,0,Taken,0,1\n2,0,NotHeld,,\n3,0,Given,0,1\n4,0,NotHeld,,\n5,0,BadOrder,,\n\
+             6,0,NotHeld,,\nend,,Closed,0,512\n",
+        ),
+    ] {
+        answers(&rt, rt.alloc(), &["run", "1", "1"], text, want)?;
+    }
+    answers(
+        &rt,
+        rt.alloc(),
+        &["run", "2", "1"],
+        "0,take,a,0\n0,take,b,9\n",
+        "1,0,Taken,0,0\n2,0,Taken,512,9\nend,,Closed,513,511\n",
+    )?;
+    answers(
+        &rt,
+        rt.alloc(),
+        &["run", "16", "1"],
+        "0,take,a,9\n0,take,b,9\n0,take,c,9\n0,take,d,9\n0,take,e,9\n0,take,f,9\n0,take,g,9\n\
+         0,take,h,9\n0,take,i,9\n0,give,a,\n0,give,b,\n0,give,c,\n0,give,d,\n",
+        "1,0,Taken,0,9\n2,0,Taken,512,9\n3,0,Taken,1024,9\n4,0,Taken,1536,9\n5,0,Taken,2048,9\n\
+         6,0,Taken,2560,9\n7,0,Taken,3072,9\n8,0,Taken,3584,9\n9,0,Taken,4096,9\n\
+         10,0,Given,0,9\n11,0,Given,512,9\n12,0,Given,1024,9\n13,0,Given,1536,9\n\
+         end,,Closed,2560,5632\n",
+    )?;
+    Ok(())
+}
+
+#[test]
+fn open_points_of_the_format(rt: HostRuntime) -> Result<(), Fail> {
+    for text in [
+        "\u{feff}0,take,a,0\n",
+        "\n\n0,take,a,0\n\n",
+        "\"0\",\"take\",\"a\",\"0\"\r\n",
+        "0,take,a,\"0",
+        "000,take,a,000\n",
+        "0,take,a,00000000000000000000\n",
+        "00000000000000000000,take,a,0\n",
+    ] {
+        answers(
+            &rt,
+            rt.alloc(),
+            &["run", "1", "1"],
+            text,
+            "1,0,Taken,0,0\nend,,Closed,1,511\n",
+        )?;
+    }
+    for text in ["0,giveat,4294967295,0\n", "0,giveat,512,9\n"] {
+        answers(
+            &rt,
+            rt.alloc(),
+            &["run", "1", "1"],
+            text,
+            "1,0,NotHeld,,\nend,,Closed,0,512\n",
+        )?;
+    }
+    Ok(())
+}
+
+#[test]
+fn refused_traces_print_nothing(rt: HostRuntime) -> Result<(), Fail> {
+    for (text, line) in [
+        ("0,take,\"a", 1),
+        ("0,take,a,x\n", 1),
+        ("0,take,a,256\n", 1),
+        ("0,take,a,18446744073709551616\n", 1),
+        ("0,take,a,99999999999999999999\n", 1),
+        ("0,take,a,000000000000000000000\n", 1),
+        ("0,giveat,4294967296,0\n", 1),
+        ("0,take,a,\n", 1),
+        ("0,take,a\n", 1),
+        ("0,take,a,0,\n", 1),
+        ("0,give,a,0\n", 1),
+        ("0,take,aaaaaaaaaaaaaaaaa,0\n", 1),
+        ("0,take,,0\n", 1),
+        ("0,take,a b,0\n", 1),
+        ("0,Take,a,0\n", 1),
+        ("0,ta\"ke,a,0\n", 1),
+        ("0,take,a,0\n\u{feff}0,take,a,0\n", 2),
+        ("0,take,a,0\n\n\n1,take,b,0\n", 2),
+        ("0,take,a,0\n0,move,a,0\n", 2),
+        (",round,,\n", 1),
+    ] {
+        let (status, output, errors) = program(rt.alloc(), &["run", "1", "1"], text.as_bytes())?;
+        let want = format!(in rt.alloc(); "llfree: bad trace at record {line}\n")?;
+        assert_eq!(rt; status, 1, "on {text}");
+        assert!(rt; output.is_empty());
+        assert_eq!(rt; errors.as_slice(), want.as_bytes(), "on {text}");
+    }
+    Ok(())
+}
+
+#[test]
+fn command_lines_have_their_statuses(rt: HostRuntime) -> Result<(), Fail> {
+    let bad = "llfree: bad geometry\n";
+    for (command, children, cores, status, want) in [
+        ("run", "0", "1", 1, bad),
+        ("run", "4097", "1", 1, bad),
+        ("run", "1", "0", 1, bad),
+        ("run", "1", "65", 1, bad),
+        ("run", "999999999", "999999999", 1, bad),
+        ("run", "x", "1", 2, USAGE),
+        ("run", "1", "", 2, USAGE),
+        ("run", "0000000001", "1", 2, USAGE),
+        ("run", "1", "2", 2, USAGE),
+        ("Run", "1", "1", 2, USAGE),
+    ] {
+        let (answer, output, errors) = program(
+            rt.alloc(),
+            &[command, children, cores],
+            b"0,take,a,0",
+        )?;
+        assert_eq!(rt; answer, status);
+        assert!(rt; output.is_empty());
+        assert_eq!(rt; errors.as_slice(), want.as_bytes());
+    }
+    let (answer, output, errors) = program(rt.alloc(), &["run"], b"")?;
+    assert_eq!(rt; answer, 2);
+    assert!(rt; output.is_empty());
+    assert_eq!(rt; errors.as_slice(), USAGE.as_bytes());
+    Ok(())
+}
+
+#[test]
+fn a_full_child_is_given_block_by_block(rt: HostRuntime) -> Result<(), Fail> {
+    let alloc = rt.alloc();
+    let mut text = String::new(alloc);
+    let mut want = String::new(alloc);
+    for record in 1..=513u32 {
+        text.push_str("0,take,a,0\n")?;
+        if record <= 512 {
+            write!(want, "{record},0,Taken,{},0\n", record - 1)?;
+        } else {
+            write!(want, "{record},0,NoBlock,,\n")?;
+        }
+    }
+    for record in 514..=1025u32 {
+        text.push_str("0,give,a,\n")?;
+        write!(want, "{record},0,Given,{},0\n", record - 514)?;
+    }
+    text.push_str("0,take,z,9\n")?;
+    want.push_str("1026,0,Taken,0,9\nend,,Closed,512,0\n")?;
+    answers(&rt, alloc, &["run", "1", "1"], text.as_str(), want.as_str())?;
+    Ok(())
+}
+
+#[test]
+fn every_second_frame_leaves_no_pair(rt: HostRuntime) -> Result<(), Fail> {
+    let alloc = rt.alloc();
+    let mut text = String::new(alloc);
+    let mut want = String::new(alloc);
+    for frame in 0..512u32 {
+        text.push_str("0,take,a,0\n")?;
+        write!(want, "{},0,Taken,{frame},0\n", frame + 1)?;
+    }
+    for half in 0..256u32 {
+        let frame = 2 * half + 1;
+        write!(text, "0,giveat,{frame},0\n")?;
+        write!(want, "{},0,Given,{frame},0\n", 513 + half)?;
+    }
+    text.push_str("0,take,b,1\n")?;
+    want.push_str("769,0,NoBlock,,\nend,,Closed,256,256\n")?;
+    answers(&rt, alloc, &["run", "1", "1"], text.as_str(), want.as_str())?;
+    Ok(())
+}
+
+// A reader of a byte at a time that fails at a call, and counts its calls.
+#[derive(Drop)]
+struct SlowReader<'a> {
+    left: &'a [u8],
+    fails_at: u32,
+    calls: &'a Cell<u32>,
+}
+
+impl Read for SlowReader<'_> {
+    fn read(&mut self, buffer: &mut [u8]) -> IoResult<usize> {
+        let call = self.calls.get();
+        self.calls.set(call.saturating_add(1));
+        if call == self.fails_at {
+            return Err(Error::from(ErrorKind::Interrupted));
+        }
+        if buffer.is_empty() {
+            return Ok(0);
+        }
+        self.left.read(&mut buffer[..1])
+    }
+}
+
+// A writer of three bytes at a time that fails at a call, and counts its calls.
+#[derive(Drop)]
+struct SlowWriter<'a> {
+    taken: &'a mut Vec<u8>,
+    fails_at: u32,
+    takes_none: bool,
+    calls: &'a Cell<u32>,
+}
+
+impl Write for SlowWriter<'_> {
+    fn write(&mut self, piece: &[u8]) -> IoResult<usize> {
+        let call = self.calls.get();
+        self.calls.set(call.saturating_add(1));
+        if call == self.fails_at && self.takes_none {
+            return Ok(0);
+        }
+        if call == self.fails_at {
+            return Err(Error::from(ErrorKind::Interrupted));
+        }
+        let count = piece.len().min(3);
+        self.taken.extend_from_slice(&piece[..count])?;
+        Ok(count)
+    }
+
+    fn flush(&mut self) -> IoResult<()> {
+        Ok(())
+    }
+}
+
+// The words of `run 1 1`.
+fn run_words(alloc: Global) -> Result<Vec<String>, AllocError> {
+    let mut words = Vec::new(alloc);
+    for word in ["run", "1", "1"] {
+        words.push(String::from_str(alloc, word)?)?;
+    }
+    Ok(words)
+}
+
+#[test]
+fn a_reader_that_fails_ends_the_run(rt: HostRuntime) -> Result<(), Fail> {
+    let words = run_words(rt.alloc())?;
+    for fails_at in 0..=33u32 {
+        let calls = Cell::new(0);
+        let reader = SlowReader {
+            left: TAKES,
+            fails_at,
+            calls: &calls,
+        };
+        let mut input = Watched::new(reader);
+        let mut output = Watched::new(Vec::new(rt.alloc()));
+        let mut errors = Vec::new(rt.alloc());
+        let status = run_program(
+            rt.alloc(),
+            words.as_slice(),
+            &mut input,
+            &mut output,
+            &mut errors,
+        );
+        assert_eq!(rt; status, 3);
+        assert_eq!(rt; calls.get(), fails_at + 1);
+        assert_eq!(rt; errors.as_slice(), b"llfree: read failed\n".as_slice());
+        assert_eq!(rt; write_out(&mut output, b""), Ok(()));
+    }
+    Ok(())
+}
+
+#[test]
+fn a_writer_that_fails_ends_the_run(rt: HostRuntime) -> Result<(), Fail> {
+    let words = run_words(rt.alloc())?;
+    let writes = TAKES_ANSWERED.len().div_ceil(3) as u32;
+    for fails_at in 0..writes {
+        for takes_none in [false, true] {
+            let calls = Cell::new(0);
+            let mut taken = Vec::new(rt.alloc());
+            let mut errors = Vec::new(rt.alloc());
+            {
+                let writer = SlowWriter {
+                    taken: &mut taken,
+                    fails_at,
+                    takes_none,
+                    calls: &calls,
+                };
+                let mut input = Watched::new(TAKES);
+                let mut output = Watched::new(writer);
+                let status = run_program(
+                    rt.alloc(),
+                    words.as_slice(),
+                    &mut input,
+                    &mut output,
+                    &mut errors,
+                );
+                assert_eq!(rt; status, 3);
+            }
+            assert_eq!(rt; calls.get(), fails_at + 1);
+            assert_eq!(rt; errors.as_slice(), b"llfree: write failed\n".as_slice());
+            let front = (3 * fails_at as usize).min(TAKES_ANSWERED.len());
+            assert_eq!(rt; taken.as_slice(), &TAKES_ANSWERED[..front]);
+        }
+    }
+    Ok(())
+}
+
+#[test]
+fn a_failed_errors_stream_changes_no_status(rt: HostRuntime) -> Result<(), Fail> {
+    let words = run_words(rt.alloc())?;
+    let calls = Cell::new(0);
+    let mut taken = Vec::new(rt.alloc());
+    let mut errors = SlowWriter {
+        taken: &mut taken,
+        fails_at: 0,
+        takes_none: false,
+        calls: &calls,
+    };
+    let mut input = Watched::new(b"0,take,a,x".as_slice());
+    let mut output = Watched::new(Vec::new(rt.alloc()));
+    let status = run_program(
+        rt.alloc(),
+        words.as_slice(),
+        &mut input,
+        &mut output,
+        &mut errors,
+    );
+    assert_eq!(rt; status, 1);
+    Ok(())
+}
+
+#[test]
+fn each_call_answers_with_ample_memory(rt: HostRuntime) -> Result<(), Fail> {
+    let alloc = rt.alloc();
+    let geometry = Geometry::new(1, 1)?;
+    let trace = parse_trace(alloc, &geometry, b"0,take,a,0")?;
+    assert_eq!(rt; (trace.lines().len(), trace.cores()), (1, 1));
+    let outcome = run_one(alloc, geometry, &trace)?;
+    assert_eq!(rt; outcome.answers.len(), 1);
+    let want = Answer {
+        line: 1,
+        core: 0,
+        reply: Reply::Taken(0, 0),
+    };
+    assert_eq!(rt; outcome.answers[0], want);
+    assert_eq!(rt; outcome.image.word(0, 0), 1);
+    let mut input = Watched::new(TAKES);
+    let mut output = Watched::new(Vec::new(alloc));
+    let ran = run_over(alloc, geometry, Show::Answers, &mut input, &mut output);
+    assert_eq!(rt; ran, Ok(()));
+    Ok(())
+}
