@@ -1,0 +1,204 @@
+//! Two threads on one table.
+
+ghost use Rattle.std.specs.Prelude.{◌≡◌, ◌<◌, ◌≤◌, IfOk, IfSome};
+ghost use Rattle.std.specs.List.{All};
+ghost use Rattle.frame_core.specs.Key.{tree_count};
+ghost use Rattle.frame_table.specs.Seats.{key_at, IsOut};
+ghost use Rattle.frame_trials.specs.Work.{IsReady};
+
+use crate::{bring_back, close, give_one, next_seat, open, take_one, work};
+use frame_core::Image;
+use frame_table::{Block, CoreSeat, FrameTable};
+use frame_words::{Fault, Geometry};
+use std::alloc::Global;
+use std::process::Abort;
+use std::test::Fail;
+use std::thread::{Threads, join};
+
+/// What a core is to do in tree 0.
+#[derive(Clone, Copy)]
+struct Task {
+    order: u8,
+    // Pairs for which was paid once, and then tries that pay each for itself.
+    pairs: u64,
+    tries: u64,
+    ghost lawful: { order ≤ 9 },
+}
+
+fn run(table: &FrameTable, mut core: CoreSeat, task: Task) -> CoreSeat
+    requires tree { 0 < tree_count (key_at table.now) }
+    requires ready { IsReady table.now core }
+    ensures { IsReady table.entry.now result }
+{
+    work(table, &mut core, 0, task.order, task.pairs);
+    for _i in 0..task.tries {
+        if let Some(block) = take_one(table, &mut core, 0, task.order) {
+            give_one(table, &mut core, block);
+        }
+    }
+    core
+}
+
+fn run_and_take(table: &FrameTable, core: CoreSeat, task: Task) -> (CoreSeat, Option<Block>)
+    requires tree { 0 < tree_count (key_at table.now) }
+    requires ready { IsReady table.now core }
+    ensures core { IsReady table.entry.now result.0 }
+    ensures block { IfSome result.1 (IsOut table.entry.now) }
+{
+    let mut core = run(table, core, task);
+    let block = take_one(table, &mut core, 0, task.order);
+    (core, block)
+}
+
+fn give_and_run(
+    table: &FrameTable,
+    mut core: CoreSeat,
+    block: Option<Block>,
+    task: Task,
+) -> CoreSeat
+    requires tree { 0 < tree_count (key_at table.now) }
+    requires ready { IsReady table.now core }
+    requires block { IfSome block (IsOut table.now) }
+    ensures { IsReady table.entry.now result }
+{
+    if let Some(block) = block {
+        give_one(table, &mut core, block);
+    }
+    run(table, core, task)
+}
+
+// Both cores run at once.
+fn both<R: Threads + Sync>(
+    rt: &R,
+    table: &FrameTable,
+    cores: (CoreSeat, CoreSeat),
+    tasks: (Task, Task),
+) -> (CoreSeat, CoreSeat)
+    requires tree { 0 < tree_count (key_at table.now) }
+    requires ready { IsReady table.now cores.0 × IsReady table.now cores.1 }
+    ensures { IsReady table.entry.now result.0 × IsReady table.entry.now result.1 }
+{
+    let (first, second) = cores;
+    join(
+        rt,
+        move || -> CoreSeat
+            requires { IsReady table.now first × (0 < tree_count (key_at table.now)) }
+            ensures { IsReady table.entry.now result }
+        { run(table, first, tasks.0) },
+        move || -> CoreSeat
+            requires { IsReady table.now second × (0 < tree_count (key_at table.now)) }
+            ensures { IsReady table.entry.now result }
+        { run(table, second, tasks.1) },
+    )
+}
+
+// The words of the table, once both cores are back.
+fn closed(
+    alloc: Global,
+    table: FrameTable,
+    seats: Vec<CoreSeat>,
+    cores: (CoreSeat, CoreSeat),
+) -> Result<Image, Fault>
+    requires seats { All (IsReady table) seats.items }
+    requires ready { IsReady table cores.0 × IsReady table cores.1 }
+{
+    let seats = bring_back(&table, seats, cores.0)?;
+    let seats = bring_back(&table, seats, cores.1)?;
+    close(alloc, table, seats).map_err(|e| e.fault)
+}
+
+fn assert_all_free(rt: &impl Abort, image: &Image) {
+    let geometry = image.geometry();
+    for child in 0..geometry.children() {
+        assert!(rt;
+            image.free(child) == 512 && !image.huge(child),
+            "child {child}"
+        );
+        for word in 0..8u32 {
+            assert_eq!(rt; image.word(child, word), 0, "word {word} of child {child}");
+        }
+    }
+    for tree in 0..geometry.trees() {
+        assert_eq!(rt;
+            image.tree_free(tree),
+            geometry.tree_size(tree),
+            "tree {tree}"
+        );
+        assert!(rt; !image.tree_reserved(tree), "tree {tree}");
+    }
+}
+
+#[test]
+fn two_threads_leave_all_frames_free(rt: HostRuntime) -> Result<(), Fail> {
+    for (children, orders, pairs, tries) in [
+        (8, (0, 0), 1000, 0),
+        (1, (9, 9), 0, 1000),
+        (2, (9, 9), 0, 1000),
+        (1, (7, 8), 1000, 0),
+        (1, (8, 7), 0, 1000),
+        (2, (3, 9), 500, 500),
+    ] {
+        let geometry = Geometry::new(children, 2)?;
+        let (table, mut seats) = open(rt.alloc(), &geometry)?;
+        let first = next_seat(&table, &mut seats).ok_or("a seat")?;
+        let second = next_seat(&table, &mut seats).ok_or("a seat")?;
+        let tasks = (
+            Task {
+                order: orders.0,
+                pairs,
+                tries,
+            },
+            Task {
+                order: orders.1,
+                pairs,
+                tries,
+            },
+        );
+        let cores = both(&rt, &table, (first, second), tasks);
+        let image = closed(rt.alloc(), table, seats, cores)?;
+        assert_all_free(&rt, &image);
+    }
+    Ok(())
+}
+
+// The first core takes a block at the end of its work, and the other one gives it.
+#[test]
+fn a_block_crosses_to_the_other_thread(rt: HostRuntime) -> Result<(), Fail> {
+    let geometry = Geometry::new(8, 2)?;
+    let (table, mut seats) = open(rt.alloc(), &geometry)?;
+    let shared = &table;
+    let first = next_seat(shared, &mut seats).ok_or("a seat")?;
+    let second = next_seat(shared, &mut seats).ok_or("a seat")?;
+    let task = Task {
+        order: 0,
+        pairs: 1000,
+        tries: 0,
+    };
+    let ((first, block), second) = join(
+        &rt,
+        move || -> (CoreSeat, Option<Block>)
+            requires { IsReady shared.now first × (0 < tree_count (key_at shared.now)) }
+            ensures { IsReady shared.entry.now result.0
+                × IfSome result.1 (IsOut shared.entry.now) }
+        { run_and_take(shared, first, task) },
+        move || -> CoreSeat
+            requires { IsReady shared.now second × (0 < tree_count (key_at shared.now)) }
+            ensures { IsReady shared.entry.now result }
+        { run(shared, second, task) },
+    );
+    let cores = join(
+        &rt,
+        move || -> CoreSeat
+            requires { IsReady shared.now first × (0 < tree_count (key_at shared.now)) }
+            ensures { IsReady shared.entry.now result }
+        { run(shared, first, task) },
+        move || -> CoreSeat
+            requires { IsReady shared.now second × (0 < tree_count (key_at shared.now))
+                × IfSome block (IsOut shared.now) }
+            ensures { IsReady shared.entry.now result }
+        { give_and_run(shared, second, block, task) },
+    );
+    let image = closed(rt.alloc(), table, seats, cores)?;
+    assert_all_free(&rt, &image);
+    Ok(())
+}
