@@ -51,7 +51,8 @@ AreApart ns = (i j d : ℕ) → i < j → j < length ns
     → nat_eq (slice_index_or ns i d) (slice_index_or ns j d) ≡ false
 
 -- the own view
-abbrev pub plain_view : Key → List ℕ → Option Amount → Option Amount → Option ℕ → List FrameBlock → List ℕ → ℕ → View
+abbrev pub plain_view : Key → List ℕ → Option Amount → Option Amount → Option ℕ
+    → List FrameBlock → List ℕ → ℕ → View
 plain_view key bytes paid charged reserving own filled moves = record (idle key key.cores) {
   lent = pos (out_count bytes);
   paid = paid;
@@ -89,14 +90,16 @@ All-of P [] i x all e = absurd (cc)
 All-of P (y ∷ ys) zero x all e = let h : y ≡ x = cc in subst P h (All-head P y ys all)
 All-of P (y ∷ ys) (suc i) x all e = All-of P ys i x (All-tail P y ys all) e
 
-pub out_block : (key : Key) (words bytes : List ℕ) (v : View) (b : FrameBlock) → Agrees key words bytes v → IsOutIn bytes b → IsBlock key b
+pub out_block : (key : Key) (words bytes : List ℕ) (v : View) (b : FrameBlock)
+    → Agrees key words bytes v → IsOutIn bytes b → IsBlock key b
 out_block key words bytes v b agrees out =
     let at = agrees.1.1 b out in
     let all = All-tail (IsViewOf key) v agrees.0 agrees.1.0.each in
     All-head (IsBlock key) b [] (All-of (IsViewOf key) agrees.0 at.0 (holder (Some key) b) all at.1).own
 
 -- a block that is out is one of the key
-pub plain_outs : (key : Key) (words bytes : List ℕ) (v : View) (b : FrameBlock) → ∥ Agrees key words bytes v ∥₁ → IsOutIn bytes b → IsBlock key b
+pub plain_outs : (key : Key) (words bytes : List ℕ) (v : View) (b : FrameBlock)
+    → ∥ Agrees key words bytes v ∥₁ → IsOutIn bytes b → IsBlock key b
 plain_outs key words bytes v b agrees out = record {
   order = ∥∥₁_elim agrees le_prop (λ (a : Agrees key words bytes v). (out_block key words bytes v b a out).order);
   aligned = ∥∥₁_elim agrees (ℕ_set _ _) (λ (a : Agrees key words bytes v). (out_block key words bytes v b a out).aligned);
@@ -109,7 +112,8 @@ none_share (u ∷ us) e =
     let s = sum_by-cons (λ (w : View). w.share) u us in
     All-cons IsAtRest u us (λ some. absurd (omega (arith, s, e, some))) (none_share us (omega (arith, s, e)))
 
-others_rest : (key : Key) (words : List ℕ) (v : View) (others : List View) → v.share ≡ key.cores → Fit key key.cores words (v ∷ others) → All IsAtRest others
+others_rest : (key : Key) (words : List ℕ) (v : View) (others : List View)
+    → v.share ≡ key.cores → Fit key key.cores words (v ∷ others) → All IsAtRest others
 unfolding total
 others_rest key words v others all fit =
     let count : View → ℕ = λ w. w.share in
@@ -118,7 +122,9 @@ others_rest key words v others all fit =
     none_share others (omega (arith, a, b, all, fit.shares_add_up))
 
 -- all words fit with the own view and others, and each other one with a share has nothing in flight
-pub plain_fits : (key : Key) (words bytes : List ℕ) (v : View) (ws : List ℕ) → v.share ≡ key.cores → ∥ Agrees key words bytes v ∥₁ → ◌≡◌ {A = Option (List ℕ)} (Some words) (Some ws)
+pub plain_fits : (key : Key) (words bytes : List ℕ) (v : View) (ws : List ℕ)
+    → v.share ≡ key.cores → ∥ Agrees key words bytes v ∥₁
+    → ◌≡◌ {A = Option (List ℕ)} (Some words) (Some ws)
     → ∥ ((shares : ℕ) × ((others : List View) × (Fit key shares ws (v ∷ others) × (Unit {0} → All IsAtRest others)))) ∥₁
 plain_fits key words bytes v ws all agrees e =
     let same : words ≡ ws = cc in
