@@ -59,7 +59,7 @@ impl PlainAllocator {
     {
         let frames = (CHILD_FRAMES * geometry.children()) as usize;
         let starts = vec![in alloc; NONE; frames]?;
-        let image = Image::new(alloc, &geometry)?;
+        let image = Image::all_free(alloc, &geometry)?;
         Ok(PlainAllocator {
             image,
             starts,

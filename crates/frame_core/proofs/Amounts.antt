@@ -160,7 +160,8 @@ rest_is_count t None = count_none t ∙ sym (count_on_none t)
 rest_is_count t (Some r) = by (cases_eq t r.0)
   where
     by : (t ≡ r.0) ⊎ (t ≢ r.0) → count_in t (counted r.0 r.1) ≡ count_on t (Some r)
-    by (inl e) = ap (λ i. count_in i (counted r.0 r.1)) e ∙ count_here r.0 r.1 ∙ sym (ap (λ i. count_on i (Some r)) e ∙ count_on_here r.0 r.1)
+    by (inl e) = ap (λ i. count_in i (counted r.0 r.1)) e ∙ count_here r.0 r.1
+        ∙ sym (ap (λ i. count_on i (Some r)) e ∙ count_on_here r.0 r.1)
     by (inr ne) = count_else r.0 t r.1 ne ∙ sym (count_on_else r.0 t r.1 ne)
 
 pub rest_is_on : (t : ℕ) (r : Option (ℕ × ℕ)) → is_at t (rest_tree r) ≡ is_on t r
@@ -223,5 +224,7 @@ pub names_put : (n k : ℕ) (ns : List ℕ) → names n (put_in k ns) ≡ names 
 names_put n k ns = by (list_any (λ m. nat_eq m k) ns) refl
   where
     by : (b : Bool) → list_any (λ m. nat_eq m k) ns ≡ b → names n (put_in k ns) ≡ names n (k ∷ ns)
-    by true h = rw h (⊎_elim (λ e. ap (λ j. names j ns) e ∙ names_any k ns h ∙ sym (names_here k ns) ∙ ap (λ j. names j (k ∷ ns)) (sym e)) (λ ne. sym (names_else n k ns ne)) (cases_eq n k))
+    by true h = rw h (⊎_elim
+        (λ e. ap (λ j. names j ns) e ∙ names_any k ns h ∙ sym (names_here k ns) ∙ ap (λ j. names j (k ∷ ns)) (sym e))
+        (λ ne. sym (names_else n k ns ne)) (cases_eq n k))
     by false h = rw h refl

@@ -99,7 +99,8 @@ pub record ViewBalance (outs ins : List View) : Type 0 where
   pub paid : (t : ℕ) → sum_by (paid_on t) ins ≡ sum_by (paid_on t) outs
   pub reserves : (t : ℕ) → sum_by (reserves t) ins ≡ sum_by (reserves t) outs
   pub shares : sum_by (λ v. v.share) ins ≡ sum_by (λ v. v.share) outs
-  pub lents : sum_by (λ v. up v.lent) ins + sum_by (λ v. down v.lent) outs + sum_by blocks_out outs ≡ sum_by (λ v. up v.lent) outs + sum_by (λ v. down v.lent) ins + sum_by blocks_out ins
+  pub lents : sum_by (λ v. up v.lent) ins + sum_by (λ v. down v.lent) outs + sum_by blocks_out outs
+      ≡ sum_by (λ v. up v.lent) outs + sum_by (λ v. down v.lent) ins + sum_by blocks_out ins
   pub grounds : sum_by ground_in ins ≡ sum_by ground_in outs
 
 -- the rights of one view, as the lifting lemma asks for them
@@ -123,7 +124,8 @@ set-le key ws c r h =
     (λ i q.
     let short : i < 8 = omega arith in
     let got : get_or eight i 0 ≡ get_or ws (from + i) 0 = rw (get_or-take, get_or-drop) refl in
-    let there : get_or ws (from + i) 0 < 2 ^ 64 = omega (arith, r.bits (8 * c + i) (omega arith), ap (λ p. get_or ws p 0) (next_place key (8 * c) i)) in
+    let there : get_or ws (from + i) 0 < 2 ^ 64 =
+    omega (arith, r.bits (8 * c + i) (omega arith), ap (λ p. get_or ws p 0) (next_place key (8 * c) i)) in
     omega (arith, ap ones got, ones-le 64 (get_or ws (from + i) 0) there)) in
     omega (arith, sum_by-le ones 64 eight all)
 
@@ -207,7 +209,8 @@ module _ (key : Key) (shares : ℕ) (ws : List ℕ) (views : List View) (id : �
       let child : k / 8 < key.children = omega arith in
       let range : AreInRange key new = z.in_range b.below in
       let few : set_of key new (k / 8) ≤ 512 = set-le key new (k / 8) range child in
-      let held : held_of key new (k / 8) ≡ max (set_of key new (k / 8)) (512 * huge_of ws (k / 8)) = omega (arith, held_is key new (k / 8), z.huge (k / 8) child) in
+      let held : held_of key new (k / 8) ≡ max (set_of key new (k / 8)) (512 * huge_of ws (k / 8)) =
+      omega (arith, held_is key new (k / 8), z.huge (k / 8) child) in
       let same : tree_of_child (k / 8) ≡ k / 64 = omega arith in
       turn_keeps key shares ws views id v fit at new w (record {
         wholes = λ d q. omega (arith, z.huge d q, b.wholes d);
@@ -351,4 +354,5 @@ module _ (key : Key) (shares : ℕ) (ws : List ℕ) (views : List View) (id : �
   pub join_step : (other : ℕ) (u both gone : View) → get_elem? (set views id both) other ≡ some u
       → ViewBalance (v ∷ u ∷ []) (both ∷ gone ∷ []) → IsViewOf key both → IsViewOf key gone
       → Fit key shares ws (set (set views id both) other gone)
-  join_step other u both gone there b i g = join_keeps key shares ws views id v fit at other u both gone there (balanced (v ∷ u ∷ []) (both ∷ gone ∷ []) b) i g
+  join_step other u both gone there b i g =
+      join_keeps key shares ws views id v fit at other u both gone there (balanced (v ∷ u ∷ []) (both ∷ gone ∷ []) b) i g

@@ -107,7 +107,8 @@ pub small_elsewhere : (key : Key) (b : FrameBlock) → IsBlock key b → (x : �
 small_elsewhere key b i x ne =
     ⊎_elim
     (λ below. before_block x b below)
-    (λ l. ⊎_elim (λ inside. absurd (ne (omega (arith, within_child b.order b.frame i.order i.aligned)))) (λ above. behind_block x b above) (cases_lt x (b.frame + 2 ^ b.order)))
+    (λ l. ⊎_elim (λ inside. absurd (ne (omega (arith, within_child b.order b.frame i.order i.aligned))))
+    (λ above. behind_block x b above) (cases_lt x (b.frame + 2 ^ b.order)))
     (cases_lt x b.frame)
 
 pub whole_elsewhere : (b : FrameBlock) (d : ℕ) → d ≢ child_of b.frame → whole_at d b ≡ 0

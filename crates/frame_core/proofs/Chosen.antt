@@ -81,7 +81,8 @@ frame_else x d ne = ⊎_elim (λ below. before_block x (block d 0) below) (λ ab
 module _ (p : ℕ → Bool) (n x : ℕ) (h : x < n) where
   pub frames_smalls : smalls x (chosen (λ f. block f 0) p 0 n) ≡ (if p x then 1 else 0)
   unfolding smalls
-  frames_smalls = chosen_one (λ f. block f 0) p (small_at x) x 0 n (omega arith) (omega arith) (λ d ne. frame_else x d ne) ∙ ap (λ y. if p x then y else 0) (frame_here x)
+  frames_smalls = chosen_one (λ f. block f 0) p (small_at x) x 0 n (omega arith) (omega arith)
+      (λ d ne. frame_else x d ne) ∙ ap (λ y. if p x then y else 0) (frame_here x)
 
 pub frames_wholes : (p : ℕ → Bool) (n c : ℕ) → wholes c (chosen (λ f. block f 0) p 0 n) ≡ 0
 unfolding wholes
@@ -89,14 +90,18 @@ frames_wholes p n c = chosen_none (λ f. block f 0) p (whole_at c) 0 n (λ d l h
 
 pub frames_are_blocks : (key : Key) (p : ℕ → Bool)
     → All (IsBlock key) (chosen (λ f. block f 0) p 0 (frame_count key))
-frames_are_blocks key p = chosen_all (λ f. block f 0) p (IsBlock key) 0 (frame_count key) (λ d l h. record { order = omega arith; aligned = omega arith; inside = omega arith })
+frames_are_blocks key p =
+    chosen_all (λ f. block f 0) p (IsBlock key) 0 (frame_count key)
+    (λ d l h. record { order = omega arith; aligned = omega arith; inside = omega arith })
 
 -- children as blocks of order 9
 
 pub children_wholes : (p : ℕ → Bool) (n c : ℕ) → c < n
     → wholes c (chosen (λ d. block (512 * d) 9) p 0 n) ≡ (if p c then 1 else 0)
 unfolding wholes
-children_wholes p n c h = chosen_one (λ d. block (512 * d) 9) p (whole_at c) c 0 n (omega arith) (omega arith) (λ d ne. whole_else d c (λ e. ne (sym e))) ∙ ap (λ y. if p c then y else 0) (whole_here c)
+children_wholes p n c h =
+    chosen_one (λ d. block (512 * d) 9) p (whole_at c) c 0 n (omega arith) (omega arith)
+    (λ d ne. whole_else d c (λ e. ne (sym e))) ∙ ap (λ y. if p c then y else 0) (whole_here c)
 
 pub children_smalls : (p : ℕ → Bool) (n x : ℕ) → smalls x (chosen (λ d. block (512 * d) 9) p 0 n) ≡ 0
 unfolding smalls
@@ -104,4 +109,6 @@ children_smalls p n x = chosen_none (λ d. block (512 * d) 9) p (small_at x) 0 n
 
 pub children_are_blocks : (key : Key) (p : ℕ → Bool)
     → All (IsBlock key) (chosen (λ d. block (512 * d) 9) p 0 key.children)
-children_are_blocks key p = chosen_all (λ d. block (512 * d) 9) p (IsBlock key) 0 key.children (λ d l h. record { order = omega arith; aligned = omega arith; inside = omega arith })
+children_are_blocks key p =
+    chosen_all (λ d. block (512 * d) 9) p (IsBlock key) 0 key.children
+    (λ d l h. record { order = omega arith; aligned = omega arith; inside = omega arith })

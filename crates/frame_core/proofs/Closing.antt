@@ -139,7 +139,8 @@ module _ (key : Key) (shares : ℕ) (ws : List ℕ) (vs : List View) (id : ℕ) 
   closing_trees t h = omega (arith, fit.trees_add_up t h, none_paid t)
 
   rebuilt_entry : (c : ℕ) → c < key.children → rebuilt_free key ws c ≡ free_of ws c
-  rebuilt_entry c h = rebuilt_says key ws c (free_of ws c) (fit.words_in_range.huge c h) (set-le key ws c fit.words_in_range h) (closing_entries c h)
+  rebuilt_entry c h = rebuilt_says key ws c (free_of ws c) (fit.words_in_range.huge c h)
+      (set-le key ws c fit.words_in_range h) (closing_entries c h)
 
   rebuilt_tree : (t : ℕ) → t < tree_count key
       → rebuilt_in_tree key ws t + held_in_tree key ws t ≡ size_of key t
@@ -148,7 +149,8 @@ module _ (key : Key) (shares : ℕ) (ws : List ℕ) (vs : List View) (id : ℕ) 
       omega (
         arith,
         sum_plus (rebuilt_free key ws) (held_of key ws) (children_of key t),
-        range_all (λ c. rebuilt_free key ws c + held_of key ws c) 512 (8 * t) (children_in key t) (λ c l q. omega (arith, rebuilt_entry c (omega arith), closing_entries c (omega arith))),
+        range_all (λ c. rebuilt_free key ws c + held_of key ws c) 512 (8 * t) (children_in key t)
+            (λ c l q. omega (arith, rebuilt_entry c (omega arith), closing_entries c (omega arith))),
       )
 
   pub adds_up : AddsUp key ws
@@ -216,7 +218,9 @@ module _ (key : Key) (shares : ℕ) (ws : List ℕ) (vs : List View) (id : ℕ) 
         sum_alone f vs id v at
         (λ k d h z.
         let u : View = get_or vs k d in
-        none u ((fit.each k d h).no_part z) (nil_from_length u.own (not_out u (omega (arith, get_or-le-sum_by blocks_out vs k d h, none_out)) (no_ground k d h) z)))
+        none u ((fit.each k d h).no_part z)
+        (nil_from_length u.own
+        (not_out u (omega (arith, get_or-le-sum_by blocks_out vs k d h, none_out)) (no_ground k d h) z)))
         shares_here
 
     pub holds_just : HoldsJust key ws v.kept
@@ -254,7 +258,9 @@ abbrev view_in : Eye → View
 view_in e = e.view
 
 pub every_closing_adds_up : EveryClosingAddsUp
-every_closing_adds_up key shares s id e fit at idle all = adds_up key shares s.words (map view_in s.eyes) id e.view fit (at_map view_in s.eyes id e at) idle all
+every_closing_adds_up key shares s id e fit at idle all =
+    adds_up key shares s.words (map view_in s.eyes) id e.view fit (at_map view_in s.eyes id e at) idle all
 
 pub every_closing_holds_the_kept : EveryClosingHoldsTheKept
-every_closing_holds_the_kept key shares s id e fit at idle all sealed lent = holds_just key shares s.words (map view_in s.eyes) id e.view fit (at_map view_in s.eyes id e at) idle all sealed lent
+every_closing_holds_the_kept key shares s id e fit at idle all sealed lent =
+    holds_just key shares s.words (map view_in s.eyes) id e.view fit (at_map view_in s.eyes id e at) idle all sealed lent

@@ -36,17 +36,20 @@ pub record Balanced (key : Key) (ws : List ℕ) (views outs : List View) (new : 
       → free_of new c + sum_by (charged_in c) ins + held_of key new c
       ≡ free_of ws c + sum_by (charged_in c) outs + held_of key ws c
   pub trees : (t : ℕ) → t < tree_count key
-      → tree_free_of key new t + resting_on key new t + sum_by (paid_on t) ins + held_in_tree key new t ≡ tree_free_of key ws t + resting_on key ws t + sum_by (paid_on t) outs + held_in_tree key ws t
+      → tree_free_of key new t + resting_on key new t + sum_by (paid_on t) ins + held_in_tree key new t
+      ≡ tree_free_of key ws t + resting_on key ws t + sum_by (paid_on t) outs + held_in_tree key ws t
   pub reserved : (t : ℕ) → t < tree_count key
       → cores_on key new t + sum_by (reserves t) ins + reserved_of key ws t
       ≡ cores_on key ws t + sum_by (reserves t) outs + reserved_of key new t
   pub shares : sum_by (λ v. v.share) ins ≡ sum_by (λ v. v.share) outs
-  pub lents : sum_by (λ v. up v.lent) ins + sum_by (λ v. down v.lent) outs + sum_by blocks_out outs ≡ sum_by (λ v. up v.lent) outs + sum_by (λ v. down v.lent) ins + sum_by blocks_out ins
+  pub lents : sum_by (λ v. up v.lent) ins + sum_by (λ v. down v.lent) outs + sum_by blocks_out outs
+      ≡ sum_by (λ v. up v.lent) outs + sum_by (λ v. down v.lent) ins + sum_by blocks_out ins
   pub grounds : sum_by ground_in ins ≡ sum_by ground_in outs
   pub in_range : AreInRange key new
 
 pub kept : (key : Key) (shares : ℕ) (ws : List ℕ) (views outs : List View) (new : List ℕ) (after ins : List View)
-    → Fit key shares ws views → Replaces views outs after ins → Balanced key ws views outs new ins → All (IsViewOf key) after → Fit key shares new after
+    → Fit key shares ws views → Replaces views outs after ins → Balanced key ws views outs new ins
+    → All (IsViewOf key) after → Fit key shares new after
 kept key shares ws views outs new after ins fit r b all =
     record {
       wholes = λ c h. omega (
@@ -150,7 +153,8 @@ one_cut views id v left right at f = omega (arith, sum_set f views id v left at,
 two_joined : (views : List View) (id other : ℕ) (v u both spent : View) → get_elem? views id ≡ some v
     → get_elem? (set views id both) other ≡ some u
     → Replaces views (v ∷ u ∷ []) (set (set views id both) other spent) (both ∷ spent ∷ [])
-two_joined views id other v u both spent at at' f = omega (arith, sum_set f views id v both at, sum_set f (set views id both) other u spent at')
+two_joined views id other v u both spent at at' f =
+    omega (arith, sum_set f views id v both at, sum_set f (set views id both) other u spent at')
 
 -- The fit after a step, a split and a join.
 
@@ -158,7 +162,9 @@ module _ (key : Key) (shares : ℕ) (ws : List ℕ) (views : List View) (id : �
     (fit : Fit key shares ws views) (at : get_elem? views id ≡ some v) where
   pub turn_keeps : (new : List ℕ) (w : View) → Balanced key ws views (v ∷ []) new (w ∷ []) → IsViewOf key w
       → Fit key shares new (set views id w)
-  turn_keeps new w b is = kept key shares ws views (v ∷ []) new (set views id w) (w ∷ []) fit (one_replaced views id v w at) b (All-set (IsViewOf key) views id w is fit.each)
+  turn_keeps new w b is =
+      kept key shares ws views (v ∷ []) new (set views id w) (w ∷ []) fit (one_replaced views id v w at) b
+      (All-set (IsViewOf key) views id w is fit.each)
 
   pub cut_keeps : (left right : View) → Balanced key ws views (v ∷ []) ws (left ∷ right ∷ [])
       → IsViewOf key left → IsViewOf key right → Fit key shares ws (set views id left ++ right ∷ [])
@@ -170,5 +176,6 @@ module _ (key : Key) (shares : ℕ) (ws : List ℕ) (views : List View) (id : �
       → Balanced key ws views (v ∷ u ∷ []) ws (both ∷ gone ∷ []) → IsViewOf key both → IsViewOf key gone
       → Fit key shares ws (set (set views id both) other gone)
   join_keeps other u both gone there b i g =
-      kept key shares ws views (v ∷ u ∷ []) ws (set (set views id both) other gone) (both ∷ gone ∷ []) fit (two_joined views id other v u both gone at there) b
+      kept key shares ws views (v ∷ u ∷ []) ws (set (set views id both) other gone) (both ∷ gone ∷ []) fit
+      (two_joined views id other v u both gone at there) b
       (All-set (IsViewOf key) (set views id both) other gone g (All-set (IsViewOf key) views id both i fit.each))

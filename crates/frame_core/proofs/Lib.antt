@@ -8,7 +8,7 @@ pub mod Amounts
 pub mod Blocks
 pub mod Steps
 pub mod ImageLemmas
-pub mod AllFree
+pub mod Zeros
 pub mod PlainBlocks
 pub mod PlainSteps
 pub mod PlainOwn
@@ -30,5 +30,6 @@ pub mod Sample
 pub mod WorkedValues
 pub mod WrongSteps
 pub mod Stopping
-pub mod AllFreeOpens
+pub mod Counters
+pub mod SetRuns
 pub mod WorkedRuns

@@ -13,14 +13,16 @@ use Rattle.frame_core.specs.Block.{block, covers}
 use Rattle.frame_core.specs.Without.{is_same, less_one, is_apart, is_inside, remains}
 use Rattle.frame_core.proofs.Without.{less_here, less_else, true_or_false}
 
-pub remains_apart : (b : FrameBlock) (order frame : ℕ) → is_apart b (block frame order) ≡ true → remains b order frame ≡ block frame order ∷ []
+pub remains_apart : (b : FrameBlock) (order frame : ℕ) → is_apart b (block frame order) ≡ true
+    → remains b order frame ≡ block frame order ∷ []
 unfolding remains is_apart covers
 remains_apart b zero frame e =
     let c : nat_eq (covers b frame) 1 ≡ false = grind (arith, nat_tests) in
     rw c refl
 remains_apart b (suc order) frame e = rw e refl
 
-pub remains_inside : (b : FrameBlock) (order frame : ℕ) → is_apart b (block frame order) ≡ false → (order ≡ 0) ⊎ (is_inside b (block frame order) ≡ true) → remains b order frame ≡ []
+pub remains_inside : (b : FrameBlock) (order frame : ℕ) → is_apart b (block frame order) ≡ false
+    → (order ≡ 0) ⊎ (is_inside b (block frame order) ≡ true) → remains b order frame ≡ []
 unfolding remains is_apart covers
 remains_inside b zero frame e h =
     let c : nat_eq (covers b frame) 1 ≡ true = grind (arith, nat_tests) in
@@ -28,7 +30,8 @@ remains_inside b zero frame e h =
 remains_inside b (suc order) frame e (inl h) = absurd (omega arith)
 remains_inside b (suc order) frame e (inr h) = rw (e, h) refl
 
-pub remains_halves : (b : FrameBlock) (order frame : ℕ) → is_apart b (block frame order) ≡ false → 0 < order → is_inside b (block frame order) ≡ false
+pub remains_halves : (b : FrameBlock) (order frame : ℕ) → is_apart b (block frame order) ≡ false → 0 < order
+    → is_inside b (block frame order) ≡ false
     → remains b order frame ≡ remains b (order - 1) frame ++ remains b (order - 1) (frame + 2 ^ (order - 1))
 unfolding remains
 remains_halves b zero frame e h n = absurd (omega arith)
@@ -52,13 +55,15 @@ module _ {X : Type 0} where
   All-at_drop P (y ∷ ys) (suc i) x xs a e = All-at_drop P ys i x xs (All-tail P y ys a) e
 
 -- what leaves once, one item further
-pub once_more : (b x : FrameBlock) (next done all : List FrameBlock) (has : Bool) → done ++ cond has (x ∷ next) (less_one b (x ∷ next)) ≡ all
+pub once_more : (b x : FrameBlock) (next done all : List FrameBlock) (has : Bool)
+    → done ++ cond has (x ∷ next) (less_one b (x ∷ next)) ≡ all
     → cond (not has && is_same b x) done (done ++ x ∷ []) ++ cond (has || is_same b x) next (less_one b next) ≡ all
 once_more b x next done all true h = append_assoc done (x ∷ []) next ∙ h
 once_more b x next done all false h =
     ⊎_elim
     (λ (e : is_same b x ≡ true). rw e (ap (λ (l : List FrameBlock). done ++ l) (sym (less_here b x next e)) ∙ h))
-    (λ (e : is_same b x ≡ false). rw e (append_assoc done (x ∷ []) (less_one b next) ∙ ap (λ (l : List FrameBlock). done ++ l) (sym (less_else b x next e)) ∙ h))
+    (λ (e : is_same b x ≡ false). rw e
+    (append_assoc done (x ∷ []) (less_one b next) ∙ ap (λ (l : List FrameBlock). done ++ l) (sym (less_else b x next e)) ∙ h))
     (true_or_false (is_same b x))
 
 -- half of the frames of a block, as a shift gives it
@@ -71,7 +76,8 @@ halved (suc order) frame h below =
     rw s (omega (arith, p, below), omega (arith, p, below))
 
 module _ {X : Type 0} where
-  pub turned_once : (c : Bool) (next done after : List X) (x : X) → after ≡ next ++ done → cond c after (after ++ x ∷ []) ≡ next ++ cond c done (done ++ x ∷ [])
+  pub turned_once : (c : Bool) (next done after : List X) (x : X) → after ≡ next ++ done
+      → cond c after (after ++ x ∷ []) ≡ next ++ cond c done (done ++ x ∷ [])
   turned_once true next done after x e = e
   turned_once false next done after x e = ap (λ (l : List X). l ++ x ∷ []) e ∙ append_assoc next done (x ∷ [])
 
@@ -90,14 +96,16 @@ pub once_done : (b : FrameBlock) (all items done : List FrameBlock) (i : ℕ) (h
 unfolding less_one
 once_done b all items done i has h is sum =
     let t = all_turned all items done i h is in
-    t.1 ∙ sym (append-nil done) ∙ ap (λ (l : List FrameBlock). done ++ l) (sym (nothing has)) ∙ ap (λ (l : List FrameBlock). done ++ cond has l (less_one b l)) (sym t.0) ∙ sum
+    t.1 ∙ sym (append-nil done) ∙ ap (λ (l : List FrameBlock). done ++ l) (sym (nothing has))
+    ∙ ap (λ (l : List FrameBlock). done ++ cond has l (less_one b l)) (sym t.0) ∙ sum
   where
     nothing : (has : Bool) → cond {A = List FrameBlock} has [] (less_one b []) ≡ []
     nothing true = refl
     nothing false = refl
 
 -- what is cut, one item further
-pub cut_more : (f : FrameBlock → List FrameBlock) (x : FrameBlock) (all after next : List FrameBlock) (i : ℕ) → i < length all → drop i all ≡ x ∷ drop (i + 1) all
+pub cut_more : (f : FrameBlock → List FrameBlock) (x : FrameBlock) (all after next : List FrameBlock) (i : ℕ)
+    → i < length all → drop i all ≡ x ∷ drop (i + 1) all
     → flat_map f (take (i + 1) all) ≡ flat_map f (take i all) ++ f x
 cut_more f x [] after next i h e = absurd (omega arith)
 cut_more f x (y ∷ ys) after next zero h e =
@@ -106,10 +114,13 @@ cut_more f x (y ∷ ys) after next zero h e =
 cut_more f x (y ∷ ys) after next (suc i) h e =
     let z : suc i + 1 ≡ suc (i + 1) = omega arith in
     let r = cut_more f x ys after next i (omega arith) (rw z at e) in
-    rw z (flat_map-cons f y (take (i + 1) ys) ∙ ap (λ (l : List FrameBlock). f y ++ l) r ∙ sym (append_assoc (f y) (flat_map f (take i ys)) (f x)) ∙ ap (λ (l : List FrameBlock). l ++ f x) (sym (flat_map-cons f y (take i ys))))
+    rw z (flat_map-cons f y (take (i + 1) ys) ∙ ap (λ (l : List FrameBlock). f y ++ l) r
+    ∙ sym (append_assoc (f y) (flat_map f (take i ys)) (f x))
+    ∙ ap (λ (l : List FrameBlock). l ++ f x) (sym (flat_map-cons f y (take i ys))))
 
 -- what is cut has room
-pub cut_room : (f : FrameBlock → List FrameBlock) (x : FrameBlock) (all after : List FrameBlock) (i room : ℕ) → i < length all → after ≡ drop (i + 1) all ++ flat_map f (take i all) → x ≡ get_or all i x
+pub cut_room : (f : FrameBlock → List FrameBlock) (x : FrameBlock) (all after : List FrameBlock) (i room : ℕ)
+    → i < length all → after ≡ drop (i + 1) all ++ flat_map f (take i all) → x ≡ get_or all i x
     → length all + length (flat_map f all) ≤ room → length after + length (f x) ≤ room
 cut_room f x all after i room h is e fits =
     let l = ap (λ (k : List FrameBlock). length k) is in
@@ -124,5 +135,7 @@ module _ {X : Type 0} where
   some_left all items done i h is = omega (arith, ap (λ (l : List X). length l) is, length-append (drop i all) done, length-drop i all)
 
 -- once all have been cut, nothing else is there
-pub cut_done : (f : FrameBlock → List FrameBlock) (all items : List FrameBlock) (i : ℕ) → length all ≤ i → items ≡ drop i all ++ flat_map f (take i all) → items ≡ flat_map f all
-cut_done f all items i h is = (all_turned all items (flat_map f (take i all)) i h is).1 ∙ ap (λ (l : List FrameBlock). flat_map f l) (take_all i all h)
+pub cut_done : (f : FrameBlock → List FrameBlock) (all items : List FrameBlock) (i : ℕ) → length all ≤ i
+    → items ≡ drop i all ++ flat_map f (take i all) → items ≡ flat_map f all
+cut_done f all items i h is =
+    (all_turned all items (flat_map f (take i all)) i h is).1 ∙ ap (λ (l : List FrameBlock). flat_map f l) (take_all i all h)

@@ -27,7 +27,8 @@ none_at n [] k d e h = absurd (omega arith)
 none_at n (m ∷ ns) k d e h = by (nat_eq m n) refl k h e (none_at n ns)
   where
     by : (b : Bool) → nat_eq m n ≡ b → (k : ℕ) → k < length (m ∷ ns) → list_any (λ j. nat_eq j n) (m ∷ ns) ≡ false
-        → ((k d : ℕ) → list_any (λ j. nat_eq j n) ns ≡ false → k < length ns → nat_eq n (get_or ns k d) ≡ false) → nat_eq n (get_or (m ∷ ns) k d) ≡ false
+        → ((k d : ℕ) → list_any (λ j. nat_eq j n) ns ≡ false → k < length ns → nat_eq n (get_or ns k d) ≡ false)
+        → nat_eq n (get_or (m ∷ ns) k d) ≡ false
     by true q k l z f = absurd (let y = rw q at z in cc)
     by false q zero l z f = same_test n m ∙ q
     by false q (suc k) l z f = f k d (rw q at z) (omega arith)
@@ -47,9 +48,11 @@ distinct_put n ns apart = by (list_any (λ m. nat_eq m n) ns) refl
 few_at : (key : Key) (words bytes : List ℕ) (v : View) → Agrees key words bytes v → AreApart v.filled → length v.filled ≤ 8 * key.children
 few_at key words bytes v a d =
     let i : IsViewOf key v = view_of key key.cores words (v ∷ a.0) 0 v a.1.0 refl in
-    length-le_from_distinct_below v.filled (8 * key.children) (IsDistinct-from_apart nat_eq v.filled d) (λ q e. (i.filled q (omega (arith, names_any q v.filled (any_turned q v.filled ∙ e)))).inside)
+    length-le_from_distinct_below v.filled (8 * key.children) (IsDistinct-from_apart nat_eq v.filled d)
+    (λ q e. (i.filled q (omega (arith, names_any q v.filled (any_turned q v.filled ∙ e)))).inside)
 
 -- at most all bit words are filled
-pub few_filled : (key : Key) (words bytes : List ℕ) (v : View) → ∥ Agrees key words bytes v ∥₁ → ∥ AreApart v.filled ∥₁ → length v.filled ≤ 8 * key.children
+pub few_filled : (key : Key) (words bytes : List ℕ) (v : View) → ∥ Agrees key words bytes v ∥₁
+    → ∥ AreApart v.filled ∥₁ → length v.filled ≤ 8 * key.children
 few_filled key words bytes v agrees distinct =
     ∥∥₁_elim agrees le_prop (λ (a : Agrees key words bytes v). ∥∥₁_elim distinct le_prop (few_at key words bytes v a))

@@ -8,7 +8,7 @@ use Rattle.frame_words.specs.declared.geometry.Geometry.{Geometry}
 use Rattle.frame_words.specs.Words.{rest_in}
 use Rattle.frame_core.specs.declared.key.Key.{Key}
 use Rattle.frame_core.specs.declared.view.View.{View}
-use Rattle.frame_core.specs.Key.{key_of, tree_count, size_of}
+use Rattle.frame_core.specs.Key.{tree_count, size_of}
 use Rattle.frame_core.specs.Words.{entry_place, tree_place, local_place, bits_place, word_count}
 use Rattle.frame_core.specs.Words.{entry_of, free_of, huge_of, tree_word_of, tree_free_of}
 use Rattle.frame_core.specs.Words.{reserved_of, local_word_of, rest_of, bit_word_of}

@@ -1,22 +1,18 @@
 -- How plain moves begin: nothing is out and nothing is in flight.
 use Rattle.std.proofs.Common.{◌≡◌, ℕ, zero, suc, pos, ◌<◌, List, [], ◌∷◌, None}
-use Rattle.std.proofs.Common.{true, false, get_or, replicate, refl, ap, sym, subst, ◌∙◌, arith}
+use Rattle.std.proofs.Common.{false, get_or, replicate, refl, ap, sym, subst, ◌∙◌, arith}
 use Rattle.std.proofs.Math.Logic.{∥∥₁_map}
 use Rattle.std.proofs.lemmas.List.Sums.{sum_by-cons}
 use Rattle.frame_core.specs.declared.block.FrameBlock.{FrameBlock}
 use Rattle.frame_core.specs.declared.key.Key.{Key}
 use Rattle.frame_core.specs.declared.view.View.{View}
-use Rattle.frame_core.specs.Key.{frame_count}
-use Rattle.frame_core.specs.Words.{AreInRange}
-use Rattle.frame_core.specs.Image.{IsAllFree}
 use Rattle.frame_core.specs.Rebuilt.{IsRebuilt}
 use Rattle.frame_core.specs.View.{idle, ground_with}
-use Rattle.frame_core.specs.Openings.{held_blocks, reopener}
+use Rattle.frame_core.specs.Openings.{held_blocks, reopener, IsSealedOpening}
 use Rattle.frame_core.specs.Fit.{Fit}
 use Rattle.frame_core.specs.Plain.{is_out_byte, out_count, plain_view, IsOutIn, Agrees, FitsIdle, FitsReopened}
 use Rattle.frame_core.proofs.Opening.{sealed_fits, reopening_fits}
 use Rattle.frame_core.proofs.Steps.Cutting.{part_ground_keeps}
-use Rattle.frame_core.proofs.AllFreeOpens.{all_free_opens}
 use Rattle.frame_core.proofs.PlainOuts.{byte_none}
 
 zero_at : (n i : ℕ) → ◌≡◌ {A = ℕ} (get_or (replicate n 0) i 0) 0
@@ -50,13 +46,10 @@ opened key words bytes v n fits eb ev =
     none_out b out =
         omega (arith, out.1, ap (λ (l : List ℕ). get_or l b.frame 0) eb, zero_at n b.frame)
 
--- the words with all frames free fit with an idle own view
-pub sealed_opens : (key : Key) (words : List ℕ) → key.sealed ≡ true → key.frames ≡ frame_count key
-    → key.ranges ≡ [] → 0 < key.cores → AreInRange key words → IsAllFree key words
+-- the words of a sealed opening fit with an idle own view
+pub sealed_opens : (key : Key) (words : List ℕ) → 0 < key.cores → IsSealedOpening key words
     → ∥ FitsIdle key words ∥₁
-sealed_opens key words sealed whole none some range free =
-    let opening = all_free_opens key words range free sealed whole none in
-    ∣ ([], sealed_fits key words key.cores some opening) ∣₁
+sealed_opens key words some opening = ∣ ([], sealed_fits key words key.cores some opening) ∣₁
 
 -- words with exact counters fit with an idle own view and the ground
 pub reopened : (key : Key) (words : List ℕ) → key.sealed ≡ false → 0 < key.cores

@@ -54,14 +54,16 @@ set_length (b ∷ bs) zero n = refl
 set_length (b ∷ bs) (suc i) n = ap suc (set_length bs i n)
 
 -- the block is handed out: a byte that was 0 names it
-pub handed_out : (key : Key) (words bytes : List ℕ) (v : View) (b : FrameBlock) (rest : Rest) → ∥ Agrees key words bytes v ∥₁ → v.about ≡ Some key → MayCut key (hand_out b rest) v
+pub handed_out : (key : Key) (words bytes : List ℕ) (v : View) (b : FrameBlock) (rest : Rest)
+    → ∥ Agrees key words bytes v ∥₁ → v.about ≡ Some key → MayCut key (hand_out b rest) v
     → b.frame < length bytes → ∥ Agrees key words (set bytes b.frame (b.order + 1)) (left_by plain_tick (hand_out b rest) v) ∥₁
 handed_out key words bytes v b rest agrees named may inside =
     ∥∥₁_map agrees (λ (a : Agrees key words bytes v).
     let fit = seat_cut_keeps plain_tick key key.cores words (v ∷ a.0) 0 v a.1.0 refl (hand_out b rest) may in
     (a.0 ++ holder v.about b ∷ [], (fit, place a)))
   where
-    place : (a : Agrees key words bytes v) (d : FrameBlock) → IsOutIn (set bytes b.frame (b.order + 1)) d → (i : ℕ) × (get_elem? (a.0 ++ holder v.about b ∷ []) i ≡ some (holder (Some key) d))
+    place : (a : Agrees key words bytes v) (d : FrameBlock) → IsOutIn (set bytes b.frame (b.order + 1)) d
+        → (i : ℕ) × (get_elem? (a.0 ++ holder v.about b ∷ []) i ≡ some (holder (Some key) d))
     place a d out =
         ⊎_elim
         (λ e.
@@ -70,7 +72,10 @@ handed_out key words bytes v b rest agrees named may inside =
         let same : holder v.about b ≡ holder (Some key) d = λ i. holder (named i) (block (sym e i) (order i)) in
         (length a.0, last_here a.0 (holder v.about b) ∙ ap some same))
         (λ ne.
-        let old = a.1.1 d (omega (arith, out.0, set_length bytes b.frame (b.order + 1)), sym (set_there bytes b.frame d.frame (b.order + 1) ne) ∙ out.1) in
+        let old = a.1.1 d (
+          omega (arith, out.0, set_length bytes b.frame (b.order + 1)),
+          sym (set_there bytes b.frame d.frame (b.order + 1) ne) ∙ out.1,
+        ) in
         (old.0, before_last a.0 (holder v.about b) (holder (Some key) d) old.0 old.1))
         (cases_eq d.frame b.frame)
 
@@ -83,7 +88,8 @@ first_counts key d b =
     (cases_lt d.order 9)
 
 -- no block that is out begins where a block in flight does
-free_at : (key : Key) (words bytes : List ℕ) (v : View) (b : FrameBlock) (rest : Rest) → MayCut key (hand_out b rest) v → b.frame < length bytes → Agrees key words bytes v → get_or bytes b.frame 0 ≡ 0
+free_at : (key : Key) (words bytes : List ℕ) (v : View) (b : FrameBlock) (rest : Rest)
+    → MayCut key (hand_out b rest) v → b.frame < length bytes → Agrees key words bytes v → get_or bytes b.frame 0 ≡ 0
 free_at key words bytes v b rest may inside a =
     ⊎_elim (λ z. z)
     (λ some.
@@ -109,10 +115,12 @@ free_at key words bytes v b rest may inside a =
     absurd (omega (arith, small, whole, first, mine, ls, lw, s, w, hs, hw)))
     (cases_eq (get_or bytes b.frame 0) 0)
   where
-    two_at : (f : View → ℕ) (key : Key) (v h : View) (others : List View) (i : ℕ) → get_elem? others i ≡ some h → f v + f h ≤ total key f (v ∷ others)
+    two_at : (f : View → ℕ) (key : Key) (v h : View) (others : List View) (i : ℕ) → get_elem? others i ≡ some h
+        → f v + f h ≤ total key f (v ∷ others)
     two_at f key v h others i e = omega (arith, total_is key f (v ∷ others), sum_by-cons f v others, at-le-sum f others i h e)
 
-pub byte_free : (key : Key) (words bytes : List ℕ) (v : View) (b : FrameBlock) (rest : Rest) → ∥ Agrees key words bytes v ∥₁ → MayCut key (hand_out b rest) v → b.frame < length bytes → get_or bytes b.frame 0 ≡ 0
+pub byte_free : (key : Key) (words bytes : List ℕ) (v : View) (b : FrameBlock) (rest : Rest)
+    → ∥ Agrees key words bytes v ∥₁ → MayCut key (hand_out b rest) v → b.frame < length bytes → get_or bytes b.frame 0 ≡ 0
 byte_free key words bytes v b rest agrees may inside = ∥∥₁_elim agrees (ℕ_set _ _) (free_at key words bytes v b rest may inside)
 
 byte_some : (n : ℕ) → 0 < n → is_out_byte n ≡ 1
@@ -127,26 +135,33 @@ byte_none = refl
 pub one_out : (bytes : List ℕ) (i n : ℕ) → i < length bytes → get_or bytes i 0 ≡ 0 → 0 < n → out_count bytes + 1 ≡ out_count (set bytes i n)
 unfolding out_count
 one_out [] i n h z s = absurd (omega arith)
-one_out (b ∷ bs) zero n h z s = omega (arith, sum_by-cons is_out_byte b bs, sum_by-cons is_out_byte n bs, byte_some n s, ap is_out_byte z, byte_none)
-one_out (b ∷ bs) (suc i) n h z s = omega (arith, sum_by-cons is_out_byte b bs, sum_by-cons is_out_byte b (set bs i n), one_out bs i n (omega arith) z s)
+one_out (b ∷ bs) zero n h z s =
+    omega (arith, sum_by-cons is_out_byte b bs, sum_by-cons is_out_byte n bs, byte_some n s, ap is_out_byte z, byte_none)
+one_out (b ∷ bs) (suc i) n h z s =
+    omega (arith, sum_by-cons is_out_byte b bs, sum_by-cons is_out_byte b (set bs i n), one_out bs i n (omega arith) z s)
 
 pub one_in : (bytes : List ℕ) (i : ℕ) → i < length bytes → 0 < get_or bytes i 0 → out_count bytes ≡ out_count (set bytes i 0) + 1
 unfolding out_count
 one_in [] i h s = absurd (omega arith)
 one_in (b ∷ bs) zero h s = omega (arith, sum_by-cons is_out_byte b bs, sum_by-cons is_out_byte 0 bs, byte_some b s, byte_none)
-one_in (b ∷ bs) (suc i) h s = omega (arith, sum_by-cons is_out_byte b bs, sum_by-cons is_out_byte b (set bs i 0), one_in bs i (omega arith) s)
+one_in (b ∷ bs) (suc i) h s =
+    omega (arith, sum_by-cons is_out_byte b bs, sum_by-cons is_out_byte b (set bs i 0), one_in bs i (omega arith) s)
 
 -- what was out is still out
-pub still_out : (bytes : List ℕ) (b : FrameBlock) → get_or bytes b.frame 0 ≡ 0 → (d : FrameBlock) → IsOutIn bytes d → IsOutIn (set bytes b.frame (b.order + 1)) d
+pub still_out : (bytes : List ℕ) (b : FrameBlock) → get_or bytes b.frame 0 ≡ 0 → (d : FrameBlock) → IsOutIn bytes d
+    → IsOutIn (set bytes b.frame (b.order + 1)) d
 still_out bytes b free d out =
     let ne : d.frame ≢ b.frame = (λ e. omega (arith, out.1, free, ap (λ j. get_or bytes j 0) e)) in
     (omega (arith, out.0, set_length bytes b.frame (b.order + 1)), set_there bytes b.frame d.frame (b.order + 1) ne ∙ out.1)
 
 -- the own view with other blocks out and in flight
-pub viewed_out : (key : Key) (bytes bytes' : List ℕ) (p c : Option Amount) (r : Option ℕ) (own own' : List FrameBlock) (filled : List ℕ) (n n' : ℕ)
+pub viewed_out : (key : Key) (bytes bytes' : List ℕ) (p c : Option Amount) (r : Option ℕ) (own own' : List FrameBlock)
+    (filled : List ℕ) (n n' : ℕ)
     → out_count bytes + 1 ≡ out_count bytes' → own ≡ own' → n ≡ n'
-    → record (plain_view key bytes p c r own filled n) { lent = pos (out_count bytes) +ℤ pos 1 } ≡ plain_view key bytes' p c r own' filled n'
-viewed_out key bytes bytes' p c r own own' filled n n' el eo en = λ i. record (plain_view key bytes p c r (eo i) filled (en i)) { lent = pos (el i) }
+    → record (plain_view key bytes p c r own filled n) { lent = pos (out_count bytes) +ℤ pos 1 }
+    ≡ plain_view key bytes' p c r own' filled n'
+viewed_out key bytes bytes' p c r own own' filled n n' el eo en =
+    λ i. record (plain_view key bytes p c r (eo i) filled (en i)) { lent = pos (el i) }
 
 -- the block is taken in: its byte names none any more
 module _ {X : Type 0} where
@@ -164,27 +179,37 @@ same_holder key b d e =
     let s : b ≡ d = cc in
     sym (ap (λ (k : FrameBlock). k.frame) s)
 
-pub taken_in : (key : Key) (words bytes : List ℕ) (v : View) (b : FrameBlock) → ∥ Agrees key words bytes v ∥₁ → 0 < v.share → LiesIn v (child_of b.frame) → IsOutIn bytes b
+pub taken_in : (key : Key) (words bytes : List ℕ) (v : View) (b : FrameBlock) → ∥ Agrees key words bytes v ∥₁
+    → 0 < v.share → LiesIn v (child_of b.frame) → IsOutIn bytes b
     → ∥ Agrees key words (set bytes b.frame 0) (joined_by plain_tick hand_in v (holder (Some key) b)) ∥₁
 taken_in key words bytes v b agrees share child out =
     ∥∥₁_map agrees (λ (a : Agrees key words bytes v).
     let at = a.1.1 b out in
-    let may : MayJoin hand_in v (holder (Some key) b) = record { takes = record { share = share; out = refl; not_ground = refl; block = b; owns = refl }; one_child = child } in
-    let fit = seat_join_keeps plain_tick key key.cores words (v ∷ a.0) 0 v a.1.0 refl (suc at.0) (holder (Some key) b) (λ e. omega arith) at.1 hand_in may in
+    let may : MayJoin hand_in v (holder (Some key) b) =
+    record { takes = record { share = share; out = refl; not_ground = refl; block = b; owns = refl }; one_child = child } in
+    let fit = seat_join_keeps plain_tick key key.cores words (v ∷ a.0) 0 v a.1.0 refl (suc at.0) (holder (Some key) b)
+    (λ e. omega arith) at.1 hand_in may in
     (set a.0 at.0 spent, (fit, place a at.0 at.1)))
   where
-    place : (a : Agrees key words bytes v) (i : ℕ) → get_elem? a.0 i ≡ some (holder (Some key) b) → (d : FrameBlock) → IsOutIn (set bytes b.frame 0) d → (j : ℕ) × (get_elem? (set a.0 i spent) j ≡ some (holder (Some key) d))
+    place : (a : Agrees key words bytes v) (i : ℕ) → get_elem? a.0 i ≡ some (holder (Some key) b) → (d : FrameBlock)
+        → IsOutIn (set bytes b.frame 0) d → (j : ℕ) × (get_elem? (set a.0 i spent) j ≡ some (holder (Some key) d))
     place a i at d now =
-        let ne : d.frame ≢ b.frame = (λ e. omega (arith, now.1, ap (λ j. get_or (set bytes b.frame 0) j 0) e, set_here bytes b.frame 0 out.0)) in
-        let old = a.1.1 d (omega (arith, now.0, set_length bytes b.frame 0), sym (set_there bytes b.frame d.frame 0 ne) ∙ now.1) in
-        (old.0, other_stays a.0 i old.0 spent (holder (Some key) d) (λ e. ne (same_holder key b d (sym at ∙ ap (get_elem? a.0) (sym e) ∙ old.1))) old.1)
+        let ne : d.frame ≢ b.frame =
+        (λ e. omega (arith, now.1, ap (λ j. get_or (set bytes b.frame 0) j 0) e, set_here bytes b.frame 0 out.0)) in
+        let old = a.1.1 d (omega (arith, now.0, set_length bytes b.frame 0), sym (set_there bytes b.frame d.frame 0 ne) ∙ now.1) in (
+          old.0,
+          other_stays a.0 i old.0 spent (holder (Some key) d)
+              (λ e. ne (same_holder key b d (sym at ∙ ap (get_elem? a.0) (sym e) ∙ old.1))) old.1,
+        )
 
 one_back : (n : ℕ) → pos (n + 1) -ℤ pos 1 ≡ pos n
 one_back n = omega (arith, ints)
 
-pub viewed_in : (key : Key) (bytes bytes' : List ℕ) (p c : Option Amount) (r : Option ℕ) (own own' : List FrameBlock) (filled : List ℕ) (n n' : ℕ)
+pub viewed_in : (key : Key) (bytes bytes' : List ℕ) (p c : Option Amount) (r : Option ℕ) (own own' : List FrameBlock)
+    (filled : List ℕ) (n n' : ℕ)
     → out_count bytes ≡ out_count bytes' + 1 → own ≡ own' → n ≡ n'
-    → record (plain_view key bytes p c r own filled n) { lent = pos (out_count bytes) -ℤ pos 1 } ≡ plain_view key bytes' p c r own' filled n'
+    → record (plain_view key bytes p c r own filled n) { lent = pos (out_count bytes) -ℤ pos 1 }
+    ≡ plain_view key bytes' p c r own' filled n'
 viewed_in key bytes bytes' p c r own own' filled n n' el eo en =
     let z : pos (out_count bytes) -ℤ pos 1 ≡ pos (out_count bytes') = ap (λ k. pos k -ℤ pos 1) el ∙ one_back (out_count bytes') in
     λ i. record (plain_view key bytes p c r (eo i) filled (en i)) { lent = z i }
@@ -192,5 +217,7 @@ viewed_in key bytes bytes' p c r own own' filled n n' el eo en =
 -- another block that is out stays so
 pub still_other : (bytes : List ℕ) (b d : FrameBlock) → IsOutIn bytes b → d ≢ b → IsOutIn bytes d → IsOutIn (set bytes b.frame 0) d
 still_other bytes b d out differs now =
-    let ne : d.frame ≢ b.frame = (λ e. let o : d.order ≡ b.order = omega (arith, out.1, now.1, ap (λ j. get_or bytes j 0) e) in differs (λ i. block (e i) (o i))) in
+    let ne : d.frame ≢ b.frame =
+    (λ e. let o : d.order ≡ b.order = omega (arith, out.1, now.1, ap (λ j. get_or bytes j 0) e) in
+    differs (λ i. block (e i) (o i))) in
     (omega (arith, now.0, set_length bytes b.frame 0), set_there bytes b.frame d.frame 0 ne ∙ now.1)

@@ -41,12 +41,18 @@ whole_of key d b h =
 range_few : (f : ℕ → ℕ) (a n : ℕ) → ((d : ℕ) → a ≤ d → d < a + n → f d ≤ 1) → sum_by f (range_with_len a n) ≤ n
 range_few f a zero all = omega arith
 range_few f a (suc n) all =
-    omega (arith, sum_by-cons f a (range_with_len (a + 1) n), range_few f (a + 1) n (λ d l h. all d (omega arith) (omega arith)), all a (omega arith) (omega arith))
+    omega (
+      arith,
+      sum_by-cons f a (range_with_len (a + 1) n),
+      range_few f (a + 1) n (λ d l h. all d (omega arith) (omega arith)),
+      all a (omega arith) (omega arith),
+    )
 
 -- the frames of the child c are those from a on, n of them; neither is written as a number here
 module _ (key : Key) (c a n : ℕ) (begins : a ≡ 512 * c) (ends : n ≡ 512) where
   -- a block whose frames all lie in the child begins in it
-  lies : (d : FrameBlock) → IsBlock key d → ((x : ℕ) → child_of x ≢ c → small_at x d ≡ 0) → ((e : ℕ) → e ≢ c → whole_at e d ≡ 0) → child_of d.frame ≡ c
+  lies : (d : FrameBlock) → IsBlock key d → ((x : ℕ) → child_of x ≢ c → small_at x d ≡ 0)
+      → ((e : ℕ) → e ≢ c → whole_at e d ≡ 0) → child_of d.frame ≡ c
   lies d b small whole =
       ⊎_elim
       (λ low.
@@ -70,23 +76,28 @@ module _ (key : Key) (c a n : ℕ) (begins : a ≡ 512 * c) (ends : n ≡ 512) w
       omega (arith, one, ap (λ e. whole_at e d) here))
       (cases_lt d.order 9)
 
-  one_more : (d : FrameBlock) (ds : List FrameBlock) → sum_by (λ x. smalls x (d ∷ ds)) (range_with_len a n) ≡ sum_by (λ x. small_at x d) (range_with_len a n) + sum_by (λ x. smalls x ds) (range_with_len a n)
+  one_more : (d : FrameBlock) (ds : List FrameBlock)
+      → sum_by (λ x. smalls x (d ∷ ds)) (range_with_len a n) ≡ sum_by (λ x. small_at x d) (range_with_len a n)
+      + sum_by (λ x. smalls x ds) (range_with_len a n)
   one_more d ds =
       range_same (λ x. small_at x d + smalls x ds) (λ x. smalls x (d ∷ ds)) a n (λ x l h. smalls_cons x d ds)
       ∙ sum_plus (λ x. small_at x d) (λ x. smalls x ds) (range_with_len a n)
 
-  few : (blocks : List FrameBlock) → All (IsBlock key) blocks → ((x : ℕ) → child_of x ≢ c → smalls x blocks ≡ 0) → ((e : ℕ) → e ≢ c → wholes e blocks ≡ 0)
+  few : (blocks : List FrameBlock) → All (IsBlock key) blocks → ((x : ℕ) → child_of x ≢ c → smalls x blocks ≡ 0)
+      → ((e : ℕ) → e ≢ c → wholes e blocks ≡ 0)
       → length blocks ≤ sum_by (λ x. smalls x blocks) (range_with_len a n) + wholes c blocks
   few [] all small whole = omega arith
   few (d ∷ ds) all small whole =
       let b = All-head (IsBlock key) d ds all in
       let here = lies d b (λ x ne. omega (arith, small x ne, smalls_cons x d ds)) (λ e ne. omega (arith, whole e ne, wholes_cons e d ds)) in
       let one = counts d b here in
-      let others = few ds (All-tail (IsBlock key) d ds all) (λ x ne. omega (arith, small x ne, smalls_cons x d ds)) (λ e ne. omega (arith, whole e ne, wholes_cons e d ds)) in
+      let others = few ds (All-tail (IsBlock key) d ds all) (λ x ne. omega (arith, small x ne, smalls_cons x d ds))
+      (λ e ne. omega (arith, whole e ne, wholes_cons e d ds)) in
       omega (arith, one, others, one_more d ds, wholes_cons c d ds)
 
   -- where there is a block, the child is one of memory
-  inside_or_none : (blocks : List FrameBlock) → All (IsBlock key) blocks → ((x : ℕ) → child_of x ≢ c → smalls x blocks ≡ 0) → ((e : ℕ) → e ≢ c → wholes e blocks ≡ 0)
+  inside_or_none : (blocks : List FrameBlock) → All (IsBlock key) blocks
+      → ((x : ℕ) → child_of x ≢ c → smalls x blocks ≡ 0) → ((e : ℕ) → e ≢ c → wholes e blocks ≡ 0)
       → (length blocks ≡ 0) ⊎ (c < key.children)
   inside_or_none [] all small whole = inl refl
   inside_or_none (d ∷ ds) all small whole =
@@ -107,7 +118,8 @@ module _ (key : Key) (c a n : ℕ) (begins : a ≡ 512 * c) (ends : n ≡ 512) w
       let f = fit.apart x (omega (arith, inside, begins, ends, high)) in
       let p = at-le-total key key.cores words (v ∷ g.0) 0 v fit refl (small_in x) in
       omega (arith, f, p, ap (huge_of words) e)) in
-      let whole : wholes c v.own ≤ huge_of words c = omega (arith, fit.wholes c inside, at-le-total key key.cores words (v ∷ g.0) 0 v fit refl (whole_in c)) in
+      let whole : wholes c v.own ≤ huge_of words c =
+      omega (arith, fit.wholes c inside, at-le-total key key.cores words (v ∷ g.0) 0 v fit refl (whole_in c)) in
       ⊎_elim
       (λ none.
       let most = range_few (λ x. smalls x v.own) a n (λ x low high. omega (arith, apart x low high)) in
@@ -141,27 +153,42 @@ low_own key words bytes v small agrees = λ k d h. (
 )
 
 -- the entry of a huge frame in flight has its flag
-huge_at : (key : Key) (words bytes : List ℕ) (v : View) (c : ℕ) → c < key.children → 0 < wholes c v.own → Agrees key words bytes v → 32768 ≤ lane_in (get_or words (entry_place c) 0) c
+huge_at : (key : Key) (words bytes : List ℕ) (v : View) (c : ℕ) → c < key.children → 0 < wholes c v.own
+    → Agrees key words bytes v → 32768 ≤ lane_in (get_or words (entry_place c) 0) c
 huge_at key words bytes v c inside some a =
     let e = entry_of_is words c in
     let n = lane_in (get_or words (entry_place c) 0) c in
-    omega (arith, a.1.0.wholes c inside, at-le-total key key.cores words (v ∷ a.0) 0 v a.1.0 refl (whole_in c), some, huge_of_is words c, ap flag_in e, free_is n, flag_is n)
+    omega (
+      arith,
+      a.1.0.wholes c inside,
+      at-le-total key key.cores words (v ∷ a.0) 0 v a.1.0 refl (whole_in c),
+      some,
+      huge_of_is words c,
+      ap flag_in e,
+      free_is n,
+      flag_is n,
+    )
 
-pub huge_entry : (key : Key) (words bytes : List ℕ) (v : View) (c : ℕ) → ∥ Agrees key words bytes v ∥₁ → c < key.children → 0 < wholes c v.own → 32768 ≤ lane_in (get_or words (entry_place c) 0) c
+pub huge_entry : (key : Key) (words bytes : List ℕ) (v : View) (c : ℕ) → ∥ Agrees key words bytes v ∥₁
+    → c < key.children → 0 < wholes c v.own → 32768 ≤ lane_in (get_or words (entry_place c) 0) c
 huge_entry key words bytes v c agrees inside some = ∥∥₁_elim agrees le_prop (huge_at key words bytes v c inside some)
 
 -- The bits of a run tell which run it is.
 
-tz_is : (w : Width) (n from : ℕ) → 0 < n → n < 2 ^ bits w → bit_at n from ≡ 1 → ((i : ℕ) → i < from → bit_at n i ≡ 0) → count_trailing_zeros (bits w) n ≡ from
+tz_is : (w : Width) (n from : ℕ) → 0 < n → n < 2 ^ bits w → bit_at n from ≡ 1 → ((i : ℕ) → i < from → bit_at n i ≡ 0)
+    → count_trailing_zeros (bits w) n ≡ from
 tz_is w n from some low one none =
     let t = bit_at-trailing_zeros w n some low in
     ⊎_elim
     (λ less. absurd (omega (arith, t.1, none (count_trailing_zeros (bits w) n) less)))
-    (λ more. ⊎_elim (λ e. e) (λ ne. absurd (omega (arith, one, t.2 from (omega (arith, more, ne))))) (cases_eq (count_trailing_zeros (bits w) n) from))
+    (λ more. ⊎_elim (λ e. e) (λ ne. absurd (omega (arith, one, t.2 from (omega (arith, more, ne)))))
+    (cases_eq (count_trailing_zeros (bits w) n) from))
     (cases_lt (count_trailing_zeros (bits w) n) from)
 
 run_some : (from k : ℕ) → 0 < k → 0 < run from k
-run_some from k h = ⊎_elim (λ z. absurd (omega (arith, ap ones z, ones_zero, ones_run from k, h))) (λ s. omega (arith, s)) (cases_eq (run from k) 0)
+run_some from k h =
+    ⊎_elim (λ z. absurd (omega (arith, ap ones z, ones_zero, ones_run from k, h))) (λ s. omega (arith, s))
+    (cases_eq (run from k) 0)
 
 one_run : (order : ℕ) → run order 1 ≡ 2 ^ order
 one_run order = let p = pow-suc 2 order in let e : order + 1 ≡ suc order = omega arith in rw e (omega (arith, p))
@@ -169,17 +196,21 @@ one_run order = let p = pow-suc 2 order in let e : order + 1 ≡ suc order = ome
 pub run_from : (mask from order : ℕ) → mask < 2 ^ 64 → mask ≡ run from (2 ^ order) → count_trailing_zeros 64 mask ≡ from
 run_from mask from order low e =
     let some = run_some from (2 ^ order) (pow_pos order) in
-    tz_is w64 mask from (omega (arith, some, e)) low (ap (λ n. bit_at n from) e ∙ bit_at_run_inside from (2 ^ order) from (omega arith) (omega (arith, pow_pos order)))
+    tz_is w64 mask from (omega (arith, some, e)) low
+    (ap (λ n. bit_at n from) e ∙ bit_at_run_inside from (2 ^ order) from (omega arith) (omega (arith, pow_pos order)))
     (λ i h. ap (λ n. bit_at n i) e ∙ bit_at_run_below from (2 ^ order) i h)
 
 pub run_order : (mask from order : ℕ) → ones mask < 2 ^ 32 → mask ≡ run from (2 ^ order) → count_trailing_zeros 32 (ones mask) ≡ order
 run_order mask from order low e =
     let is : ones mask ≡ run order 1 = ap ones e ∙ ones_run from (2 ^ order) ∙ sym (one_run order) in
-    tz_is w32 (ones mask) order (omega (arith, is, run_some order 1 (omega arith))) low (ap (λ n. bit_at n order) is ∙ bit_at_run_inside order 1 order (omega arith) (omega arith))
+    tz_is w32 (ones mask) order (omega (arith, is, run_some order 1 (omega arith))) low
+    (ap (λ n. bit_at n order) is ∙ bit_at_run_inside order 1 order (omega arith) (omega arith))
     (λ i h. ap (λ n. bit_at n i) is ∙ bit_at_run_below order 1 i h)
 
-word_at : (key : Key) (words bytes : List ℕ) (v : View) (w : ℕ) → w < 8 * key.children → Agrees key words bytes v → get_or words (bits_place key w) 0 < 2 ^ 64
+word_at : (key : Key) (words bytes : List ℕ) (v : View) (w : ℕ) → w < 8 * key.children → Agrees key words bytes v
+    → get_or words (bits_place key w) 0 < 2 ^ 64
 word_at key words bytes v w inside a = omega (arith, a.1.0.words_in_range.bits w inside, bit_word_is key words w)
 
-pub word_low : (key : Key) (words bytes : List ℕ) (v : View) (w : ℕ) → ∥ Agrees key words bytes v ∥₁ → w < 8 * key.children → get_or words (bits_place key w) 0 < 2 ^ 64
+pub word_low : (key : Key) (words bytes : List ℕ) (v : View) (w : ℕ) → ∥ Agrees key words bytes v ∥₁
+    → w < 8 * key.children → get_or words (bits_place key w) 0 < 2 ^ 64
 word_low key words bytes v w agrees inside = ∥∥₁_elim agrees le_prop (word_at key words bytes v w inside)

@@ -43,7 +43,8 @@ module _ (key : Key) (old new : List ℕ) (r : IsRebuilt key old new) (i : AreIn
   set_stays : (c : ℕ) → c < key.children → huge_of old c ≡ 0 → set_of key new c ≡ set_of key old c
   set_stays c h e =
       sym (bits_of_child key new r.in_range c h)
-      ∙ range_same (bit_of key old) (bit_of key new) (512 * c) 512 (λ d l q. bit_stays d (omega arith) (ap (huge_of old) (child_is d (omega arith) (omega arith)) ∙ e))
+      ∙ range_same (bit_of key old) (bit_of key new) (512 * c) 512
+      (λ d l q. bit_stays d (omega arith) (ap (huge_of old) (child_is d (omega arith) (omega arith)) ∙ e))
       ∙ bits_of_child key old i c h
     where
       child_is : (d : ℕ) → 512 * c ≤ d → d < 512 * c + 512 → d / 64 / 8 ≡ c

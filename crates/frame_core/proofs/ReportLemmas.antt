@@ -21,10 +21,16 @@ use Rattle.std.proofs.Math.Nat.{pow-suc}
 range_shift : (f : ℕ → ℕ) (a n : ℕ) → sum_by f (range_with_len (a + 1) n) ≡ sum_by (λ i. f (i + 1)) (range_with_len a n)
 range_shift f a zero = refl
 range_shift f a (suc n) =
-    omega (arith, sum_by-cons f (a + 1) (range_with_len (a + 1 + 1) n), sum_by-cons (λ i. f (i + 1)) a (range_with_len (a + 1) n), range_shift f (a + 1) n)
+    omega (
+      arith,
+      sum_by-cons f (a + 1) (range_with_len (a + 1 + 1) n),
+      sum_by-cons (λ i. f (i + 1)) a (range_with_len (a + 1) n),
+      range_shift f (a + 1) n,
+    )
 
 -- a range is its first part and the rest
-pub range_split : (f : ℕ → ℕ) (a m n : ℕ) → sum_by f (range_with_len a (m + n)) ≡ sum_by f (range_with_len a m) + sum_by f (range_with_len (a + m) n)
+pub range_split : (f : ℕ → ℕ) (a m n : ℕ)
+    → sum_by f (range_with_len a (m + n)) ≡ sum_by f (range_with_len a m) + sum_by f (range_with_len (a + m) n)
 range_split f a zero n =
     let n_is : 0 + n ≡ n = omega arith in
     let a_is : a + 0 ≡ a = omega arith in
@@ -32,7 +38,14 @@ range_split f a zero n =
 range_split f a (suc m) n =
     let n_is : suc m + n ≡ suc (m + n) = omega arith in
     let a_is : a + suc m ≡ a + 1 + m = omega arith in
-    omega (arith, ap (λ j. sum_by f (range_with_len a j)) n_is, ap (λ j. sum_by f (range_with_len j n)) a_is, sum_by-cons f a (range_with_len (a + 1) (m + n)), sum_by-cons f a (range_with_len (a + 1) m), range_split f (a + 1) m n)
+    omega (
+      arith,
+      ap (λ j. sum_by f (range_with_len a j)) n_is,
+      ap (λ j. sum_by f (range_with_len j n)) a_is,
+      sum_by-cons f a (range_with_len (a + 1) (m + n)),
+      sum_by-cons f a (range_with_len (a + 1) m),
+      range_split f (a + 1) m n,
+    )
 
 -- a range counted from its first number
 range_from : (f : ℕ → ℕ) (a n : ℕ) → sum_by f (range_with_len a n) ≡ sum_by (λ i. f (a + i)) (range_with_len 0 n)
@@ -42,10 +55,17 @@ range_from f (suc a) n =
     ap (λ j. sum_by f (range_with_len j n)) e ∙ range_shift f a n ∙ range_from (λ i. f (i + 1)) a n
     ∙ range_same (λ i. f (suc a + i)) (λ i. f (a + i + 1)) 0 n (λ d l r. ap f (omega arith))
 
-pub range_le : (f g : ℕ → ℕ) (a n : ℕ) → ((d : ℕ) → a ≤ d → d < a + n → f d ≤ g d) → sum_by f (range_with_len a n) ≤ sum_by g (range_with_len a n)
+pub range_le : (f g : ℕ → ℕ) (a n : ℕ) → ((d : ℕ) → a ≤ d → d < a + n → f d ≤ g d)
+    → sum_by f (range_with_len a n) ≤ sum_by g (range_with_len a n)
 range_le f g a zero all = omega arith
 range_le f g a (suc n) all =
-    omega (arith, sum_by-cons f a (range_with_len (a + 1) n), sum_by-cons g a (range_with_len (a + 1) n), all a (omega arith) (omega arith), range_le f g (a + 1) n (λ d l r. all d (omega arith) (omega arith)))
+    omega (
+      arith,
+      sum_by-cons f a (range_with_len (a + 1) n),
+      sum_by-cons g a (range_with_len (a + 1) n),
+      all a (omega arith) (omega arith),
+      range_le f g (a + 1) n (λ d l r. all d (omega arith) (omega arith)),
+    )
 
 pub range_ones : (a n : ℕ) → sum_by (λ _. 1) (range_with_len a n) ≡ n
 range_ones a zero = refl
@@ -57,8 +77,17 @@ range_ones a (suc n) = omega (arith, sum_by-cons (λ _. 1) a (range_with_len (a 
 sum_bits : (k n : ℕ) → n < 2 ^ k → sum_by (bit_at n) (range_with_len 0 k) ≡ ones n
 sum_bits zero n h = let e : n ≡ 0 = omega arith in omega (arith, ap ones e, ones_zero)
 sum_bits (suc k) n h =
-    let next : (d : ℕ) → bit_at n (d + 1) ≡ bit_at (n / 2) d = λ d. let e : d + 1 ≡ suc d = omega arith in ap (bit_at n) e ∙ bit_at-suc n d in
-    omega (arith, sum_by-cons (bit_at n) 0 (range_with_len 1 k), range_shift (bit_at n) 0 k, range_same (bit_at (n / 2)) (λ i. bit_at n (i + 1)) 0 k (λ d l r. next d), sum_bits k (n / 2) (omega (arith, pow-suc 2 k)), ones_step n, bit_at_lowest n)
+    let next : (d : ℕ) → bit_at n (d + 1) ≡ bit_at (n / 2) d = λ d. let e : d + 1 ≡ suc d = omega arith in
+    ap (bit_at n) e ∙ bit_at-suc n d in
+    omega (
+      arith,
+      sum_by-cons (bit_at n) 0 (range_with_len 1 k),
+      range_shift (bit_at n) 0 k,
+      range_same (bit_at (n / 2)) (λ i. bit_at n (i + 1)) 0 k (λ d l r. next d),
+      sum_bits k (n / 2) (omega (arith, pow-suc 2 k)),
+      ones_step n,
+      bit_at_lowest n,
+    )
 
 module _ (key : Key) (ws : List ℕ) (r : AreInRange key ws) where
   -- the set frames of a bit word
@@ -74,7 +103,8 @@ module _ (key : Key) (ws : List ℕ) (r : AreInRange key ws) where
       ∙ sum_bits 64 (bit_word_of key ws w) (r.bits w h)
 
   -- the set frames of bit words from w on
-  bits_of_words : (w n : ℕ) → w + n ≤ 8 * key.children → sum_by (bit_of key ws) (range_with_len (64 * w) (64 * n)) ≡ sum_by ones (take n (drop (bits_place key w) ws))
+  bits_of_words : (w n : ℕ) → w + n ≤ 8 * key.children
+      → sum_by (bit_of key ws) (range_with_len (64 * w) (64 * n)) ≡ sum_by ones (take n (drop (bits_place key w) ws))
   unfolding bits_place word_count bit_word_of
   bits_of_words w zero h = refl
   bits_of_words w (suc n) h =
@@ -86,7 +116,19 @@ module _ (key : Key) (ws : List ℕ) (r : AreInRange key ws) where
       let last : ℕ = get_or rest n 0 in
       let at : bits_place key w + n ≡ bits_place key (w + n) = omega arith in
       let word : last ≡ get_or ws (bits_place key (w + n)) 0 = rw get_or-drop (ap (λ j. get_or ws j 0) at) in
-      omega (arith, ap (λ j. sum_by (bit_of key ws) (range_with_len (64 * w) j)) sizes, range_split (bit_of key ws) (64 * w) (64 * n) 64, ap (λ j. sum_by (bit_of key ws) (range_with_len j 64)) starts, bits_of_word (w + n) (omega arith), bits_of_words w n (omega arith), ap (λ j. sum_by ones (take j rest)) e, ap (sum_by ones) (take_more rest n 0 inside), sum_by-append ones (take n rest) (last ∷ []), sum_by-cons ones last [], ap ones word)
+      omega (
+        arith,
+        ap (λ j. sum_by (bit_of key ws) (range_with_len (64 * w) j)) sizes,
+        range_split (bit_of key ws) (64 * w) (64 * n) 64,
+        ap (λ j. sum_by (bit_of key ws) (range_with_len j 64)) starts,
+        bits_of_word (w + n) (omega arith),
+        bits_of_words w n (omega arith),
+        ap (λ j. sum_by ones (take j rest)) e,
+        ap (sum_by ones) (take_more rest n 0 inside),
+        sum_by-append ones (take n rest) (last ∷ []),
+        sum_by-cons ones last [],
+        ap ones word,
+      )
 
   -- the set frames of a child, counted one by one
   pub bits_of_child : (c : ℕ) → c < key.children → sum_by (bit_of key ws) (range_with_len (512 * c) 512) ≡ set_of key ws c
@@ -108,15 +150,18 @@ module _ (key : Key) (ws : List ℕ) (r : AreInRange key ws) where
   set_of-le c h = let P : ℕ → Type 0 = λ s. s ≤ 512 in subst P (bits_of_child c h) (bits_within-le (512 * c) 512)
 
   -- frames of a child without the flag, and of one with it
-  held_within-bits : (c n : ℕ) → n ≤ 512 → huge_of ws c ≡ 0 → held_within key ws (512 * c) n ≡ sum_by (bit_of key ws) (range_with_len (512 * c) n)
+  held_within-bits : (c n : ℕ) → n ≤ 512 → huge_of ws c ≡ 0
+      → held_within key ws (512 * c) n ≡ sum_by (bit_of key ws) (range_with_len (512 * c) n)
   unfolding held_within held_at
   held_within-bits c n few e =
-      range_same (bit_of key ws) (held_at key ws) (512 * c) n (λ d l q. let child : d / 512 ≡ c = omega arith in omega (arith, e, ap (huge_of ws) child))
+      range_same (bit_of key ws) (held_at key ws) (512 * c) n (λ d l q. let child : d / 512 ≡ c = omega arith in
+      omega (arith, e, ap (huge_of ws) child))
 
   held_within-huge : (c n : ℕ) → n ≤ 512 → huge_of ws c ≡ 1 → held_within key ws (512 * c) n ≡ n
   unfolding held_within held_at
   held_within-huge c n few e =
-      range_same (λ _. 1) (held_at key ws) (512 * c) n (λ d l q. let child : d / 512 ≡ c = omega arith in omega (arith, e, ap (huge_of ws) child, bit_of-le d))
+      range_same (λ _. 1) (held_at key ws) (512 * c) n (λ d l q. let child : d / 512 ≡ c = omega arith in
+      omega (arith, e, ap (huge_of ws) child, bit_of-le d))
       ∙ range_ones (512 * c) n
 
   held_of-set : (c : ℕ) → huge_of ws c ≡ 0 → set_of key ws c ≡ held_of key ws c
@@ -144,12 +189,21 @@ module _ (key : Key) (ws : List ℕ) (r : AreInRange key ws) where
   held_within-none a = refl
 
   -- the held frames of children from c on
-  pub held_within-children : (c n : ℕ) → c + n ≤ key.children → held_within key ws (512 * c) (512 * n) ≡ sum_by (held_of key ws) (range_with_len c n)
+  pub held_within-children : (c n : ℕ) → c + n ≤ key.children
+      → held_within key ws (512 * c) (512 * n) ≡ sum_by (held_of key ws) (range_with_len c n)
   held_within-children c zero h = held_within-none (512 * c)
   held_within-children c (suc n) h =
       let sizes : 512 * suc n ≡ 512 + 512 * n = omega arith in
       let starts : 512 * c + 512 ≡ 512 * (c + 1) = omega arith in
-      omega (arith, ap (held_within key ws (512 * c)) sizes, held_within-split (512 * c) 512 (512 * n), ap (λ j. held_within key ws j (512 * n)) starts, held_within-child c (omega arith), held_within-children (c + 1) n (omega arith), sum_by-cons (held_of key ws) c (range_with_len (c + 1) n))
+      omega (
+        arith,
+        ap (held_within key ws (512 * c)) sizes,
+        held_within-split (512 * c) 512 (512 * n),
+        ap (λ j. held_within key ws j (512 * n)) starts,
+        held_within-child c (omega arith),
+        held_within-children (c + 1) n (omega arith),
+        sum_by-cons (held_of key ws) c (range_with_len (c + 1) n),
+      )
 
   -- the held frames of a tree, counted one by one
   pub held_frames_of-tree : (t : ℕ) → t < tree_count key → held_frames_of key ws t ≡ held_in_tree key ws t

@@ -33,18 +33,25 @@ module _ (key : Key) (shares : ℕ) (new : List ℕ) (es : List Eye) (id : ℕ) 
   two_eyes : (w u : Eye) → Fit key shares new (set (seen_views es) id w.view ++ u.view ∷ [])
       → Fit key shares new (seen_views (set es id w ++ u ∷ []))
   two_eyes w u fit =
-      subst (Fit key shares new) (sym (map-append view_of_eye (set es id w) (u ∷ []) ∙ ap (λ (vs : List View). vs ++ u.view ∷ []) (map-set view_of_eye es id w))) fit
+      subst (Fit key shares new)
+      (sym (map-append view_of_eye (set es id w) (u ∷ [])
+      ∙ ap (λ (vs : List View). vs ++ u.view ∷ []) (map-set view_of_eye es id w))) fit
 
   one_gone : (other : ℕ) (w u : Eye) → Fit key shares new (set (set (seen_views es) id w.view) other u.view)
       → Fit key shares new (seen_views (set (set es id w) other u))
   one_gone other w u fit =
-      subst (Fit key shares new) (sym (map-set view_of_eye (set es id w) other u ∙ ap (λ (vs : List View). set vs other u.view) (map-set view_of_eye es id w))) fit
+      subst (Fit key shares new)
+      (sym (map-set view_of_eye (set es id w) other u
+      ∙ ap (λ (vs : List View). set vs other u.view) (map-set view_of_eye es id w))) fit
 
 -- one event
 pub event_fits : (key : Key) (shares : ℕ) (s : State) (event : Event) (t : State) → Fits key shares s
     → Happens key s event t → Fits key shares t
 event_fits key shares s (loads id word) t fit (e, at, about, inside, is) =
-    lands_on key shares (record { words = s.words; eyes = set s.eyes id (eye (after_load next e.view) (sighting word (Some (get_or s.words word 0)) ∷ e.read)) }) t is
+    lands_on key shares (record {
+      words = s.words;
+      eyes = set s.eyes id (eye (after_load next e.view) (sighting word (Some (get_or s.words word 0)) ∷ e.read));
+    }) t is
     (one_eye key shares s.words s.eyes id (eye (after_load next e.view) (sighting word (Some (get_or s.words word 0)) ∷ e.read))
     (look_keeps key shares s.words (views_of s) id e.view fit (at_map view_of_eye s.eyes id e at) (next e.view.moves) e.view.lost about))
 event_fits key shares s (makes id kind) t fit (e, at, may, made, is) =
@@ -58,25 +65,30 @@ event_fits key shares s (loses id kind) t fit (e, at, may, exchange, differs, is
     let there = at_map view_of_eye s.eyes id e at in
     lands_on key shares (record { words = s.words; eyes = set s.eyes id (loser key e kind found) }) t is
     (one_eye key shares s.words s.eyes id (loser key e kind found)
-    (look_keeps key shares s.words (views_of s) id e.view fit there (next e.view.moves) (next e.view.lost) (named key e.view (view_of key shares s.words (views_of s) id e.view fit there) may.share)))
+    (look_keeps key shares s.words (views_of s) id e.view fit there (next e.view.moves) (next e.view.lost)
+    (named key e.view (view_of key shares s.words (views_of s) id e.view fit there) may.share)))
 event_fits key shares s (loses_at_will id kind) t fit (e, at, may, exchange, is) =
     let found : ℕ = get_or s.words (place key kind) 0 in
     let there = at_map view_of_eye s.eyes id e at in
     lands_on key shares (record { words = s.words; eyes = set s.eyes id (loser key e kind found) }) t is
     (one_eye key shares s.words s.eyes id (loser key e kind found)
-    (look_keeps key shares s.words (views_of s) id e.view fit there (next e.view.moves) (next e.view.lost) (named key e.view (view_of key shares s.words (views_of s) id e.view fit there) may.share)))
+    (look_keeps key shares s.words (views_of s) id e.view fit there (next e.view.moves) (next e.view.lost)
+    (named key e.view (view_of key shares s.words (views_of s) id e.view fit there) may.share)))
 event_fits key shares s (cuts id cut) t fit (e, at, may, is) =
     let w : Eye = eye (left_by next cut e.view) e.read in
     let u : Eye = eye (right_by cut e.view) [] in
     lands_on key shares (record { words = s.words; eyes = set s.eyes id w ++ u ∷ [] }) t is
-    (two_eyes key shares s.words s.eyes id w u (seat_cut_keeps next key shares s.words (views_of s) id e.view fit (at_map view_of_eye s.eyes id e at) cut may))
+    (two_eyes key shares s.words s.eyes id w u
+    (seat_cut_keeps next key shares s.words (views_of s) id e.view fit (at_map view_of_eye s.eyes id e at) cut may))
 event_fits key shares s (joins id other join) t fit (e, o, at, apart, there, may, is) =
     let w : Eye = eye (joined_by next join e.view o.view) e.read in
     lands_on key shares (record { words = s.words; eyes = set (set s.eyes id w) other (eye spent []) }) t is
     (one_gone key shares s.words s.eyes id other w (eye spent [])
-    (seat_join_keeps next key shares s.words (views_of s) id e.view fit (at_map view_of_eye s.eyes id e at) other o.view apart (at_map view_of_eye s.eyes other o there) join may))
+    (seat_join_keeps next key shares s.words (views_of s) id e.view fit
+    (at_map view_of_eye s.eyes id e at) other o.view apart (at_map view_of_eye s.eyes other o there) join may))
 
 -- every list of events
 pub every_run_fits : EveryRunFits
 every_run_fits key shares s [] t fit is = lands_on key shares s t is fit
-every_run_fits key shares s (event ∷ events) t fit (mid, first, others) = every_run_fits key shares mid events t (event_fits key shares s event mid fit first) others
+every_run_fits key shares s (event ∷ events) t fit (mid, first, others) =
+    every_run_fits key shares mid events t (event_fits key shares s event mid fit first) others

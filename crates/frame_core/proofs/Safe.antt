@@ -82,7 +82,8 @@ unfolding blocks_of
 are_blocks key [] all = λ k d h. absurd (omega arith)
 are_blocks key (v ∷ vs) all =
     let i : IsViewOf key v = All-head (IsViewOf key) v vs all in
-    All-append (IsBlock key) v.own (v.kept ++ blocks_of vs) i.own (All-append (IsBlock key) v.kept (blocks_of vs) i.kept (are_blocks key vs (All-tail (IsViewOf key) v vs all)))
+    All-append (IsBlock key) v.own (v.kept ++ blocks_of vs) i.own
+    (All-append (IsBlock key) v.kept (blocks_of vs) i.kept (are_blocks key vs (All-tail (IsViewOf key) v vs all)))
 
 pub boot_are_blocks : (key : Key) → All (IsBlock key) (boot_blocks key)
 unfolding boot_blocks
@@ -131,7 +132,11 @@ module _ (key : Key) (shares : ℕ) (ws : List ℕ) (vs : List View) (fit : Fit 
 
   pub safe : IsSafe key ws vs
   safe = record {
-    held = record { blocks = holding_blocks; disjoint = λ x. ⊎_elim (λ h. once x h) (λ h. omega (arith, none_outside key x (holding_of key vs) holding_blocks h)) (cases_lt x (frame_count key)) };
+    held = record {
+      blocks = holding_blocks;
+      disjoint = λ x. ⊎_elim (λ h. once x h)
+          (λ h. omega (arith, none_outside key x (holding_of key vs) holding_blocks h)) (cases_lt x (frame_count key));
+    };
     entries = λ c h. omega (arith, fit.entries_add_up c h, held_is key ws c);
     huge = λ c h q. omega (arith, fit.entries_add_up c h, held_is key ws c);
     trees = λ t h. omega (arith, fit.trees_add_up t h);

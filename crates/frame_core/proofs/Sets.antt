@@ -1,5 +1,5 @@
 -- How many frames of a child are set, by its bits: one, none, or all.
-use Rattle.std.proofs.Common.{◌≡◌, ℕ, zero, suc, ◌+◌, ◌-◌, ◌*◌, ◌/◌, ◌%◌, ◌^◌, ◌<◌, ◌≤◌, List, [], ◌∷◌, length, get_or, take, drop, refl, ap, arith, length-take, length-drop, get_or-take, get_or-drop}
+use Rattle.std.proofs.Common.{◌≡◌, ℕ, zero, suc, ◌+◌, ◌-◌, ◌*◌, ◌/◌, ◌%◌, ◌^◌, ◌<◌, ◌≤◌, List, [], ◌∷◌, length, get_or, take, drop, refl, ap, ◌∙◌, arith, length-take, length-drop, get_or-take, get_or-drop}
 use Rattle.std.specs.List.{sum_by, All}
 use Rattle.std.specs.Int.{bit_at}
 use Rattle.std.specs.Int.Bits.{bit_or}
@@ -52,6 +52,27 @@ eight_length : (key : Key) (ws : List ℕ) (c : ℕ) → length ws ≡ word_coun
 unfolding eight
 eight_length key ws c l h = simp (length-take, length-drop) (omega (arith, room key ws c l h))
 
+sum_more : (i : ℕ) (ns : List ℕ)
+    → sum_by ones (take (suc i) ns) ≡ sum_by ones (take i ns) + ones (get_or ns i 0)
+sum_more zero [] = omega (arith, ones_zero)
+sum_more (suc i) [] = omega (arith, ones_zero)
+sum_more zero (n ∷ ns) = omega (arith, sum_by-cons ones n [])
+sum_more (suc i) (n ∷ ns) =
+    omega (arith, sum_by-cons ones n (take (suc i) ns), sum_by-cons ones n (take i ns), sum_more i ns)
+
+-- the set frames of one word more
+pub set_more : (key : Key) (ws : List ℕ) (c i : ℕ)
+    → sum_by ones (take (i + 1) (drop (bits_place key (8 * c)) ws))
+    ≡ sum_by ones (take i (drop (bits_place key (8 * c)) ws)) + ones (bit_word_of key ws (8 * c + i))
+unfolding bit_word_of
+set_more key ws c i =
+    let from : ℕ = bits_place key (8 * c) in
+    let next : i + 1 ≡ suc i = omega arith in
+    let got : get_or (drop from ws) i 0 ≡ get_or ws (from + i) 0 = rw get_or-drop refl in
+    let there : get_or ws (from + i) 0 ≡ get_or ws (bits_place key (8 * c + i)) 0 = ap (λ p. get_or ws p 0) (next_place key (8 * c) i) in
+    ap (λ j. sum_by ones (take j (drop from ws))) next ∙ sum_more i (drop from ws)
+    ∙ ap (λ n. sum_by ones (take i (drop from ws)) + ones n) (got ∙ there)
+
 -- a set frame is one of its child's
 pub bit-le-set : (key : Key) (ws : List ℕ) (x : ℕ) → length ws ≡ word_count key → x < frame_count key
     → bit_of key ws x ≤ set_of key ws (child_of x)
@@ -71,7 +92,7 @@ bit-le-set key ws x l h =
     )
 
 -- a word with none of its bits, and one with all of them
-word_none : (key : Key) (ws : List ℕ) (k : ℕ) → bit_word_of key ws k < 2 ^ 64
+pub word_none : (key : Key) (ws : List ℕ) (k : ℕ) → bit_word_of key ws k < 2 ^ 64
     → ((x : ℕ) → x / 64 ≡ k → bit_of key ws x ≡ 0) → bit_word_of key ws k ≡ 0
 word_none key ws k f none =
     same_from_bits_below 64 (bit_word_of key ws k) 0 f (omega arith)

@@ -6,6 +6,7 @@ pub mod Locals
 pub mod Marking
 pub mod Huge
 pub mod Seats
+pub mod SeatViews
 pub mod Cutting
 pub mod Joining
 pub mod Every

@@ -1,5 +1,5 @@
 -- Sums over a list when one of its elements changes, and over a range when one of its terms does.
-use Rattle.std.proofs.Common.{◌≡◌, ◌≢◌, ⊎_elim, ℕ, zero, suc, ◌+◌, ◌<◌, ◌≤◌, List, [], ◌∷◌, length, get_or, set, subst, refl, ap, sym, arith}
+use Rattle.std.proofs.Common.{◌≡◌, ◌≢◌, ⊎_elim, ℕ, zero, suc, ◌+◌, ◌<◌, ◌≤◌, List, [], ◌∷◌, length, get_or, set, subst, refl, ap, sym, ◌∙◌, arith}
 use Rattle.std.specs.List.{sum_by, All, range_with_len}
 use Rattle.std.proofs.lemmas.List.Sums.{sum_by-cons}
 use Rattle.std.proofs.lemmas.List.Elements.{All-head, All-tail}
@@ -125,3 +125,25 @@ range_at f a (suc n) c l r =
     (λ e. omega (arith, sum_by-cons f a (range_with_len (a + 1) n), ap f e))
     (λ ne. omega (arith, sum_by-cons f a (range_with_len (a + 1) n), range_at f (a + 1) n c (omega arith) (omega arith)))
     (cases_eq a c)
+
+-- the sum over one number more
+pub range_more : (f : ℕ → ℕ) (a n : ℕ)
+    → sum_by f (range_with_len a (n + 1)) ≡ sum_by f (range_with_len a n) + f (a + n)
+range_more f a zero = omega (arith, sum_by-cons f a [], ap f (plus_none a))
+  where
+    plus_none : (b : ℕ) → b + 0 ≡ b
+    plus_none b = omega arith
+range_more f a (suc n) =
+    let first : sum_by f (range_with_len a (suc n + 1)) ≡ f a + sum_by f (range_with_len (a + 1) (n + 1)) =
+    ap (λ m. sum_by f (range_with_len a m)) (more n) ∙ sum_by-cons f a (range_with_len (a + 1) (n + 1)) in
+    let place : a + 1 + n ≡ a + suc n = omega arith in
+    omega (
+      arith,
+      first,
+      sum_by-cons f a (range_with_len (a + 1) n),
+      range_more f (a + 1) n,
+      ap f place,
+    )
+  where
+    more : (m : ℕ) → suc m + 1 ≡ suc (m + 1)
+    more m = omega arith

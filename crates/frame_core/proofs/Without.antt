@@ -31,11 +31,21 @@ same_is b d e = ap (λ f. block f b.order) (same_frame b d e) ∙ ap (λ o. bloc
 
 times_here : (b d : FrameBlock) (blocks : List FrameBlock) → is_same b d ≡ true → times b (d ∷ blocks) ≡ suc (times b blocks)
 unfolding times
-times_here b d blocks e = omega (arith, sum_by-cons (λ (k : FrameBlock). if is_same b k then 1 else 0) d blocks, ap (λ (z : Bool). cond {A = ℕ} z 1 0) e)
+times_here b d blocks e =
+    omega (
+      arith,
+      sum_by-cons (λ (k : FrameBlock). if is_same b k then 1 else 0) d blocks,
+      ap (λ (z : Bool). cond {A = ℕ} z 1 0) e,
+    )
 
 times_else : (b d : FrameBlock) (blocks : List FrameBlock) → is_same b d ≡ false → times b (d ∷ blocks) ≡ times b blocks
 unfolding times
-times_else b d blocks e = omega (arith, sum_by-cons (λ (k : FrameBlock). if is_same b k then 1 else 0) d blocks, ap (λ (z : Bool). cond {A = ℕ} z 1 0) e)
+times_else b d blocks e =
+    omega (
+      arith,
+      sum_by-cons (λ (k : FrameBlock). if is_same b k then 1 else 0) d blocks,
+      ap (λ (z : Bool). cond {A = ℕ} z 1 0) e,
+    )
 
 times_none : (b : FrameBlock) → times b [] ≡ 0
 unfolding times
@@ -78,12 +88,19 @@ times_all P b (d ∷ blocks) are h =
     (true_or_false (is_same b d))
 
 -- every sum over a list loses what the block adds to it
-sum_less : (f : FrameBlock → ℕ) (b : FrameBlock) (blocks : List FrameBlock) → 0 < times b blocks → sum_by f (less_one b blocks) + f b ≡ sum_by f blocks
+sum_less : (f : FrameBlock → ℕ) (b : FrameBlock) (blocks : List FrameBlock) → 0 < times b blocks
+    → sum_by f (less_one b blocks) + f b ≡ sum_by f blocks
 sum_less f b [] h = absurd (omega (arith, times_none b))
 sum_less f b (d ∷ blocks) h =
     ⊎_elim
     (λ e. omega (arith, ap (sum_by f) (less_here b d blocks e), ap f (same_is b d e), sum_by-cons f d blocks))
-    (λ e. omega (arith, ap (sum_by f) (less_else b d blocks e), sum_by-cons f d blocks, sum_by-cons f d (less_one b blocks), sum_less f b blocks (omega (arith, times_else b d blocks e))))
+    (λ e. omega (
+      arith,
+      ap (sum_by f) (less_else b d blocks e),
+      sum_by-cons f d blocks,
+      sum_by-cons f d (less_one b blocks),
+      sum_less f b blocks (omega (arith, times_else b d blocks e)),
+    ))
     (true_or_false (is_same b d))
 
 less_all : (P : FrameBlock → Type 0) (b : FrameBlock) (blocks : List FrameBlock) → All P blocks → All P (less_one b blocks)
@@ -92,7 +109,8 @@ less_all P b [] are = are
 less_all P b (d ∷ blocks) are =
     ⊎_elim
     (λ e. subst (All P) (sym (less_here b d blocks e)) (All-tail P d blocks are))
-    (λ e. subst (All P) (sym (less_else b d blocks e)) (All-cons P d (less_one b blocks) (All-head P d blocks are) (less_all P b blocks (All-tail P d blocks are))))
+    (λ e. subst (All P) (sym (less_else b d blocks e))
+    (All-cons P d (less_one b blocks) (All-head P d blocks are) (less_all P b blocks (All-tail P d blocks are))))
     (true_or_false (is_same b d))
 
 -- a block that stands in a list of blocks of the key is one
@@ -100,7 +118,8 @@ pub times_blocks : (key : Key) (b : FrameBlock) (blocks : List FrameBlock) → A
 times_blocks key b blocks are h = times_all (IsBlock key) b blocks are h
 
 -- the list without a block that stands in it
-pub less_one_leaves : (key : Key) (b : FrameBlock) (blocks : List FrameBlock) → All (IsBlock key) blocks → 0 < times b blocks → Leaves key blocks b (less_one b blocks)
+pub less_one_leaves : (key : Key) (b : FrameBlock) (blocks : List FrameBlock) → All (IsBlock key) blocks
+    → 0 < times b blocks → Leaves key blocks b (less_one b blocks)
 unfolding smalls wholes
 less_one_leaves key b blocks are h = record {
   smalls = λ x. sum_less (small_at x) b blocks h;
@@ -148,11 +167,13 @@ suc_stays : (b : FrameBlock) (o f : ℕ) → is_apart b (block f (suc o)) ≡ tr
 unfolding remains
 suc_stays b o f e = rw e refl
 
-suc_gone : (b : FrameBlock) (o f : ℕ) → is_apart b (block f (suc o)) ≡ false → is_inside b (block f (suc o)) ≡ true → remains b (suc o) f ≡ []
+suc_gone : (b : FrameBlock) (o f : ℕ) → is_apart b (block f (suc o)) ≡ false → is_inside b (block f (suc o)) ≡ true
+    → remains b (suc o) f ≡ []
 unfolding remains
 suc_gone b o f e i = rw (e, i) refl
 
-suc_halves : (b : FrameBlock) (o f : ℕ) → is_apart b (block f (suc o)) ≡ false → is_inside b (block f (suc o)) ≡ false → remains b (suc o) f ≡ remains b o f ++ remains b o (f + 2 ^ o)
+suc_halves : (b : FrameBlock) (o f : ℕ) → is_apart b (block f (suc o)) ≡ false → is_inside b (block f (suc o)) ≡ false
+    → remains b (suc o) f ≡ remains b o f ++ remains b o (f + 2 ^ o)
 unfolding remains
 suc_halves b o f e i = rw (e, i) refl
 
@@ -166,7 +187,8 @@ data Meets (b : FrameBlock) (o f : ℕ) : Type 0 where
   halved : is_apart b (block f (suc o)) ≡ false → is_inside b (block f (suc o)) ≡ false → Meets b o f
 
 meets : (b : FrameBlock) (o f : ℕ) → Meets b o f
-meets b o f = ⊎_elim stays (λ e. ⊎_elim (goes e) (halved e) (true_or_false (is_inside b (block f (suc o))))) (true_or_false (is_apart b (block f (suc o))))
+meets b o f = ⊎_elim stays (λ e. ⊎_elim (goes e) (halved e) (true_or_false (is_inside b (block f (suc o)))))
+    (true_or_false (is_apart b (block f (suc o))))
 
 -- no frame of the block remains
 remains_in : (b : FrameBlock) (x : ℕ) → covers b x ≡ 1 → (o f : ℕ) → smalls x (remains b o f) ≡ 0
@@ -174,13 +196,33 @@ remains_in b x h zero f = by (one_or_none b f)
   where
     by : (covers b f ≡ 1) ⊎ (covers b f ≡ 0) → smalls x (remains b zero f) ≡ 0
     by (inl e) = omega (arith, ap (smalls x) (zero_gone b f e), smalls_none x)
-    by (inr e) = omega (arith, ap (smalls x) (zero_stays b f e), smalls_cons x (block f 0) [], smalls_none x, other_frame f x (λ s. omega (arith, ap (covers b) s)))
+    by (inr e) = omega (
+      arith,
+      ap (smalls x) (zero_stays b f e),
+      smalls_cons x (block f 0) [],
+      smalls_none x,
+      other_frame f x (λ s. omega (arith, ap (covers b) s)),
+    )
 remains_in b x h (suc o) f = by (remains_in b x h o f) (remains_in b x h o (f + 2 ^ o)) (meets b o f)
   where
     by : smalls x (remains b o f) ≡ 0 → smalls x (remains b o (f + 2 ^ o)) ≡ 0 → Meets b o f → smalls x (remains b (suc o) f) ≡ 0
-    by first second (stays e) = omega (arith, ap (smalls x) (suc_stays b o f e), smalls_cons x (block f (suc o)) [], smalls_none x, apart_small b (block f (suc o)) x e h)
+    by first second (stays e) =
+        omega (
+          arith,
+          ap (smalls x) (suc_stays b o f e),
+          smalls_cons x (block f (suc o)) [],
+          smalls_none x,
+          apart_small b (block f (suc o)) x e h,
+        )
     by first second (goes e i) = omega (arith, ap (smalls x) (suc_gone b o f e i), smalls_none x)
-    by first second (halved e i) = omega (arith, ap (smalls x) (suc_halves b o f e i), smalls_both x (remains b o f) (remains b o (f + 2 ^ o)), first, second)
+    by first second (halved e i) =
+        omega (
+          arith,
+          ap (smalls x) (suc_halves b o f e i),
+          smalls_both x (remains b o f) (remains b o (f + 2 ^ o)),
+          first,
+          second,
+        )
 
 -- all other frames do
 remains_out : (b : FrameBlock) (x : ℕ) → covers b x ≡ 0 → (o f : ℕ) → o < 9 → smalls x (remains b o f) ≡ small_at x (block f o)
@@ -191,10 +233,20 @@ remains_out b x h zero f low = by (one_or_none b f)
     by (inr e) = omega (arith, ap (smalls x) (zero_stays b f e), smalls_cons x (block f 0) [], smalls_none x)
 remains_out b x h (suc o) f low = by (remains_out b x h o f (omega arith)) (remains_out b x h o (f + 2 ^ o) (omega arith)) (meets b o f)
   where
-    by : smalls x (remains b o f) ≡ small_at x (block f o) → smalls x (remains b o (f + 2 ^ o)) ≡ small_at x (block (f + 2 ^ o) o) → Meets b o f → smalls x (remains b (suc o) f) ≡ small_at x (block f (suc o))
+    by : smalls x (remains b o f) ≡ small_at x (block f o)
+        → smalls x (remains b o (f + 2 ^ o)) ≡ small_at x (block (f + 2 ^ o) o) → Meets b o f
+        → smalls x (remains b (suc o) f) ≡ small_at x (block f (suc o))
     by first second (stays e) = omega (arith, ap (smalls x) (suc_stays b o f e), smalls_cons x (block f (suc o)) [], smalls_none x)
     by first second (goes e i) = omega (arith, ap (smalls x) (suc_gone b o f e i), smalls_none x, inside_small b (block f (suc o)) x i h)
-    by first second (halved e i) = omega (arith, ap (smalls x) (suc_halves b o f e i), smalls_both x (remains b o f) (remains b o (f + 2 ^ o)), first, second, halves x f o (omega arith))
+    by first second (halved e i) =
+        omega (
+          arith,
+          ap (smalls x) (suc_halves b o f e i),
+          smalls_both x (remains b o f) (remains b o (f + 2 ^ o)),
+          first,
+          second,
+          halves x f o (omega arith),
+        )
 
 -- what remains is no whole child
 remains_whole : (b : FrameBlock) (c o f : ℕ) → o < 9 → wholes c (remains b o f) ≡ 0
@@ -206,9 +258,23 @@ remains_whole b c zero f low = by (one_or_none b f)
 remains_whole b c (suc o) f low = by (remains_whole b c o f (omega arith)) (remains_whole b c o (f + 2 ^ o) (omega arith)) (meets b o f)
   where
     by : wholes c (remains b o f) ≡ 0 → wholes c (remains b o (f + 2 ^ o)) ≡ 0 → Meets b o f → wholes c (remains b (suc o) f) ≡ 0
-    by first second (stays e) = omega (arith, ap (wholes c) (suc_stays b o f e), wholes_cons c (block f (suc o)) [], wholes_none c, not_whole c (block f (suc o)) low)
+    by first second (stays e) =
+        omega (
+          arith,
+          ap (wholes c) (suc_stays b o f e),
+          wholes_cons c (block f (suc o)) [],
+          wholes_none c,
+          not_whole c (block f (suc o)) low,
+        )
     by first second (goes e i) = omega (arith, ap (wholes c) (suc_gone b o f e i), wholes_none c)
-    by first second (halved e i) = omega (arith, ap (wholes c) (suc_halves b o f e i), wholes_both c (remains b o f) (remains b o (f + 2 ^ o)), first, second)
+    by first second (halved e i) =
+        omega (
+          arith,
+          ap (wholes c) (suc_halves b o f e i),
+          wholes_both c (remains b o f) (remains b o (f + 2 ^ o)),
+          first,
+          second,
+        )
 
 -- a multiple of a power of 2 is one of the power before, and so is the number half way on
 half_aligned : (o f : ℕ) → o < 8 → f % 2 ^ suc o ≡ 0 → (f % 2 ^ o ≡ 0) × ((f + 2 ^ o) % 2 ^ o ≡ 0)
@@ -224,10 +290,12 @@ half_aligned (suc (suc (suc (suc (suc (suc (suc (suc o)))))))) f h e = absurd (o
 
 -- the halves of a block are blocks
 lower_half : (key : Key) (o f : ℕ) → o < 8 → IsBlock key (block f (suc o)) → IsBlock key (block f o)
-lower_half key o f h is = record { order = omega arith; aligned = (half_aligned o f h is.aligned).0; inside = omega (arith, is.inside, pow-suc 2 o) }
+lower_half key o f h is =
+    record { order = omega arith; aligned = (half_aligned o f h is.aligned).0; inside = omega (arith, is.inside, pow-suc 2 o) }
 
 upper_half : (key : Key) (o f : ℕ) → o < 8 → IsBlock key (block f (suc o)) → IsBlock key (block (f + 2 ^ o) o)
-upper_half key o f h is = record { order = omega arith; aligned = (half_aligned o f h is.aligned).1; inside = omega (arith, is.inside, pow-suc 2 o) }
+upper_half key o f h is =
+    record { order = omega arith; aligned = (half_aligned o f h is.aligned).1; inside = omega (arith, is.inside, pow-suc 2 o) }
 
 remains_blocks : (key : Key) (b : FrameBlock) (o f : ℕ) → o < 9 → IsBlock key (block f o) → All (IsBlock key) (remains b o f)
 remains_blocks key b zero f low is = by (one_or_none b f)
@@ -236,12 +304,18 @@ remains_blocks key b zero f low is = by (one_or_none b f)
     by (inl e) = subst (All (IsBlock key)) (sym (zero_gone b f e)) (All-nil (IsBlock key))
     by (inr e) = subst (All (IsBlock key)) (sym (zero_stays b f e)) (All-cons (IsBlock key) (block f 0) [] is (All-nil (IsBlock key)))
 remains_blocks key b (suc o) f low is =
-    by (remains_blocks key b o f (omega arith) (lower_half key o f (omega arith) is)) (remains_blocks key b o (f + 2 ^ o) (omega arith) (upper_half key o f (omega arith) is)) (meets b o f)
+    by (remains_blocks key b o f (omega arith) (lower_half key o f (omega arith) is))
+    (remains_blocks key b o (f + 2 ^ o) (omega arith) (upper_half key o f (omega arith) is)) (meets b o f)
   where
-    by : All (IsBlock key) (remains b o f) → All (IsBlock key) (remains b o (f + 2 ^ o)) → Meets b o f → All (IsBlock key) (remains b (suc o) f)
-    by first second (stays e) = subst (All (IsBlock key)) (sym (suc_stays b o f e)) (All-cons (IsBlock key) (block f (suc o)) [] is (All-nil (IsBlock key)))
+    by : All (IsBlock key) (remains b o f) → All (IsBlock key) (remains b o (f + 2 ^ o)) → Meets b o f
+        → All (IsBlock key) (remains b (suc o) f)
+    by first second (stays e) =
+        subst (All (IsBlock key)) (sym (suc_stays b o f e))
+        (All-cons (IsBlock key) (block f (suc o)) [] is (All-nil (IsBlock key)))
     by first second (goes e i) = subst (All (IsBlock key)) (sym (suc_gone b o f e i)) (All-nil (IsBlock key))
-    by first second (halved e i) = subst (All (IsBlock key)) (sym (suc_halves b o f e i)) (All-append (IsBlock key) (remains b o f) (remains b o (f + 2 ^ o)) first second)
+    by first second (halved e i) =
+        subst (All (IsBlock key)) (sym (suc_halves b o f e i))
+        (All-append (IsBlock key) (remains b o f) (remains b o (f + 2 ^ o)) first second)
 
 -- The same of whole lists.
 
@@ -283,20 +357,39 @@ remainder_blocks key b d is =
 
 all_in : (b : FrameBlock) (x : ℕ) → covers b x ≡ 1 → (blocks : List FrameBlock) → smalls x (flat_map (remainder b) blocks) ≡ 0
 all_in b x h [] = smalls_none x
-all_in b x h (d ∷ blocks) = omega (arith, smalls_both x (remainder b d) (flat_map (remainder b) blocks), remainder_in b d x h, all_in b x h blocks)
+all_in b x h (d ∷ blocks) =
+    omega (arith, smalls_both x (remainder b d) (flat_map (remainder b) blocks), remainder_in b d x h, all_in b x h blocks)
 
-all_out : (b : FrameBlock) (x : ℕ) → covers b x ≡ 0 → (blocks : List FrameBlock) → smalls x (flat_map (remainder b) blocks) ≡ smalls x blocks
+all_out : (b : FrameBlock) (x : ℕ) → covers b x ≡ 0 → (blocks : List FrameBlock)
+    → smalls x (flat_map (remainder b) blocks) ≡ smalls x blocks
 all_out b x h [] = refl
-all_out b x h (d ∷ blocks) = omega (arith, smalls_both x (remainder b d) (flat_map (remainder b) blocks), remainder_out b d x h, all_out b x h blocks, smalls_cons x d blocks)
+all_out b x h (d ∷ blocks) =
+    omega (
+      arith,
+      smalls_both x (remainder b d) (flat_map (remainder b) blocks),
+      remainder_out b d x h,
+      all_out b x h blocks,
+      smalls_cons x d blocks,
+    )
 
 all_whole : (b : FrameBlock) (c : ℕ) (blocks : List FrameBlock) → wholes c (flat_map (remainder b) blocks) ≡ wholes c blocks
 all_whole b c [] = refl
-all_whole b c (d ∷ blocks) = omega (arith, wholes_both c (remainder b d) (flat_map (remainder b) blocks), remainder_whole b d c, all_whole b c blocks, wholes_cons c d blocks)
+all_whole b c (d ∷ blocks) =
+    omega (
+      arith,
+      wholes_both c (remainder b d) (flat_map (remainder b) blocks),
+      remainder_whole b d c,
+      all_whole b c blocks,
+      wholes_cons c d blocks,
+    )
 
-all_blocks : (key : Key) (b : FrameBlock) (blocks : List FrameBlock) → All (IsBlock key) blocks → All (IsBlock key) (flat_map (remainder b) blocks)
+all_blocks : (key : Key) (b : FrameBlock) (blocks : List FrameBlock) → All (IsBlock key) blocks
+    → All (IsBlock key) (flat_map (remainder b) blocks)
 all_blocks key b [] are = are
 all_blocks key b (d ∷ blocks) are =
-    All-append (IsBlock key) (remainder b d) (flat_map (remainder b) blocks) (remainder_blocks key b d (All-head (IsBlock key) d blocks are)) (all_blocks key b blocks (All-tail (IsBlock key) d blocks are))
+    All-append (IsBlock key) (remainder b d) (flat_map (remainder b) blocks)
+    (remainder_blocks key b d (All-head (IsBlock key) d blocks are))
+    (all_blocks key b blocks (All-tail (IsBlock key) d blocks are))
 
 -- a whole child stands in a list as often as the list has it
 whole_same : (b d : FrameBlock) → b.order ≡ 9 → b.frame % 512 ≡ 0 → is_same b d ≡ true → whole_at (child_of b.frame) d ≡ 1
@@ -307,7 +400,8 @@ whole_other : (b d : FrameBlock) → b.order ≡ 9 → b.frame % 512 ≡ 0 → i
 unfolding is_same whole_at
 whole_other b d o a e = let f : b.frame ≡ 512 * (b.frame / 512) = omega arith in grind (arith, nat_tests)
 
-times_whole : (b : FrameBlock) (blocks : List FrameBlock) → b.order ≡ 9 → b.frame % 512 ≡ 0 → times b blocks ≡ wholes (child_of b.frame) blocks
+times_whole : (b : FrameBlock) (blocks : List FrameBlock) → b.order ≡ 9 → b.frame % 512 ≡ 0
+    → times b blocks ≡ wholes (child_of b.frame) blocks
 times_whole b [] o a = omega (arith, times_none b, wholes_none (child_of b.frame))
 times_whole b (d ∷ blocks) o a =
     ⊎_elim
@@ -332,7 +426,8 @@ unfolding without
 without_huge b blocks h = grind (arith, nat_tests)
 
 -- a block leaves a list that has its frames
-pub without_leaves : (key : Key) (b : FrameBlock) (blocks : List FrameBlock) → IsBlock key b → All (IsBlock key) blocks → HasFrames blocks b → Leaves key blocks b (without b blocks)
+pub without_leaves : (key : Key) (b : FrameBlock) (blocks : List FrameBlock) → IsBlock key b
+    → All (IsBlock key) blocks → HasFrames blocks b → Leaves key blocks b (without b blocks)
 without_leaves key b blocks is are has = ⊎_elim low (λ h. top (omega (arith, is.order))) (cases_lt b.order 9)
   where
     low : b.order < 9 → Leaves key blocks b (without b blocks)
@@ -349,35 +444,59 @@ without_leaves key b blocks is are has = ⊎_elim low (λ h. top (omega (arith, 
     top : b.order ≡ 9 → Leaves key blocks b (without b blocks)
     top h =
         let a : b.frame % 512 ≡ 0 = first_of_child b is.aligned h in
-        subst (Leaves key blocks b) (sym (without_huge b blocks h)) (less_one_leaves key b blocks are (omega (arith, times_whole b blocks h a, has.wholes h)))
+        subst (Leaves key blocks b) (sym (without_huge b blocks h))
+        (less_one_leaves key b blocks are (omega (arith, times_whole b blocks h a, has.wholes h)))
 
 -- What is left when all frames left.
 
 -- a block of the key holds its first frame, or is the child that this lies in
 holds_its_first : (key : Key) (b : FrameBlock) → IsBlock key b → 0 < small_at b.frame b + whole_at (child_of b.frame) b
-holds_its_first key b is = ⊎_elim (λ low. omega (arith, in_block b.frame b low (omega arith) (omega (arith, pow_pos b.order)))) (λ top. omega (arith, whole_child b (omega (arith, is.order)) (first_of_child b is.aligned (omega (arith, is.order))))) (cases_lt b.order 9)
+holds_its_first key b is =
+    ⊎_elim (λ low. omega (arith, in_block b.frame b low (omega arith) (omega (arith, pow_pos b.order))))
+    (λ top. omega (
+      arith,
+      whole_child b (omega (arith, is.order)) (first_of_child b is.aligned (omega (arith, is.order))),
+    )) (cases_lt b.order 9)
 
 -- blocks that hold no frame are none
-pub nothing_left : (key : Key) (blocks : List FrameBlock) → All (IsBlock key) blocks → ((x : ℕ) → smalls x blocks ≡ 0) → ((c : ℕ) → wholes c blocks ≡ 0) → blocks ≡ []
+pub nothing_left : (key : Key) (blocks : List FrameBlock) → All (IsBlock key) blocks → ((x : ℕ) → smalls x blocks ≡ 0)
+    → ((c : ℕ) → wholes c blocks ≡ 0) → blocks ≡ []
 nothing_left key [] are small whole = refl
 nothing_left key (d ∷ blocks) are small whole =
-    absurd (omega (arith, holds_its_first key d (All-head (IsBlock key) d blocks are), smalls_cons d.frame d blocks, small d.frame, wholes_cons (child_of d.frame) d blocks, whole (child_of d.frame)))
+    absurd (omega (
+      arith,
+      holds_its_first key d (All-head (IsBlock key) d blocks are),
+      smalls_cons d.frame d blocks,
+      small d.frame,
+      wholes_cons (child_of d.frame) d blocks,
+      whole (child_of d.frame),
+    ))
 
 -- where a block leaves a list that had its frames alone, nothing is left
-pub leaves_nothing : (key : Key) (blocks : List FrameBlock) (b : FrameBlock) (rest : List FrameBlock) → Leaves key blocks b rest → ((x : ℕ) → smalls x blocks ≡ small_at x b) → ((c : ℕ) → wholes c blocks ≡ whole_at c b) → rest ≡ []
-leaves_nothing key blocks b rest l small whole = nothing_left key rest l.are_blocks (λ x. omega (arith, l.smalls x, small x)) (λ c. omega (arith, l.wholes c, whole c))
+pub leaves_nothing : (key : Key) (blocks : List FrameBlock) (b : FrameBlock) (rest : List FrameBlock)
+    → Leaves key blocks b rest → ((x : ℕ) → smalls x blocks ≡ small_at x b)
+    → ((c : ℕ) → wholes c blocks ≡ whole_at c b) → rest ≡ []
+leaves_nothing key blocks b rest l small whole =
+    nothing_left key rest l.are_blocks (λ x. omega (arith, l.smalls x, small x)) (λ c. omega (arith, l.wholes c, whole c))
 
 -- a list of one block has its frames
 one_has_frames : (key : Key) (b : FrameBlock) → IsBlock key b → HasFrames (b ∷ []) b
 one_has_frames key b is = record {
   smalls = λ low x h. omega (arith, smalls_cons x b [], smalls_none x, small_covers x b low);
-  wholes = λ top. omega (arith, wholes_cons (child_of b.frame) b [], wholes_none (child_of b.frame), whole_child b top (first_of_child b is.aligned top));
+  wholes = λ top. omega (
+    arith,
+    wholes_cons (child_of b.frame) b [],
+    wholes_none (child_of b.frame),
+    whole_child b top (first_of_child b is.aligned top),
+  );
 }
 
 -- a block alone, without itself, is nothing
 pub without_itself : (key : Key) (b : FrameBlock) → IsBlock key b → without b (b ∷ []) ≡ []
 without_itself key b is =
-    leaves_nothing key (b ∷ []) b (without b (b ∷ [])) (without_leaves key b (b ∷ []) is (All-cons (IsBlock key) b [] is (All-nil (IsBlock key))) (one_has_frames key b is)) (λ x. omega (arith, smalls_cons x b [], smalls_none x))
+    leaves_nothing key (b ∷ []) b (without b (b ∷ []))
+    (without_leaves key b (b ∷ []) is (All-cons (IsBlock key) b [] is (All-nil (IsBlock key)))
+    (one_has_frames key b is)) (λ x. omega (arith, smalls_cons x b [], smalls_none x))
     (λ c. omega (arith, wholes_cons c b [], wholes_none c))
 
 -- Worked values.

@@ -39,10 +39,12 @@ rebuilt ws = rebuilt_free one_child ws 0 ∷ rebuilt_in_tree one_child ws 0 ∷ 
 
 -- three frames are held, and the stored counter is not looked at
 three_rebuilt : rebuilt (words 0 (7 ∷ zeros 7)) ≡ 509 ∷ 509 ∷ 7 ∷ []
-unfolding rebuilt_free rebuilt_in_tree rebuilt_bits set_of ones bit_word_of bits_place huge_of entry_of entry_place flag_in lane_in lane_shift
+unfolding rebuilt_free rebuilt_in_tree rebuilt_bits set_of ones bit_word_of bits_place huge_of entry_of entry_place
+    flag_in lane_in lane_shift
 three_rebuilt = refl
 
 -- a bit beside the huge flag is cleared
 huge_rebuilt : rebuilt (words 32768 (1 ∷ zeros 7)) ≡ 0 ∷ 0 ∷ 0 ∷ []
-unfolding rebuilt_free rebuilt_in_tree rebuilt_bits set_of ones bit_word_of bits_place huge_of entry_of entry_place flag_in lane_in lane_shift
+unfolding rebuilt_free rebuilt_in_tree rebuilt_bits set_of ones bit_word_of bits_place huge_of entry_of entry_place
+    flag_in lane_in lane_shift
 huge_rebuilt = refl

@@ -14,6 +14,10 @@ key_of geometry = record {
   sealed = true;
 }
 
+-- the key of a memory whose opening holds back these ranges too
+abbrev pub sealed_key : Geometry → List (ℕ × ℕ) → Key
+sealed_key geometry ranges = record (key_of geometry) { ranges = ranges }
+
 -- the frames of all children, also those past the end
 abbrev pub frame_count : Key → ℕ
 frame_count key = 512 * key.children
@@ -61,14 +65,22 @@ AreRanges from end (range ∷ ranges) =
     (1 ≤ range.1) × (from ≤ range.0) × (range.0 + range.1 ≤ end)
     × AreRanges (range.0 + range.1) end ranges
 
--- the sizes lie within the limits, and the ranges are apart and inside
-pub record IsKey (key : Key) : Type 0 where
+-- the most ranges that an opening may hold back
+abbrev pub most_ranges : ℕ
+most_ranges = 1024
+
+-- the sizes lie within the limits
+pub record AreSizes (key : Key) : Type 0 where
   pub some_children : 1 ≤ key.children
   pub few_children : key.children ≤ 4096
   pub some_cores : 1 ≤ key.cores
   pub few_cores : key.cores ≤ 64
   pub last_child : 512 * (key.children - 1) < key.frames
   pub inside : key.frames ≤ 512 * key.children
+
+-- the sizes lie within the limits, and the ranges are apart and inside
+pub record IsKey (key : Key) : Type 0 where
+  pub sizes : AreSizes key
   pub ranges : AreRanges 0 key.frames key.ranges
-  pub few_ranges : length key.ranges ≤ 1024
+  pub few_ranges : length key.ranges ≤ most_ranges
   pub unsealed : key.sealed ≡ false → key.ranges ≡ []

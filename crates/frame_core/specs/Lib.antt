@@ -15,6 +15,7 @@ pub mod Openings
 pub mod Without
 pub mod Laws
 pub mod Moves
+pub mod Movers
 pub mod WrongSteps
 pub mod Stops
 pub mod WorkedRuns

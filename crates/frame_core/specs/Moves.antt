@@ -1,5 +1,5 @@
 -- What a mover is told and tells: which word a place is, and what a step leaves of the words.
-use Rattle.std.specs.Prelude.{◌≡◌, ◌≢◌, ℕ, ◌+◌, ◌*◌, ◌^◌, ◌<◌, ◌≤◌, List, Option, Some, IfSome, Bool, true, slice_index, slice_set}
+use Rattle.std.specs.Prelude.{◌≡◌, ◌≢◌, ℕ, ◌+◌, ◌*◌, ◌^◌, ◌<◌, ◌≤◌, List, Option, Some, IfSome, Bool, MatchBool, slice_index, slice_set}
 use Rattle.frame_words.specs.declared.geometry.Geometry.{Geometry}
 use Rattle.frame_words.specs.Words.{free_in, flag_in, lane_in, rest_in}
 use Rattle.frame_core.specs.declared.block.FrameBlock.{FrameBlock}
@@ -86,12 +86,14 @@ words_after key kind words =
 abbrev pub Changes : Key → Kind → Option (List ℕ) → Option (List ℕ) → Type 0
 Changes key kind old new = IfSome old (λ words. new ≡ Some (words_after key kind words))
 
--- where nobody steps in between, an exchange of the word as it stands is made, and the words are these
+-- where nobody steps in between, an exchange is made exactly where the word is the one that was seen:
+-- the words are then these, else as before
 abbrev pub Exchanges : Key → Kind → ℕ → Bool → Option (List ℕ) → Option (List ℕ) → Type 0
 Exchanges key kind seen made old new =
     IfSome old
-    (λ words. slice_index words (place key kind) ≡ seen
-    → (made ≡ true) × (new ≡ Some (words_after key kind words)))
+    (λ words. MatchBool made
+    ((slice_index words (place key kind) ≡ seen) × (new ≡ Some (words_after key kind words)))
+    ((slice_index words (place key kind) ≢ seen) × (new ≡ Some words)))
 
 -- a view that has a share has nothing in flight
 abbrev pub IsAtRest : View → Type 0

@@ -1,7 +1,7 @@
 -- The state of moves that one thread makes alone. No public clause cites this module.
 use Rattle.std.specs.Prelude.{◌≡◌, ℕ, pos, ◌+◌, ◌^◌, ◌<◌, ◌≤◌, List, [], ◌∷◌, length, Option, Some, Bool, false, min, slice_index, slice_index_or, nat_eq, if◌then◌else◌}
 use Rattle.std.specs.List.{sum_by, All}
-use Rattle.std.proofs.Common.{zero, suc, subst, arith}
+use Rattle.std.proofs.Common.{zero, suc, refl, subst, arith}
 use Rattle.std.proofs.Math.Logic.{∥∥₁_elim, ∥∥₁_map}
 use Rattle.std.proofs.Math.Bridge.{le_prop}
 use Rattle.std.proofs.Math.Nat.{ℕ_set}
@@ -14,12 +14,13 @@ use Rattle.frame_core.specs.declared.block.FrameBlock.{FrameBlock}
 use Rattle.frame_core.specs.declared.key.Key.{Key}
 use Rattle.frame_core.specs.declared.view.Amount.{Amount}
 use Rattle.frame_core.specs.declared.view.View.{View}
-use Rattle.frame_core.specs.Key.{key_of}
+use Rattle.frame_core.specs.Key.{key_of, AreSizes}
 use Rattle.frame_core.specs.Block.{IsBlock}
 use Rattle.frame_core.specs.View.{idle, holder, ground_with, fixed_ground, IsViewOf}
 use Rattle.frame_core.specs.Fit.{total, Fit}
 use Rattle.frame_core.specs.Openings.{held_blocks}
 use Rattle.frame_core.specs.Moves.{IsAtRest}
+use Rattle.frame_core.specs.Movers.{sizes_of, fills_none}
 
 -- the block lies below frame 2 ^ 21, as each block of any memory does
 abbrev pub IsLow : FrameBlock → Type 0
@@ -105,6 +106,20 @@ plain_outs key words bytes v b agrees out = record {
   aligned = ∥∥₁_elim agrees (ℕ_set _ _) (λ (a : Agrees key words bytes v). (out_block key words bytes v b a out).aligned);
   inside = ∥∥₁_elim agrees le_prop (λ (a : Agrees key words bytes v). (out_block key words bytes v b a out).inside);
 }
+
+-- the own view is one of the memory
+own_is : (key : Key) (words bytes : List ℕ) (v : View) → ∥ Agrees key words bytes v ∥₁ → ∥ IsViewOf key v ∥₁
+own_is key words bytes v agrees =
+    ∥∥₁_map agrees (λ (a : Agrees key words bytes v). All-head (IsViewOf key) v a.0 a.1.0.each)
+
+-- and with no block in flight it has filled no word
+pub plain_fills : (key : Key) (words bytes : List ℕ) (v : View)
+    → ∥ Agrees key words bytes v ∥₁ → v.own ≡ [] → v.filled ≡ []
+plain_fills key words bytes v agrees own = fills_none key v (own_is key words bytes v agrees) own
+
+-- the sizes are those of the geometry
+pub plain_sizes : (geometry : Geometry) (sealed : Bool) → AreSizes (plain_key geometry sealed)
+plain_sizes geometry sealed = sizes_of (plain_key geometry sealed) geometry (refl, refl, refl)
 
 none_share : (xs : List View) → sum_by (λ u. u.share) xs ≡ 0 → All IsAtRest xs
 none_share [] e = All-nil IsAtRest

@@ -1,24 +1,22 @@
 //! An image: the words of a table as plain data, with its geometry.
 
-ghost use Rattle.std.specs.Prelude.{◌≡◌, ◌+◌, ◌*◌, ◌<◌, ◌≤◌, IfOk, IfErr, slice_index, slice_set};
+ghost use Rattle.std.specs.Prelude.{◌≡◌, ◌+◌, ◌*◌, ◌<◌, ◌≤◌, slice_index, slice_set};
 ghost use Rattle.std.specs.Option.{ForSome};
 ghost use Rattle.frame_words.specs.Words.{flag, entry_word, local_word};
 ghost use Rattle.frame_core.specs.Key.{key_of, tree_count, size_of};
 ghost use Rattle.frame_core.specs.Words.{free_of, huge_of, tree_free_of, reserved_of, rest_of};
 ghost use Rattle.frame_core.specs.Words.{bit_word_of, word_count};
 ghost use Rattle.frame_core.specs.Words.{with_entry, with_tree, with_local, with_bits};
-ghost use Rattle.frame_core.specs.Image.{key_in, FitsTree, IsImage};
-ghost use Rattle.frame_core.specs.Image.{IsFreeBelow, IsAllFree, with_child};
+ghost use Rattle.frame_core.specs.Image.{key_in, FitsTree, IsImage, with_child};
 
-use super::layout::{bits_place, entry_place, local_place, tree_place, word_count};
+mod fresh;
+
+use super::layout::{bits_place, entry_place, local_place, tree_place};
 use frame_words::{
-    Fault, Geometry, entry, entry_free, entry_huge, lane, local, local_of, tree as tree_word,
-    tree_free, tree_reserved, with_lane,
+    Geometry, entry, entry_free, entry_huge, lane, local, local_of, tree as tree_word, tree_free,
+    tree_reserved, with_lane,
 };
-use std::alloc::Global;
 use std::marker::Model;
-
-const CHILD_FRAMES: u32 = 512;
 
 /// The words of an allocator that nobody is using: what each child, tree and core says.
 #[derive(Debug, Drop)]
@@ -39,19 +37,6 @@ impl Model for Image {
 }
 
 impl Image {
-    /// All frames are free, and no core has a reservation.
-    pub fn new(alloc: Global, geometry: &Geometry) -> Result<Image, Fault>
-        ensures geometry { IfOk result (λ i. i.geometry ≡ geometry.now) }
-        ensures all_free { IfOk result (λ i. IsAllFree (key_of geometry.now) i.words) }
-        ensures in_range { IfOk result (λ i. IsImage (key_of geometry.now) i.words) }
-        ensures err { IfErr result (λ e. e ≡ Fault.NoMemory) }
-    {
-        let mut image = Image::zero(alloc, *geometry)?;
-        image.count_children();
-        image.count_trees();
-        Ok(image)
-    }
-
     pub fn geometry(&self) -> Geometry
         ensures value { result ≡ self.now.geometry }
         ensures in_range { IsImage (key_in self.now) self.now.words }
@@ -207,41 +192,6 @@ impl Image {
     {
         let place = local_place(self.geometry(), core);
         self.put(place, local(rest));
-    }
-
-    // All words 0: nothing is free, and nothing is held.
-    fn zero(alloc: Global, geometry: Geometry) -> Result<Image, Fault>
-        ensures geometry { IfOk result (λ i. i.geometry ≡ geometry) }
-        ensures zero { IfOk result (λ i. IsFreeBelow (key_of geometry) i.words 0 0) }
-        ensures err { IfErr result (λ e. e ≡ Fault.NoMemory) }
-    {
-        let words = vec![in alloc; 0; word_count(geometry)]?;
-        Ok(Image { geometry, words })
-    }
-
-    // Each child counts all its frames as free.
-    fn count_children(&mut self)
-        requires { IsFreeBelow (key_in self.old) self.old.words 0 0 }
-        ensures geometry { self.new.geometry ≡ self.old.geometry }
-        ensures done { IsFreeBelow (key_in self.old) self.new.words self.old.geometry.children 0 }
-    {
-        let geometry = self.geometry();
-        for child in 0..geometry.children {
-            self.set_entry(child, CHILD_FRAMES, false);
-        }
-    }
-
-    // Each tree counts all its frames as free.
-    fn count_trees(&mut self)
-        requires { IsFreeBelow (key_in self.old) self.old.words self.old.geometry.children 0 }
-        ensures geometry { self.new.geometry ≡ self.old.geometry }
-        ensures done { IsAllFree (key_in self.old) self.new.words }
-        ensures in_range { IsImage (key_in self.old) self.new.words }
-    {
-        let geometry = self.geometry();
-        for tree in 0..geometry.trees() {
-            self.set_tree(tree, geometry.tree_size(tree), false);
-        }
     }
 
     #[inline]

@@ -11,6 +11,7 @@ ghost use Rattle.std.specs.Prelude.{
   ◌<◌,
   ◌≤◌,
   List,
+  [],
   ◌∷◌,
   Option,
   Some,
@@ -28,7 +29,7 @@ ghost use Rattle.std.specs.List.{All};
 ghost use Rattle.frame_words.specs.Words.{rest_in};
 ghost use Rattle.frame_core.specs.declared.key.Key.{Key};
 ghost use Rattle.frame_core.specs.declared.view.View.{View};
-ghost use Rattle.frame_core.specs.Key.{child_of};
+ghost use Rattle.frame_core.specs.Key.{child_of, AreSizes};
 ghost use Rattle.frame_core.specs.Block.{block, IsBlock};
 ghost use Rattle.frame_core.specs.Words.{
   entry_place,
@@ -472,6 +473,11 @@ pub trait Moves {
         → IsBlock (key m) (Self.Held.block_of b) };
 
     ghost stays_alone: { (m : Self) → alone m → undisturbed m };
+
+    ghost sizes: { (m : Self) → AreSizes (key m) };
+
+    // Who has no block in flight has filled no word.
+    ghost fills_own: { (m : Self) → (view m).own ≡ [] → (view m).filled ≡ [] };
 
     ghost counts_at_most: { (n : ℕ) → tick n ≤ n + 1 };
 

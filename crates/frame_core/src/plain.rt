@@ -7,7 +7,7 @@ mod moves;
 ghost use Rattle.std.specs.Prelude.{◌≡◌, ◌*◌, ◌<◌, ◌≤◌, true, false, vec_len, IfOk, IfErr};
 ghost use Rattle.std.specs.VecDeque.{deque_capacity};
 ghost use Rattle.frame_core.specs.Key.{key_of, frame_count};
-ghost use Rattle.frame_core.specs.Image.{IsAllFree};
+ghost use Rattle.frame_core.specs.Openings.{IsSealedOpening};
 ghost use Rattle.frame_core.specs.Rebuilt.{IsRebuilt};
 ghost use Rattle.frame_core.specs.View.{idle};
 ghost use Rattle.frame_core.specs.Words.{word_count};
@@ -52,11 +52,10 @@ pub struct PlainMoves {
 }
 
 impl PlainMoves {
-    /// Nothing is held. The last child has all of its frames.
+    /// Nothing is held but the frames past the end.
     pub fn new(alloc: Global, geometry: &Geometry) -> Result<PlainMoves, Fault>
-        requires { geometry.now.frames ≡ frame_count (key_of geometry.now) }
         ensures err { IfErr result (λ e. e ≡ Fault.NoMemory) }
-        ensures words { IfOk result (λ m. IsAllFree (key_of geometry.now) m.words.items) }
+        ensures words { IfOk result (λ m. IsSealedOpening (key_of geometry.now) m.words.items) }
         ensures idle { IfOk result (λ m.
             plain_view (plain_key m.geometry m.sealed) m.outs.items m.paid m.charged m.reserving
             m.own.items m.filled.items m.moves ≡ idle (key_of geometry.now) geometry.now.cores) }
@@ -96,6 +95,14 @@ impl PlainMoves {
     {
         let words = self.words.to_vec(alloc)?;
         Ok(Image::of_words(&self.geometry, words))
+    }
+
+    /// How many moves were made; the count stops at `2^64 - 1`. A script says by it at which move
+    /// something happens.
+    pub fn moves(&self) -> u64
+        ensures { result ≡ self.now.moves }
+    {
+        self.moves
     }
 
     fn of(

@@ -1,5 +1,8 @@
 //! An image by its readers, before and after each writer, and where the words of a table stand.
 
+mod fresh;
+mod plain;
+
 use super::*;
 use frame_words::Geometry;
 use std::test::Fail;

@@ -94,7 +94,8 @@ released = record {
     not_whole c (block 64 6) (omega arith),
     not_whole c (block 128 7) (omega arith),
   );
-  are_blocks = All-cons (IsBlock key) (block 64 6) (block 128 7 ∷ block 256 8 ∷ []) is_second (All-cons (IsBlock key) (block 128 7) (block 256 8 ∷ []) is_third second_half);
+  are_blocks = All-cons (IsBlock key) (block 64 6) (block 128 7 ∷ block 256 8 ∷ []) is_second
+      (All-cons (IsBlock key) (block 128 7) (block 256 8 ∷ []) is_third second_half);
 }
 
 -- in a memory of one child all blocks lie in it

@@ -1364,7 +1364,14 @@ step_46 = (
   refl,
   record {
     share = omega arith;
-    may = record { inside = omega arith; tree = 0; resting = 32; seen_as = refl; enough = omega arith; paid = λ d ne. count_else 0 d 32 ne };
+    may = record {
+      inside = omega arith;
+      tree = 0;
+      resting = 32;
+      seen_as = refl;
+      enough = omega arith;
+      paid = λ d ne. count_else 0 d 32 ne;
+    };
     read = refl;
   },
   refl,
@@ -1423,7 +1430,12 @@ step_48 = (
   refl,
   record {
     share = omega arith;
-    may = record { inside = omega arith; no_flag = refl; enough = omega arith; one_child = lies (λ d ne. count_none d) released.are_blocks };
+    may = record {
+      inside = omega arith;
+      no_flag = refl;
+      enough = omega arith;
+      one_child = lies (λ d ne. count_none d) released.are_blocks;
+    };
     read = refl;
   },
   refl,

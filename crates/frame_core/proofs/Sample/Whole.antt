@@ -42,11 +42,13 @@ same : (f g : ℕ → ℕ) (a n : ℕ) → list_all (λ i. nat_eq (f i) (g i)) (
 same f g a n e i l h = is_equal (f i) (g i) (checked (λ j. nat_eq (f j) (g j)) a n e i l h)
 
 in_range : AreInRange key ws
-unfolding word_count entry_place tree_place local_place bits_place entry_of free_of huge_of tree_word_of tree_free_of reserved_of local_word_of rest_of bit_word_of free_in flag_in lane_in lane_shift rest_in local_word
+unfolding word_count entry_place tree_place local_place bits_place entry_of free_of huge_of tree_word_of tree_free_of
+    reserved_of local_word_of rest_of bit_word_of free_in flag_in lane_in lane_shift rest_in local_word
 in_range = record {
   count = refl;
   anchor = λ i h. same (λ j. get_or ws j 0) (λ j. 0) 0 8 refl i (omega arith) (omega arith);
-  entry_words = λ c h. is_below (get_or ws (entry_place c) 0) (2 ^ 64) (checked (λ d. nat_lt (get_or ws (entry_place d) 0) (2 ^ 64)) 0 4 refl c (omega arith) (omega arith));
+  entry_words = λ c h. is_below (get_or ws (entry_place c) 0) (2 ^ 64)
+      (checked (λ d. nat_lt (get_or ws (entry_place d) 0) (2 ^ 64)) 0 4 refl c (omega arith) (omega arith));
   free = λ c h. omega (arith, same (free_of ws) (λ d. 0) 0 1 refl c (omega arith) (omega arith));
   huge = λ c h. omega (arith, same (huge_of ws) (λ d. 1) 0 1 refl c (omega arith) (omega arith));
   absent = λ c l h. same (entry_of ws) (λ d. 0) 1 3 refl c (omega arith) (omega arith);
@@ -54,7 +56,8 @@ in_range = record {
   reserved = λ t h. omega (arith, same (reserved_of key ws) (λ u. 0) 0 1 refl t (omega arith) (omega arith));
   locals = λ k h. one_core k h;
   rests = λ k h. no_rest k h;
-  bits = λ w h. is_below (bit_word_of key ws w) (2 ^ 64) (checked (λ v. nat_lt (bit_word_of key ws v) (2 ^ 64)) 0 8 refl w (omega arith) (omega arith));
+  bits = λ w h. is_below (bit_word_of key ws w) (2 ^ 64)
+      (checked (λ v. nat_lt (bit_word_of key ws v) (2 ^ 64)) 0 8 refl w (omega arith) (omega arith));
   between = λ i h. same (λ j. get_or ws (tree_place key 1 + j) 0) (λ j. 0) 0 7 refl i (omega arith) (omega arith);
   beside = λ k i h l m. alone k i h l m;
 }
@@ -72,7 +75,9 @@ in_range = record {
     alone (suc k) i h l m = absurd (omega arith)
 
 exact : IsRebuilt key ws ws
-unfolding word_count entry_place tree_place local_place bits_place entry_of free_of huge_of tree_word_of tree_free_of reserved_of local_word_of rest_of bit_word_of set_of free_in flag_in lane_in lane_shift rest_in local_word rebuilt_free rebuilt_in_tree rebuilt_bits
+unfolding word_count entry_place tree_place local_place bits_place entry_of free_of huge_of tree_word_of tree_free_of
+    reserved_of local_word_of rest_of bit_word_of set_of free_in flag_in lane_in lane_shift rest_in local_word
+    rebuilt_free rebuilt_in_tree rebuilt_bits
 exact = record {
   in_range = in_range;
   huge = λ c h. refl;
@@ -98,12 +103,14 @@ starts = refl
 is_key : IsKey key
 unfolding AreRanges
 is_key = record {
-  some_children = omega arith;
-  few_children = omega arith;
-  some_cores = omega arith;
-  few_cores = omega arith;
-  last_child = omega arith;
-  inside = omega arith;
+  sizes = record {
+    some_children = omega arith;
+    few_children = omega arith;
+    some_cores = omega arith;
+    few_cores = omega arith;
+    last_child = omega arith;
+    inside = omega arith;
+  };
   ranges = tt;
   few_ranges = omega arith;
   unsealed = λ e. refl;
@@ -121,5 +128,7 @@ happening = record {
   opening = record { unsealed = refl; exact = exact };
   some_held = omega (arith, ap length held);
   happens = subst (λ (s : State). Run key s events state_50) (sym starts) sample_run;
-  every_form = λ n h. is_below 0 (count_by (λ (event : Event). nat_eq (form_of event) n) events) (checked (λ m. nat_lt 0 (count_by (λ (event : Event). nat_eq (form_of event) m) events)) 0 27 refl n (omega arith) (omega arith));
+  every_form = λ n h. is_below 0 (count_by (λ (event : Event). nat_eq (form_of event) n) events)
+      (checked (λ m. nat_lt 0 (count_by (λ (event : Event). nat_eq (form_of event) m) events)) 0 27 refl n
+      (omega arith) (omega arith));
 }

@@ -51,11 +51,14 @@ module _ (t : ℕ → ℕ) (key : Key) (shares : ℕ) (ws : List ℕ) (vs : List
         free = omega (arith, free, had, fit.words_in_range.free c can.inside);
         huge = omega (arith, huge);
       })
-      (still_charging key v i share (more c n v.charged) (t v.moves) c (λ d ne. more_else c d n v.charged ne l.charged ∙ l.charged d ne) l.smalls l.wholes
-      (λ d far. more_else c d n v.charged (λ e. omega (arith, can.inside)) l.charged ∙ i.charged d far) (amount_more c n v.charged i.some_charged)))
+      (still_charging key v i share (more c n v.charged) (t v.moves) c
+      (λ d ne. more_else c d n v.charged ne l.charged ∙ l.charged d ne) l.smalls l.wholes
+      (λ d far. more_else c d n v.charged (λ e. omega (arith, can.inside)) l.charged ∙ i.charged d far)
+      (amount_more c n v.charged i.some_charged)))
 
   pub refund_keeps : (c n : ℕ) → CanRefund key v c n
-      → Fit key shares (set ws (entry_place c) (turned (refund c n) (get_or ws (entry_place c) 0))) (set vs id (effect t (refund c n) (get_or ws (entry_place c) 0) v))
+      → Fit key shares (set ws (entry_place c) (turned (refund c n) (get_or ws (entry_place c) 0)))
+      (set vs id (effect t (refund c n) (get_or ws (entry_place c) 0) v))
   refund_keeps c n can =
       let i : IsViewOf key v = view_of key shares ws vs id v fit at in
       let found : ℕ = get_or ws (entry_place c) 0 in
@@ -83,7 +86,8 @@ module _ (t : ℕ → ℕ) (key : Key) (shares : ℕ) (ws : List ℕ) (vs : List
       let below : found < 2 ^ 64 = fit.words_in_range.entry_words c (child-has-lane key c can.inside) in
       let same : lane_in found c ≡ entry_of ws c = sym (entry_of_is ws c) in
       lands key shares (with_entry ws c e) (set ws (entry_place c) ((found + n * lane_shift c) % 2 ^ 64)) (set vs id w)
-      (as_entry ws c e ((found + n * lane_shift c) % 2 ^ 64) (lane_added found c n below (omega (arith, same, small)) ∙ ap (λ m. lane_put found c (m + n)) same))
+      (as_entry ws c e ((found + n * lane_shift c) % 2 ^ 64)
+      (lane_added found c n below (omega (arith, same, small)) ∙ ap (λ m. lane_put found c (m + n)) same))
       (entry_step key shares ws vs id v fit at c e w can.inside small (record {
         wholes_here = omega (arith, huge);
         wholes_else = λ d ne. refl;
@@ -99,5 +103,6 @@ module _ (t : ℕ → ℕ) (key : Key) (shares : ℕ) (ws : List ℕ) (vs : List
         free = omega (arith, free, room);
         huge = omega (arith, huge, flag);
       })
-      (still_charging key v i share (less c n v.charged) (t v.moves) (i.one_child share).0 (λ d ne. omega (arith, less-le c d n v.charged, l.charged d ne)) l.smalls l.wholes
+      (still_charging key v i share (less c n v.charged) (t v.moves) (i.one_child share).0
+      (λ d ne. omega (arith, less-le c d n v.charged, l.charged d ne)) l.smalls l.wholes
       (λ d far. omega (arith, less-le c d n v.charged, i.charged d far)) (amount_less c n v.charged i.some_charged)))

@@ -19,21 +19,30 @@ use Rattle.frame_core.proofs.Steps.Joining.{join_idle_keeps, hand_in_keeps, keep
 module _ (t : ℕ → ℕ) (key : Key) (shares : ℕ) (ws : List ℕ) (vs : List View) (id : ℕ) (v : View)
     (fit : Fit key shares ws vs) (at : get_elem? vs id ≡ some v) where
   pub kind_keeps : (kind : Kind) → 0 < v.share → May key kind v → IsMade kind (get_or ws (place key kind) 0)
-      → Fit key shares (set ws (place key kind) (turned kind (get_or ws (place key kind) 0))) (set vs id (effect t kind (get_or ws (place key kind) 0) v))
-  kind_keeps (charge c seen n) share may made = charge_keeps t key shares ws vs id v fit at share c seen n (get_or ws (place key (charge c seen n)) 0) may made
+      → Fit key shares (set ws (place key kind) (turned kind (get_or ws (place key kind) 0)))
+      (set vs id (effect t kind (get_or ws (place key kind) 0) v))
+  kind_keeps (charge c seen n) share may made =
+      charge_keeps t key shares ws vs id v fit at share c seen n (get_or ws (place key (charge c seen n)) 0) may made
   kind_keeps (refund c n) share may made = refund_keeps t key shares ws vs id v fit at share c n may
-  kind_keeps (claim k seen from o) share may made = claim_keeps t key shares ws vs id v fit at share k seen from o (get_or ws (place key (claim k seen from o)) 0) may made
+  kind_keeps (claim k seen from o) share may made =
+      claim_keeps t key shares ws vs id v fit at share k seen from o (get_or ws (place key (claim k seen from o)) 0) may made
   kind_keeps (release k from o rest) share may made = release_keeps t key shares ws vs id v fit at share k from o rest may
-  kind_keeps (take_huge c seen) share may made = take_huge_keeps t key shares ws vs id v fit at share c seen (get_or ws (place key (take_huge c seen)) 0) may made
+  kind_keeps (take_huge c seen) share may made =
+      take_huge_keeps t key shares ws vs id v fit at share c seen (get_or ws (place key (take_huge c seen)) 0) may made
   kind_keeps (give_huge c rest) share may made = give_huge_keeps t key shares ws vs id v fit at share c rest may
-  kind_keeps (tree_pay u seen n) share may made = tree_pay_keeps t key shares ws vs id v fit at share u seen n (get_or ws (place key (tree_pay u seen n)) 0) may made
+  kind_keeps (tree_pay u seen n) share may made =
+      tree_pay_keeps t key shares ws vs id v fit at share u seen n (get_or ws (place key (tree_pay u seen n)) 0) may made
   kind_keeps (tree_refund u n) share may made = tree_refund_keeps t key shares ws vs id v fit at share u n may
-  kind_keeps (reserve u seen) share may made = reserve_keeps t key shares ws vs id v fit at share u seen (get_or ws (place key (reserve u seen)) 0) may made
+  kind_keeps (reserve u seen) share may made =
+      reserve_keeps t key shares ws vs id v fit at share u seen (get_or ws (place key (reserve u seen)) 0) may made
   kind_keeps (swap_local k put) share may made = swap_local_keeps t key shares ws vs id v fit at share k put may
   kind_keeps (unreserve u n) share may made = unreserve_keeps t key shares ws vs id v fit at share u n may
-  kind_keeps (local_pay k seen n) share may made = local_pay_keeps t key shares ws vs id v fit at share k seen n (get_or ws (place key (local_pay k seen n)) 0) may made
-  kind_keeps (local_refund k seen n) share may made = local_refund_keeps t key shares ws vs id v fit at share k seen n (get_or ws (place key (local_refund k seen n)) 0) may made
-  kind_keeps (collect u seen) share may made = collect_keeps t key shares ws vs id v fit at share u seen (get_or ws (place key (collect u seen)) 0) may made
+  kind_keeps (local_pay k seen n) share may made =
+      local_pay_keeps t key shares ws vs id v fit at share k seen n (get_or ws (place key (local_pay k seen n)) 0) may made
+  kind_keeps (local_refund k seen n) share may made =
+      local_refund_keeps t key shares ws vs id v fit at share k seen n (get_or ws (place key (local_refund k seen n)) 0) may made
+  kind_keeps (collect u seen) share may made =
+      collect_keeps t key shares ws vs id v fit at share u seen (get_or ws (place key (collect u seen)) 0) may made
   kind_keeps (fill_word k) share may made = fill_word_keeps t key shares ws vs id v fit at share k may
   kind_keeps (drop_flag c rest) share may made = drop_flag_keeps t key shares ws vs id v fit at share c rest may
 

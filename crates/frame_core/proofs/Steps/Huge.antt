@@ -68,14 +68,16 @@ module _ (t : ℕ → ℕ) (key : Key) (shares : ℕ) (ws : List ℕ) (vs : List
         free = omega (arith, free);
         huge = omega (arith, huge);
       })
-      (still key v i share v.charged (less (tree_of_child c) 512 v.paid) v.reserving (b ∷ v.own) v.filled (t v.moves) (All-cons (IsBlock key) b v.own (child_is_block key c can.inside) i.own) c
+      (still key v i share v.charged (less (tree_of_child c) 512 v.paid) v.reserving (b ∷ v.own) v.filled (t v.moves)
+      (All-cons (IsBlock key) b v.own (child_is_block key c can.inside) i.own) c
       (record {
         charged = l.charged;
         smalls = λ x ne. omega (arith, same_small x, l.smalls x ne);
         wholes = λ d ne. omega (arith, wholes_cons d b v.own, l.wholes d ne, whole_else c d ne);
       })
       (λ d q. ((i.filled d q).inside, omega (arith, (i.filled d q).own, wholes_cons (d / 8) b v.own)))
-      i.charged (λ d far. omega (arith, less-le (c / 8) d 512 v.paid, i.paid d far)) i.reserving i.some_charged (amount_less (c / 8) 512 v.paid i.some_paid)))
+      i.charged (λ d far. omega (arith, less-le (c / 8) d 512 v.paid, i.paid d far)) i.reserving i.some_charged
+      (amount_less (c / 8) 512 v.paid i.some_paid)))
 
   -- the entry of a huge frame in flight, with none of its words filled or all of them
   module _ (c : ℕ) (h : c < key.children) (own : 0 < wholes c v.own) where
@@ -98,13 +100,20 @@ module _ (t : ℕ → ℕ) (key : Key) (shares : ℕ) (ws : List ℕ) (vs : List
         )
 
     unset : ((k : ℕ) → k / 8 ≡ c → names k v.filled ≡ 0) → set_of key ws c ≡ 0
-    unset none = set_none key ws c fit.words_in_range h (λ x s. omega (arith, bit_filled key shares ws vs id v fit at c x h own s, none (x / 64) (omega arith)))
+    unset none = set_none key ws c fit.words_in_range h
+        (λ x s. omega (arith, bit_filled key shares ws vs id v fit at c x h own s, none (x / 64) (omega arith)))
 
     all_set : ((k : ℕ) → k / 8 ≡ c → names k v.filled ≡ 1) → set_of key ws c ≡ 512
-    all_set all = omega (arith, set-le key ws c fit.words_in_range h, set_full key ws c fit.words_in_range h (λ x s. omega (arith, bit_filled key shares ws vs id v fit at c x h own s, all (x / 64) (omega arith))))
+    all_set all = omega (
+      arith,
+      set-le key ws c fit.words_in_range h,
+      set_full key ws c fit.words_in_range h
+          (λ x s. omega (arith, bit_filled key shares ws vs id v fit at c x h own s, all (x / 64) (omega arith))),
+    )
 
   pub give_huge_keeps : (c : ℕ) (rest : Rest) → CanGiveHuge key v c (rest v.own)
-      → Fit key shares (set ws (entry_place c) (turned (give_huge c rest) (get_or ws (entry_place c) 0))) (set vs id (effect t (give_huge c rest) (get_or ws (entry_place c) 0) v))
+      → Fit key shares (set ws (entry_place c) (turned (give_huge c rest) (get_or ws (entry_place c) 0)))
+      (set vs id (effect t (give_huge c rest) (get_or ws (entry_place c) 0) v))
   give_huge_keeps c rest can =
       let i : IsViewOf key v = view_of key shares ws vs id v fit at in
       let found : ℕ = get_or ws (entry_place c) 0 in
@@ -120,7 +129,8 @@ module _ (t : ℕ → ℕ) (key : Key) (shares : ℕ) (ws : List ℕ) (vs : List
       let below : found < 2 ^ 64 = fit.words_in_range.entry_words c (child-has-lane key c can.inside) in
       let same : lane_in found c ≡ 32768 = sym (entry_of_is ws c) ∙ entry.2 in
       lands key shares (with_entry ws c 512) (set ws (entry_place c) ((found + (2 ^ 64 - 32256 * lane_shift c)) % 2 ^ 64)) (set vs id w)
-      (as_entry ws c 512 ((found + (2 ^ 64 - 32256 * lane_shift c)) % 2 ^ 64) (lane_taken found c 32256 below (omega (arith, same)) ∙ ap (λ m. lane_put found c (m - 32256)) same))
+      (as_entry ws c 512 ((found + (2 ^ 64 - 32256 * lane_shift c)) % 2 ^ 64)
+      (lane_taken found c 32256 below (omega (arith, same)) ∙ ap (λ m. lane_put found c (m - 32256)) same))
       (entry_step key shares ws vs id v fit at c 512 w can.inside (omega arith) (record {
         wholes_here = omega (arith, huge, entry.1, can.leaves.wholes c, whole_here c);
         wholes_else = λ d ne. omega (arith, can.leaves.wholes d, whole_else c d ne);
@@ -143,7 +153,8 @@ module _ (t : ℕ → ℕ) (key : Key) (shares : ℕ) (ws : List ℕ) (vs : List
         free = omega (arith, free);
         huge = omega (arith, huge);
       })
-      (still key v i share v.charged (more (tree_of_child c) 512 v.paid) v.reserving (rest v.own) v.filled (t v.moves) can.leaves.are_blocks c
+      (still key v i share v.charged (more (tree_of_child c) 512 v.paid) v.reserving (rest v.own) v.filled
+      (t v.moves) can.leaves.are_blocks c
       (record {
         charged = l.charged;
         smalls = λ x ne. omega (arith, same_small x, l.smalls x ne);
@@ -151,11 +162,14 @@ module _ (t : ℕ → ℕ) (key : Key) (shares : ℕ) (ws : List ℕ) (vs : List
       })
       (λ d q.
       let z = i.filled d q in
-      ⊎_elim (λ e. absurd (omega (arith, q, can.unfilled d e))) (λ ne. (z.inside, omega (arith, z.own, can.leaves.wholes (d / 8), whole_else c (d / 8) ne))) (cases_eq (d / 8) c))
-      i.charged (λ d far. more_else (c / 8) d 512 v.paid (λ e. omega (arith, can.inside)) can.paid ∙ i.paid d far) i.reserving i.some_charged (amount_more (c / 8) 512 v.paid i.some_paid)))
+      ⊎_elim (λ e. absurd (omega (arith, q, can.unfilled d e)))
+      (λ ne. (z.inside, omega (arith, z.own, can.leaves.wholes (d / 8), whole_else c (d / 8) ne))) (cases_eq (d / 8) c))
+      i.charged (λ d far. more_else (c / 8) d 512 v.paid (λ e. omega (arith, can.inside)) can.paid ∙ i.paid d far)
+      i.reserving i.some_charged (amount_more (c / 8) 512 v.paid i.some_paid)))
 
   pub drop_flag_keeps : (c : ℕ) (rest : Rest) → CanDropFlag key v c (rest v.own)
-      → Fit key shares (set ws (entry_place c) (turned (drop_flag c rest) (get_or ws (entry_place c) 0))) (set vs id (effect t (drop_flag c rest) (get_or ws (entry_place c) 0) v))
+      → Fit key shares (set ws (entry_place c) (turned (drop_flag c rest) (get_or ws (entry_place c) 0)))
+      (set vs id (effect t (drop_flag c rest) (get_or ws (entry_place c) 0) v))
   drop_flag_keeps c rest can =
       let i : IsViewOf key v = view_of key shares ws vs id v fit at in
       let found : ℕ = get_or ws (entry_place c) 0 in
@@ -188,11 +202,17 @@ module _ (t : ℕ → ℕ) (key : Key) (shares : ℕ) (ws : List ℕ) (vs : List
       ) in
       let not_filled : (x : ℕ) → child_of x ≢ c → names (x / 64) v.filled ≡ 0 =
       λ x ne.
-      ⊎_elim (λ z. z) (λ p. absurd (omega (arith, (i.filled (x / 64) (omega (arith, p))).own, l.wholes (x / 64 / 8) (λ e. ne (omega arith))))) (cases_eq (names (x / 64) v.filled) 0) in
+      ⊎_elim (λ z. z) (λ p.
+      absurd (omega (
+        arith,
+        (i.filled (x / 64) (omega (arith, p))).own,
+        l.wholes (x / 64 / 8) (λ e. ne (omega arith)),
+      ))) (cases_eq (names (x / 64) v.filled) 0) in
       let below : found < 2 ^ 64 = fit.words_in_range.entry_words c (child-has-lane key c can.inside) in
       let same : lane_in found c ≡ 32768 = sym (entry_of_is ws c) ∙ entry.2 in
       lands key shares (with_entry ws c 0) (set ws (entry_place c) ((found + (2 ^ 64 - 32768 * lane_shift c)) % 2 ^ 64)) (set vs id w)
-      (as_entry ws c 0 ((found + (2 ^ 64 - 32768 * lane_shift c)) % 2 ^ 64) (lane_taken found c 32768 below (omega (arith, same)) ∙ ap (λ m. lane_put found c (m - 32768)) same))
+      (as_entry ws c 0 ((found + (2 ^ 64 - 32768 * lane_shift c)) % 2 ^ 64)
+      (lane_taken found c 32768 below (omega (arith, same)) ∙ ap (λ m. lane_put found c (m - 32768)) same))
       (entry_step key shares ws vs id v fit at c 0 w can.inside (omega arith) (record {
         wholes_here = omega (arith, huge, entry.1, wholes_now c, whole_here c);
         wholes_else = λ d ne. omega (arith, wholes_now d, whole_else c d ne);
@@ -225,7 +245,8 @@ module _ (t : ℕ → ℕ) (key : Key) (shares : ℕ) (ws : List ℕ) (vs : List
         huge = omega (arith, huge);
       })
       (still key v i share v.charged v.paid v.reserving (low ∷ high ∷ rest v.own) [] (t v.moves)
-      (All-cons (IsBlock key) low (high ∷ rest v.own) (half_is_block key c can.inside) (All-cons (IsBlock key) high (rest v.own) (other_half_is_block key c can.inside) can.leaves.are_blocks)) c
+      (All-cons (IsBlock key) low (high ∷ rest v.own) (half_is_block key c can.inside)
+      (All-cons (IsBlock key) high (rest v.own) (other_half_is_block key c can.inside) can.leaves.are_blocks)) c
       (record {
         charged = l.charged;
         smalls = λ x ne. omega (arith, smalls_now x, halves_else c x ne, l.smalls x ne);

@@ -1,9 +1,7 @@
 -- A seat takes in another: an idle one, or one with a block, which comes in flight or is kept.
-use Rattle.std.proofs.Common.{◌≡◌, ◌≢◌, inr, ⊎_elim, ℕ, ◌+◌, ◌/◌, ◌<◌, ◌≤◌, List, [], ◌∷◌, Bool, true, false, set, refl, ap, subst, ◌∙◌, arith}
+use Rattle.std.proofs.Common.{◌≡◌, ◌≢◌, ⊎_elim, ℕ, ◌+◌, ◌/◌, ◌<◌, ◌≤◌, List, Bool, true, false, set, refl, ap, ◌∙◌, arith}
 use Rattle.std.specs.Prelude.{◌||◌}
-use Rattle.std.specs.List.{All}
 use Rattle.std.proofs.lemmas.Bool.{cases_eq}
-use Rattle.std.proofs.lemmas.List.Elements.{All-head, All-append}
 use borrow.Author.Differences.{up, down}
 use mathlib.Core.Option.{some}
 use lib.ListN.{get_elem?}
@@ -11,18 +9,18 @@ use Rattle.atomic_table.proofs.Lists.{set_else}
 use Rattle.frame_core.specs.declared.block.FrameBlock.{FrameBlock}
 use Rattle.frame_core.specs.declared.key.Key.{Key}
 use Rattle.frame_core.specs.declared.view.View.{View}
-use Rattle.frame_core.specs.Key.{child_of}
-use Rattle.frame_core.specs.Block.{IsBlock, small_at, whole_at, smalls, wholes}
-use Rattle.frame_core.specs.View.{count_in, names, is_at, spent, ground_in, LiesIn, IsIdle, HasNoPart, HasOneBlock, IsViewOf}
+use Rattle.frame_core.specs.Block.{smalls, wholes}
+use Rattle.frame_core.specs.View.{count_in, names, is_at, spent, ground_in, IsIdle, HasNoPart, HasOneBlock, IsViewOf}
 use Rattle.frame_core.specs.Fit.{total, Fit}
 use Rattle.frame_core.specs.Seats.{join_idle, hand_in, keep_in, CanTakeIn, CanHandIn, CanJoinIdle, joined_by}
 use Rattle.frame_core.proofs.Sums.{sum_set, at-le-sum}
 use Rattle.frame_core.proofs.Amounts.{count_none, is_at_none, names_none}
-use Rattle.frame_core.proofs.Blocks.{smalls_cons, wholes_cons, smalls_none, wholes_none, smalls_both, wholes_both, small_elsewhere, whole_elsewhere}
+use Rattle.frame_core.proofs.Blocks.{smalls_none, wholes_none, smalls_both, wholes_both}
 use Rattle.frame_core.proofs.Keeps.{total_is}
 use Rattle.frame_core.proofs.Balances.{join_step}
-use Rattle.frame_core.proofs.Steps.Shared.{named, none_out, view_of}
+use Rattle.frame_core.proofs.Steps.Shared.{none_out, view_of}
 use Rattle.frame_core.proofs.Steps.Seats.{lent_back, lent_both, one_out, spent_out, ground_yes, ground_no, ground_same, spent_is}
+use Rattle.frame_core.proofs.Steps.SeatViews.{both_is}
 
 -- an idle view has filled nothing
 pub idle_unfilled : (key : Key) (u : View) → IsViewOf key u → IsIdle u → (k : ℕ) → names k u.filled ≡ 0
@@ -33,10 +31,6 @@ idle_unfilled key u i idle k =
       ap (wholes (k / 8)) idle.own,
       wholes_none (k / 8),
     ))) (cases_eq (names k u.filled) 0)
-
-first_block : (key : Key) (bs : List FrameBlock) (b : FrameBlock) → bs ≡ b ∷ [] → All (IsBlock key) bs
-    → IsBlock key b
-first_block key bs b e all = All-head (IsBlock key) b [] (subst (All (IsBlock key)) e all)
 
 or_ground : (v u w : View) → w.is_ground ≡ (v.is_ground || u.is_ground) → ground_in v + ground_in u ≤ 1
     → ground_in w ≡ ground_in v + ground_in u
@@ -76,7 +70,6 @@ module _ (t : ℕ → ℕ) (key : Key) (shares : ℕ) (ws : List ℕ) (vs : List
       let had_u : 0 < u.share = can.other.share in
       let both : View = joined_by t join_idle v u in
       let both_has : 0 < both.share = omega (arith, had) in
-      let l : LiesIn v (i.one_child had).0 = (i.one_child had).1 in
       let one : ground_in v + ground_in u ≤ 1 = omega (arith, fit.one_ground, two-le-total ground_in (ground_no spent refl)) in
       join_step key shares ws vs id v fit at other u both spent (set_else vs id other both apart ∙ there) (record {
         wholes = λ c. omega (arith, wholes_both c v.kept u.kept, ap (wholes c) can.other.own, wholes_none c);
@@ -103,20 +96,7 @@ module _ (t : ℕ → ℕ) (key : Key) (shares : ℕ) (ws : List ℕ) (vs : List
         );
         grounds = omega (arith, or_ground v u both refl one, ground_no spent refl);
       })
-      (record {
-        named = inr (named key v i had);
-        own = i.own;
-        kept = All-append (IsBlock key) v.kept u.kept i.kept u_is.kept;
-        no_part = λ z. absurd (omega arith);
-        one_block = λ z g. absurd (omega arith);
-        one_child = λ z. ((i.one_child had).0, record { charged = l.charged; smalls = l.smalls; wholes = l.wholes });
-        filled = λ k q. let h = i.filled k q in record { inside = h.inside; share = both_has; own = h.own };
-        charged = i.charged;
-        paid = i.paid;
-        reserving = i.reserving;
-        some_charged = i.some_charged;
-        some_paid = i.some_paid;
-      })
+      (both_is t key v i u u_is.own u_is.kept join_idle can)
       (spent_is key)
 
   pub hand_in_keeps : CanHandIn v u
@@ -129,20 +109,6 @@ module _ (t : ℕ → ℕ) (key : Key) (shares : ℕ) (ws : List ℕ) (vs : List
       let none : HasNoPart u = u_is.no_part take.out in
       let one : HasOneBlock u = u_is.one_block take.out take.not_ground in
       let both : View = joined_by t hand_in v u in
-      let l : LiesIn v (child_of b.frame) = can.one_child in
-      let is_block : IsBlock key b = first_block key u.own b take.owns u_is.own in
-      let smalls_u : (x : ℕ) → smalls x u.own ≡ small_at x b = λ x. omega (
-        arith,
-        ap (smalls x) take.owns,
-        smalls_cons x b [],
-        smalls_none x,
-      ) in
-      let wholes_u : (c : ℕ) → wholes c u.own ≡ whole_at c b = λ c. omega (
-        arith,
-        ap (wholes c) take.owns,
-        wholes_cons c b [],
-        wholes_none c,
-      ) in
       join_step key shares ws vs id v fit at other u both spent (set_else vs id other both apart ∙ there) (record {
         wholes = λ c. omega (arith, wholes_both c u.own v.own, ap (wholes c) none.kept, wholes_none c);
         smalls = λ x. omega (arith, smalls_both x u.own v.own, ap (smalls x) none.kept, smalls_none x);
@@ -170,39 +136,7 @@ module _ (t : ℕ → ℕ) (key : Key) (shares : ℕ) (ws : List ℕ) (vs : List
         );
         grounds = omega (arith, ground_same v both refl, ground_no u take.not_ground, ground_no spent refl);
       })
-      (record {
-        named = inr (named key v i had);
-        own = All-append (IsBlock key) u.own v.own u_is.own i.own;
-        kept = i.kept;
-        no_part = λ z. absurd (omega (arith, had));
-        one_block = λ z g. absurd (omega (arith, had));
-        one_child = λ z. (
-          child_of b.frame,
-          record {
-            charged = l.charged;
-            smalls = λ x ne. omega (
-              arith,
-              smalls_both x u.own v.own,
-              smalls_u x,
-              small_elsewhere key b is_block x ne,
-              l.smalls x ne,
-            );
-            wholes = λ d ne. omega (
-              arith,
-              wholes_both d u.own v.own,
-              wholes_u d,
-              whole_elsewhere b d ne,
-              l.wholes d ne,
-            );
-          },
-        );
-        filled = λ k q. let h = i.filled k q in record { inside = h.inside; share = had; own = omega (arith, h.own, wholes_both (k / 8) u.own v.own) };
-        charged = i.charged;
-        paid = i.paid;
-        reserving = i.reserving;
-        some_charged = i.some_charged;
-        some_paid = i.some_paid;
-      })
+      (both_is t key v i u u_is.own u_is.kept hand_in can)
       (spent_is key)
 
   pub keep_in_keeps : CanTakeIn v u
@@ -214,7 +148,6 @@ module _ (t : ℕ → ℕ) (key : Key) (shares : ℕ) (ws : List ℕ) (vs : List
       let none : HasNoPart u = u_is.no_part take.out in
       let one : HasOneBlock u = u_is.one_block take.out take.not_ground in
       let both : View = joined_by t keep_in v u in
-      let l : LiesIn v (i.one_child had).0 = (i.one_child had).1 in
       join_step key shares ws vs id v fit at other u both spent (set_else vs id other both apart ∙ there) (record {
         wholes = λ c. omega (arith, wholes_both c u.own v.kept, ap (wholes c) none.kept, wholes_none c);
         smalls = λ x. omega (arith, smalls_both x u.own v.kept, ap (smalls x) none.kept, smalls_none x);
@@ -242,18 +175,5 @@ module _ (t : ℕ → ℕ) (key : Key) (shares : ℕ) (ws : List ℕ) (vs : List
         );
         grounds = omega (arith, ground_same v both refl, ground_no u take.not_ground, ground_no spent refl);
       })
-      (record {
-        named = inr (named key v i had);
-        own = i.own;
-        kept = All-append (IsBlock key) u.own v.kept u_is.own i.kept;
-        no_part = λ z. absurd (omega (arith, had));
-        one_block = λ z g. absurd (omega (arith, had));
-        one_child = λ z. ((i.one_child had).0, record { charged = l.charged; smalls = l.smalls; wholes = l.wholes });
-        filled = λ k q. let h = i.filled k q in record { inside = h.inside; share = had; own = h.own };
-        charged = i.charged;
-        paid = i.paid;
-        reserving = i.reserving;
-        some_charged = i.some_charged;
-        some_paid = i.some_paid;
-      })
+      (both_is t key v i u u_is.own u_is.kept keep_in take)
       (spent_is key)

@@ -33,7 +33,10 @@ on_far key (Some r) h t far = let ne : t ≢ r.0 = (λ e. omega (arith, h.0)) in
 -- what a view gives up is what it paid and reserved
 given : (v : View) (put : Option (ℕ × ℕ)) → GivesUp put v → (t : ℕ)
     → (count_on t put ≡ paid_on t v) × (is_on t put ≡ reserves t v)
-given v None g t = (count_on_none t ∙ sym (ap (count_in t) g.paid ∙ count_none t), is_on_none t ∙ sym (ap (is_at t) g.reserving ∙ is_at_none t))
+given v None g t = (
+  count_on_none t ∙ sym (ap (count_in t) g.paid ∙ count_none t),
+  is_on_none t ∙ sym (ap (is_at t) g.reserving ∙ is_at_none t),
+)
 given v (Some r) g t = by (cases_eq t r.0)
   where
     by : (t ≡ r.0) ⊎ (t ≢ r.0) → (count_on t (Some r) ≡ paid_on t v) × (is_on t (Some r) ≡ reserves t v)
@@ -49,7 +52,8 @@ given v (Some r) g t = by (cases_eq t r.0)
 module _ (t : ℕ → ℕ) (key : Key) (shares : ℕ) (ws : List ℕ) (vs : List View) (id : ℕ) (v : View)
     (fit : Fit key shares ws vs) (at : get_elem? vs id ≡ some v) (share : 0 < v.share) where
   pub swap_local_keeps : (k : ℕ) (put : Option (ℕ × ℕ)) → CanSwapLocal key v k put
-      → Fit key shares (set ws (local_place key k) (turned (swap_local k put) (get_or ws (local_place key k) 0))) (set vs id (effect t (swap_local k put) (get_or ws (local_place key k) 0) v))
+      → Fit key shares (set ws (local_place key k) (turned (swap_local k put) (get_or ws (local_place key k) 0)))
+      (set vs id (effect t (swap_local k put) (get_or ws (local_place key k) 0) v))
   swap_local_keeps k put can =
       let i : IsViewOf key v = view_of key shares ws vs id v fit at in
       let found : ℕ = get_or ws (local_place key k) 0 in
@@ -75,7 +79,8 @@ module _ (t : ℕ → ℕ) (key : Key) (shares : ℕ) (ws : List ℕ) (vs : List
         word = ap local_word (sym back);
         rest = subst (IsRest key) (sym back) can.is_rest;
       })
-      (still_paying key v i share (rest_amount (rest_in found)) (rest_tree (rest_in found)) (t v.moves) (λ d far. rest_is_count d (rest_in found) ∙ (on_far key (rest_in found) range d far).0)
+      (still_paying key v i share (rest_amount (rest_in found)) (rest_tree (rest_in found)) (t v.moves)
+      (λ d far. rest_is_count d (rest_in found) ∙ (on_far key (rest_in found) range d far).0)
       (λ d far. rest_is_on d (rest_in found) ∙ (on_far key (rest_in found) range d far).1) (amount_rest (rest_in found))))
 
   pub local_pay_keeps : (k seen n found : ℕ) → CanLocalPay key v k seen n
@@ -91,7 +96,8 @@ module _ (t : ℕ → ℕ) (key : Key) (shares : ℕ) (ws : List ℕ) (vs : List
       let x : ℕ = local_word (Some (u, m - n)) in
       let back : rest_in x ≡ Some (u, m - n) = rest_back key (Some (u, m - n)) (range.0, omega (arith, range.1)) in
       let word : x ≡ turned (local_pay k seen n) found = sym (ap (λ r. local_word (rest_less n r)) can.seen_as) in
-      let view : w ≡ effect t (local_pay k seen n) found v = sym (ap (λ (r : Option (ℕ × ℕ)). record v { paid = more_of r n v.paid; moves = t v.moves }) can.seen_as) in
+      let view : w ≡ effect t (local_pay k seen n) found v =
+      sym (ap (λ (r : Option (ℕ × ℕ)). record v { paid = more_of r n v.paid; moves = t v.moves }) can.seen_as) in
       subst (λ (y : View). Fit key shares (set ws (local_place key k) (turned (local_pay k seen n) found)) (set vs id y)) view
       (subst (λ y. Fit key shares (set ws (local_place key k) y) (set vs id w)) word
       (lands key shares (with_local key ws k x) (set ws (local_place key k) x) (set vs id w) (as_local key ws k x)
@@ -127,11 +133,14 @@ module _ (t : ℕ → ℕ) (key : Key) (shares : ℕ) (ws : List ℕ) (vs : List
         word = ap local_word (sym back);
         rest = subst (IsRest key) (sym back) (range.0, omega (arith, range.1));
       })
-      (still_paying key v i share (more u n v.paid) v.reserving (t v.moves) (λ d far. more_else u d n v.paid (λ e. omega (arith, range.0)) can.paid ∙ i.paid d far) i.reserving (amount_more u n v.paid i.some_paid)))))
+      (still_paying key v i share (more u n v.paid) v.reserving (t v.moves)
+      (λ d far. more_else u d n v.paid (λ e. omega (arith, range.0)) can.paid ∙ i.paid d far) i.reserving
+      (amount_more u n v.paid i.some_paid)))))
 
   pub local_refund_keeps : (k seen n found : ℕ) → CanLocalRefund key v k seen n
       → get_or ws (local_place key k) 0 ≡ seen
-      → Fit key shares (set ws (local_place key k) (turned (local_refund k seen n) found)) (set vs id (effect t (local_refund k seen n) found v))
+      → Fit key shares (set ws (local_place key k) (turned (local_refund k seen n) found))
+      (set vs id (effect t (local_refund k seen n) found v))
   local_refund_keeps k seen n found can made =
       let i : IsViewOf key v = view_of key shares ws vs id v fit at in
       let u : ℕ = can.tree in
@@ -151,7 +160,8 @@ module _ (t : ℕ → ℕ) (key : Key) (shares : ℕ) (ws : List ℕ) (vs : List
       let x : ℕ = local_word (Some (u, m + n)) in
       let back : rest_in x ≡ Some (u, m + n) = rest_back key (Some (u, m + n)) (range.0, room) in
       let word : x ≡ turned (local_refund k seen n) found = sym (ap (λ r. local_word (rest_more n r)) can.seen_as) in
-      let view : w ≡ effect t (local_refund k seen n) found v = sym (ap (λ (r : Option (ℕ × ℕ)). record v { paid = less_of r n v.paid; moves = t v.moves }) can.seen_as) in
+      let view : w ≡ effect t (local_refund k seen n) found v =
+      sym (ap (λ (r : Option (ℕ × ℕ)). record v { paid = less_of r n v.paid; moves = t v.moves }) can.seen_as) in
       subst (λ (y : View). Fit key shares (set ws (local_place key k) (turned (local_refund k seen n) found)) (set vs id y)) view
       (subst (λ y. Fit key shares (set ws (local_place key k) y) (set vs id w)) word
       (lands key shares (with_local key ws k x) (set ws (local_place key k) x) (set vs id w) (as_local key ws k x)
@@ -187,4 +197,5 @@ module _ (t : ℕ → ℕ) (key : Key) (shares : ℕ) (ws : List ℕ) (vs : List
         word = ap local_word (sym back);
         rest = subst (IsRest key) (sym back) (range.0, room);
       })
-      (still_paying key v i share (less u n v.paid) v.reserving (t v.moves) (λ d far. omega (arith, less-le u d n v.paid, i.paid d far)) i.reserving (amount_less u n v.paid i.some_paid)))))
+      (still_paying key v i share (less u n v.paid) v.reserving (t v.moves)
+      (λ d far. omega (arith, less-le u d n v.paid, i.paid d far)) i.reserving (amount_less u n v.paid i.some_paid)))))

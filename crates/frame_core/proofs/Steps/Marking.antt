@@ -78,7 +78,8 @@ module _ (t : ℕ → ℕ) (key : Key) (shares : ℕ) (ws : List ℕ) (vs : List
         );
         wholes = λ d ne. omega (arith, wholes_cons d b v.own, l.wholes d ne, not_whole d b small);
       } in
-      lands key shares (with_bits key ws k (bit_or n m)) (set ws (bits_place key k) (bit_or seen m)) (set vs id w) (as_bits key ws k (bit_or n m) (bit_or seen m) (ap (λ x. bit_or x m) (sym was)))
+      lands key shares (with_bits key ws k (bit_or n m)) (set ws (bits_place key k) (bit_or seen m)) (set vs id w)
+      (as_bits key ws k (bit_or n m) (bit_or seen m) (ap (λ x. bit_or x m) (sym was)))
       (bits_step key shares ws vs id v fit at k (bit_or n m) w r.inside (record {
         bits_here = λ x e. omega (arith, smalls_cons x b v.own, bits x e);
         bits_else = λ x ne. omega (arith, smalls_cons x b v.own, run_else k from o x r.fits ne);
@@ -120,17 +121,20 @@ module _ (t : ℕ → ℕ) (key : Key) (shares : ℕ) (ws : List ℕ) (vs : List
         rights = same_rights v w share refl refl refl;
         below = or_lt 64 n m nf mf;
       })
-      (still key v i share (less (k / 8) (2 ^ o) v.charged) (less (k / 64) (2 ^ o) v.paid) v.reserving (b ∷ v.own) v.filled (t v.moves) (All-cons (IsBlock key) b v.own (run_is_block key k from o r) i.own) (k / 8)
+      (still key v i share (less (k / 8) (2 ^ o) v.charged) (less (k / 64) (2 ^ o) v.paid) v.reserving
+      (b ∷ v.own) v.filled (t v.moves) (All-cons (IsBlock key) b v.own (run_is_block key k from o r) i.own) (k / 8)
       (record { charged = lies.charged; smalls = lies.smalls; wholes = lies.wholes })
       (λ d q. ((i.filled d q).inside, omega (arith, (i.filled d q).own, wholes_cons (d / 8) b v.own)))
-      (λ d far. omega (arith, less-le (k / 8) d (2 ^ o) v.charged, i.charged d far)) (λ d far. omega (arith, less-le (k / 64) d (2 ^ o) v.paid, i.paid d far)) i.reserving
+      (λ d far. omega (arith, less-le (k / 8) d (2 ^ o) v.charged, i.charged d far))
+      (λ d far. omega (arith, less-le (k / 64) d (2 ^ o) v.paid, i.paid d far)) i.reserving
       (amount_less (k / 8) (2 ^ o) v.charged i.some_charged) (amount_less (k / 64) (2 ^ o) v.paid i.some_paid)))
     where
       in_child : (x : ℕ) → x / 64 ≡ k → child_of x ≡ k / 8
       in_child x e = omega arith
 
   pub release_keeps : (k from o : ℕ) (rest : Rest) → CanRelease key v k from o (rest v.own)
-      → Fit key shares (set ws (bits_place key k) (turned (release k from o rest) (get_or ws (bits_place key k) 0))) (set vs id (effect t (release k from o rest) (get_or ws (bits_place key k) 0) v))
+      → Fit key shares (set ws (bits_place key k) (turned (release k from o rest) (get_or ws (bits_place key k) 0)))
+      (set vs id (effect t (release k from o rest) (get_or ws (bits_place key k) 0) v))
   release_keeps k from o rest can =
       let i : IsViewOf key v = view_of key shares ws vs id v fit at in
       let found : ℕ = get_or ws (bits_place key k) 0 in
@@ -148,7 +152,8 @@ module _ (t : ℕ → ℕ) (key : Key) (shares : ℕ) (ws : List ℕ) (vs : List
       let first : ℕ = 64 * k + from in
       let there : child_of first ≡ k / 8 = omega arith in
       let inside : first < frame_count key = omega (arith, r.inside) in
-      let owned : 1 ≤ smalls first v.own = omega (arith, can.leaves.smalls first, in_block first b small (omega arith) (omega (arith, pow_pos o))) in
+      let owned : 1 ≤ smalls first v.own =
+      omega (arith, can.leaves.smalls first, in_block first b small (omega arith) (omega (arith, pow_pos o))) in
       let l : LiesIn v (k / 8) = subst (LiesIn v) there (lies_in_owned key v i share first (omega (arith, owned))) in
       let flag : huge_of ws (k / 8) ≡ 0 = omega (
         arith,
@@ -173,7 +178,8 @@ module _ (t : ℕ → ℕ) (key : Key) (shares : ℕ) (ws : List ℕ) (vs : List
         ap (bit_at n) bit,
       ) in
       let freed : ones x + 2 ^ o ≡ ones n = omega (arith, ones_clear n m nf mf within, ones_run from (2 ^ o)) in
-      lands key shares (with_bits key ws k x) (set ws (bits_place key k) (bit_and found (bit_not w64 m))) (set vs id w) (as_bits key ws k x (bit_and found (bit_not w64 m)) (ap (λ y. bit_and y (bit_not w64 m)) (sym was)))
+      lands key shares (with_bits key ws k x) (set ws (bits_place key k) (bit_and found (bit_not w64 m)))
+      (set vs id w) (as_bits key ws k x (bit_and found (bit_not w64 m)) (ap (λ y. bit_and y (bit_not w64 m)) (sym was)))
       (bits_step key shares ws vs id v fit at k x w r.inside (record {
         bits_here = λ y e. omega (
           arith,
@@ -207,7 +213,8 @@ module _ (t : ℕ → ℕ) (key : Key) (shares : ℕ) (ws : List ℕ) (vs : List
         rights = same_rights v w share refl refl refl;
         below = omega (arith, and_le_l n (bit_not w64 m), nf);
       })
-      (still key v i share (more (k / 8) (2 ^ o) v.charged) (more (k / 64) (2 ^ o) v.paid) v.reserving (rest v.own) v.filled (t v.moves) can.leaves.are_blocks (k / 8)
+      (still key v i share (more (k / 8) (2 ^ o) v.charged) (more (k / 64) (2 ^ o) v.paid) v.reserving
+      (rest v.own) v.filled (t v.moves) can.leaves.are_blocks (k / 8)
       (record {
         charged = λ d ne. more_else (k / 8) d (2 ^ o) v.charged ne can.charged ∙ can.charged d ne;
         smalls = λ y ne. omega (arith, can.leaves.smalls y, l.smalls y ne);
@@ -222,11 +229,13 @@ module _ (t : ℕ → ℕ) (key : Key) (shares : ℕ) (ws : List ℕ) (vs : List
           not_whole (d / 8) b small,
         ),
       ))
-      (λ d far. more_else (k / 8) d (2 ^ o) v.charged (λ e. omega (arith, r.inside)) can.charged ∙ i.charged d far) (λ d far. more_else (k / 64) d (2 ^ o) v.paid (λ e. omega (arith, r.inside)) can.paid ∙ i.paid d far) i.reserving
+      (λ d far. more_else (k / 8) d (2 ^ o) v.charged (λ e. omega (arith, r.inside)) can.charged ∙ i.charged d far)
+      (λ d far. more_else (k / 64) d (2 ^ o) v.paid (λ e. omega (arith, r.inside)) can.paid ∙ i.paid d far) i.reserving
       (amount_more (k / 8) (2 ^ o) v.charged i.some_charged) (amount_more (k / 64) (2 ^ o) v.paid i.some_paid)))
 
   pub fill_word_keeps : (k : ℕ) → CanFillWord key v k
-      → Fit key shares (set ws (bits_place key k) (turned (fill_word k) (get_or ws (bits_place key k) 0))) (set vs id (effect t (fill_word k) (get_or ws (bits_place key k) 0) v))
+      → Fit key shares (set ws (bits_place key k) (turned (fill_word k) (get_or ws (bits_place key k) 0)))
+      (set vs id (effect t (fill_word k) (get_or ws (bits_place key k) 0) v))
   fill_word_keeps k can =
       let i : IsViewOf key v = view_of key shares ws vs id v fit at in
       let found : ℕ = get_or ws (bits_place key k) 0 in
@@ -237,7 +246,8 @@ module _ (t : ℕ → ℕ) (key : Key) (shares : ℕ) (ws : List ℕ) (vs : List
       let flag : huge_of ws c ≡ 1 = flag_set key shares ws vs id v fit at c child can.own in
       let few_set : set_of key ws c ≤ 512 = set-le key ws c fit.words_in_range child in
       let l : LiesIn v c = lies_in_whole key v i share c can.own in
-      lands key shares (with_bits key ws k (2 ^ 64 - 1)) (set ws (bits_place key k) (bit_or found (2 ^ 64 - 1))) (set vs id w) (as_bits key ws k (2 ^ 64 - 1) (bit_or found (2 ^ 64 - 1)) (or_full found nf))
+      lands key shares (with_bits key ws k (2 ^ 64 - 1)) (set ws (bits_place key k) (bit_or found (2 ^ 64 - 1)))
+      (set vs id w) (as_bits key ws k (2 ^ 64 - 1) (bit_or found (2 ^ 64 - 1)) (or_full found nf))
       (bits_step key shares ws vs id v fit at k (2 ^ 64 - 1) w can.inside (record {
         bits_here = λ x e.
             let there : child_of x ≡ c = omega arith in
@@ -260,7 +270,8 @@ module _ (t : ℕ → ℕ) (key : Key) (shares : ℕ) (ws : List ℕ) (vs : List
         rights = same_rights v w share refl refl refl;
         below = omega arith;
       })
-      (still key v i share v.charged v.paid v.reserving v.own (put_in k v.filled) (t v.moves) i.own c (record { charged = l.charged; smalls = l.smalls; wholes = l.wholes })
+      (still key v i share v.charged v.paid v.reserving v.own (put_in k v.filled) (t v.moves) i.own c
+      (record { charged = l.charged; smalls = l.smalls; wholes = l.wholes })
       (λ d q.
       ⊎_elim
       (λ e. (omega (arith, can.inside, e), omega (arith, can.own, ap (λ j. wholes (j / 8) v.own) e)))

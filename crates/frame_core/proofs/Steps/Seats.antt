@@ -162,11 +162,19 @@ alike_is key v w i n a =
         kept = nil_from_length w.kept (a.kept_length ∙ ap length h.kept);
         filled = a.filled ∙ h.filled;
       };
-      one_block = λ z g. let h = i.one_block (sym a.share ∙ z) (sym a.is_ground ∙ g) in record { lent = a.lent ∙ h.lent; own = omega (arith, a.own_length, h.own) };
+      one_block = λ z g. let h = i.one_block (sym a.share ∙ z) (sym a.is_ground ∙ g) in
+          record { lent = a.lent ∙ h.lent; own = omega (arith, a.own_length, h.own) };
       one_child = λ h.
-          let t = i.one_child (omega (arith, a.share)) in
-          (t.0, record { charged = λ d ne. ap (count_in d) a.charged ∙ t.1.charged d ne; smalls = λ x ne. a.own_smalls x ∙ t.1.smalls x ne; wholes = λ d ne. a.own_wholes d ∙ t.1.wholes d ne });
-      filled = λ k q. let h = i.filled k (omega (arith, q, ap (names k) a.filled)) in record { inside = h.inside; share = omega (arith, h.share, a.share); own = omega (arith, h.own, a.own_wholes (k / 8)) };
+          let t = i.one_child (omega (arith, a.share)) in (
+            t.0,
+            record {
+              charged = λ d ne. ap (count_in d) a.charged ∙ t.1.charged d ne;
+              smalls = λ x ne. a.own_smalls x ∙ t.1.smalls x ne;
+              wholes = λ d ne. a.own_wholes d ∙ t.1.wholes d ne;
+            },
+          );
+      filled = λ k q. let h = i.filled k (omega (arith, q, ap (names k) a.filled)) in
+          record { inside = h.inside; share = omega (arith, h.share, a.share); own = omega (arith, h.own, a.own_wholes (k / 8)) };
       charged = λ d far. ap (count_in d) a.charged ∙ i.charged d far;
       paid = λ d far. ap (count_in d) a.paid ∙ i.paid d far;
       reserving = λ d far. ap (is_at d) a.reserving ∙ i.reserving d far;

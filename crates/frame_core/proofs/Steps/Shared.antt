@@ -140,7 +140,8 @@ module _ (key : Key) (v : View) (i : IsViewOf key v) (h : 0 < v.share) where
       → All (IsBlock key) own
       → (c : ℕ) → LiesIn (record v { charged = a; paid = p; reserving = r; own = own; filled = filled; moves = m }) c
       → ((w : ℕ) → 0 < names w filled → (w < 8 * key.children) × (0 < wholes (w / 8) own))
-      → ((d : ℕ) → key.children ≤ d → count_in d a ≡ 0) → ((t : ℕ) → tree_count key ≤ t → count_in t p ≡ 0) → ((t : ℕ) → tree_count key ≤ t → is_at t r ≡ 0) → IsAmount a → IsAmount p
+      → ((d : ℕ) → key.children ≤ d → count_in d a ≡ 0) → ((t : ℕ) → tree_count key ≤ t → count_in t p ≡ 0)
+      → ((t : ℕ) → tree_count key ≤ t → is_at t r ≡ 0) → IsAmount a → IsAmount p
       → IsViewOf key (record v { charged = a; paid = p; reserving = r; own = own; filled = filled; moves = m })
   still a p r own filled m are c lies full far_a far_p far_r some_a some_p = record {
     named = inr (named key v i h);

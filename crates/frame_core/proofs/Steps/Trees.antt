@@ -42,10 +42,13 @@ module _ (t : ℕ → ℕ) (key : Key) (shares : ℕ) (ws : List ℕ) (vs : List
         free = omega (arith, free, had, fit.words_in_range.tree_free u can.inside);
         reserved = omega (arith, held, flag, fit.words_in_range.reserved u can.inside);
       })
-      (still_paying key v i share (more u n v.paid) v.reserving (t v.moves) (λ d far. more_else u d n v.paid (λ e. omega (arith, can.inside)) can.paid ∙ i.paid d far) i.reserving (amount_more u n v.paid i.some_paid)))
+      (still_paying key v i share (more u n v.paid) v.reserving (t v.moves)
+      (λ d far. more_else u d n v.paid (λ e. omega (arith, can.inside)) can.paid ∙ i.paid d far) i.reserving
+      (amount_more u n v.paid i.some_paid)))
 
   pub tree_refund_keeps : (u n : ℕ) → CanTreeRefund key v u n
-      → Fit key shares (set ws (tree_place key u) (turned (tree_refund u n) (get_or ws (tree_place key u) 0))) (set vs id (effect t (tree_refund u n) (get_or ws (tree_place key u) 0) v))
+      → Fit key shares (set ws (tree_place key u) (turned (tree_refund u n) (get_or ws (tree_place key u) 0)))
+      (set vs id (effect t (tree_refund u n) (get_or ws (tree_place key u) 0) v))
   tree_refund_keeps u n can =
       let i : IsViewOf key v = view_of key shares ws vs id v fit at in
       let found : ℕ = get_or ws (tree_place key u) 0 in
@@ -64,7 +67,8 @@ module _ (t : ℕ → ℕ) (key : Key) (shares : ℕ) (ws : List ℕ) (vs : List
       let m : ℕ = found + n in
       let free : free_in m ≡ tree_free_of key ws u + n = omega (arith, free_is m, had, flag, f, g, room) in
       let held : flag_in m ≡ reserved_of key ws u = omega (arith, flag_is m, had, flag, f, g, room) in
-      lands key shares (with_tree key ws u m) (set ws (tree_place key u) ((found + n) % 2 ^ 64)) (set vs id w) (as_tree key ws u m ((found + n) % 2 ^ 64) (omega (
+      lands key shares (with_tree key ws u m) (set ws (tree_place key u) ((found + n) % 2 ^ 64)) (set vs id w)
+      (as_tree key ws u m ((found + n) % 2 ^ 64) (omega (
         arith,
         had,
         flag,
@@ -84,7 +88,8 @@ module _ (t : ℕ → ℕ) (key : Key) (shares : ℕ) (ws : List ℕ) (vs : List
         free = omega (arith, free, room);
         reserved = omega (arith, held, few);
       })
-      (still_paying key v i share (less u n v.paid) v.reserving (t v.moves) (λ d far. omega (arith, less-le u d n v.paid, i.paid d far)) i.reserving (amount_less u n v.paid i.some_paid)))
+      (still_paying key v i share (less u n v.paid) v.reserving (t v.moves)
+      (λ d far. omega (arith, less-le u d n v.paid, i.paid d far)) i.reserving (amount_less u n v.paid i.some_paid)))
 
   pub reserve_keeps : (u seen found : ℕ) → CanReserve key v u seen → get_or ws (tree_place key u) 0 ≡ seen
       → Fit key shares (set ws (tree_place key u) (turned (reserve u seen) found)) (set vs id (effect t (reserve u seen) found v))
@@ -110,10 +115,13 @@ module _ (t : ℕ → ℕ) (key : Key) (shares : ℕ) (ws : List ℕ) (vs : List
         free = omega (arith, free);
         reserved = omega (arith, held);
       })
-      (still_paying key v i share (counted u (free_in seen)) (Some u) (t v.moves) (λ d far. count_else u d (free_in seen) (λ e. omega (arith, can.inside))) (λ d far. is_at_else u d (λ e. omega (arith, can.inside))) (amount_counted u (free_in seen))))
+      (still_paying key v i share (counted u (free_in seen)) (Some u) (t v.moves)
+      (λ d far. count_else u d (free_in seen) (λ e. omega (arith, can.inside)))
+      (λ d far. is_at_else u d (λ e. omega (arith, can.inside))) (amount_counted u (free_in seen))))
 
   pub unreserve_keeps : (u n : ℕ) → CanUnreserve key v u n
-      → Fit key shares (set ws (tree_place key u) (turned (unreserve u n) (get_or ws (tree_place key u) 0))) (set vs id (effect t (unreserve u n) (get_or ws (tree_place key u) 0) v))
+      → Fit key shares (set ws (tree_place key u) (turned (unreserve u n) (get_or ws (tree_place key u) 0)))
+      (set vs id (effect t (unreserve u n) (get_or ws (tree_place key u) 0) v))
   unreserve_keeps u n can =
       let i : IsViewOf key v = view_of key shares ws vs id v fit at in
       let found : ℕ = get_or ws (tree_place key u) 0 in
@@ -152,7 +160,9 @@ module _ (t : ℕ → ℕ) (key : Key) (shares : ℕ) (ws : List ℕ) (vs : List
         free = omega (arith, free, room);
         reserved = omega (arith, held);
       })
-      (still_paying key v i share (less u n v.paid) None (t v.moves) (λ d far. omega (arith, less-le u d n v.paid, i.paid d far)) (λ d far. is_at_none d) (amount_less u n v.paid i.some_paid)))
+      (still_paying key v i share (less u n v.paid) None (t v.moves)
+      (λ d far. omega (arith, less-le u d n v.paid, i.paid d far)) (λ d far. is_at_none d)
+      (amount_less u n v.paid i.some_paid)))
 
   pub collect_keeps : (u seen found : ℕ) → CanCollect key v u → get_or ws (tree_place key u) 0 ≡ seen
       → Fit key shares (set ws (tree_place key u) (turned (collect u seen) found)) (set vs id (effect t (collect u seen) found v))
@@ -176,4 +186,6 @@ module _ (t : ℕ → ℕ) (key : Key) (shares : ℕ) (ws : List ℕ) (vs : List
         free = omega (arith, free);
         reserved = omega (arith, held, flag, fit.words_in_range.reserved u can.inside);
       })
-      (still_paying key v i share (more u (free_in seen) v.paid) v.reserving (t v.moves) (λ d far. more_else u d (free_in seen) v.paid (λ e. omega (arith, can.inside)) can.paid ∙ i.paid d far) i.reserving (amount_more u (free_in seen) v.paid i.some_paid)))
+      (still_paying key v i share (more u (free_in seen) v.paid) v.reserving (t v.moves)
+      (λ d far. more_else u d (free_in seen) v.paid (λ e. omega (arith, can.inside)) can.paid ∙ i.paid d far)
+      i.reserving (amount_more u (free_in seen) v.paid i.some_paid)))

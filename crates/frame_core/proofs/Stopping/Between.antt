@@ -135,10 +135,17 @@ or_false a b e f = rw (e, f) refl
 same_cut : (key : Key) (vs : List View) (all : All GroundApart vs) (id : ℕ) (v : View)
     → get_elem? vs id ≡ some v → (cut : Cut) → NoAdoption (cuts id cut) → MayCut key cut v
     → SameGrounds vs (set vs id (left_by next cut v) ++ right_by cut v ∷ [])
-same_cut key vs all id v at (part_share n) other_than may = let e = not_ground v (apart_here vs all id v at) (omega (arith, may.fewer)) in cut_same vs all id v at (left_by next (part_share n) v) (right_by (part_share n) v) e e refl
-same_cut key vs all id v at (hand_out b rest) other_than may = let e = not_ground v (apart_here vs all id v at) may.share in cut_same vs all id v at (left_by next (hand_out b rest) v) (right_by (hand_out b rest) v) e e refl
-same_cut key vs all id v at (recall b rest) other_than may = let e = not_ground v (apart_here vs all id v at) may.share in cut_same vs all id v at (left_by next (recall b rest) v) (right_by (recall b rest) v) e e refl
-same_cut key vs all id v at part_ground other_than may = absurd (let z = apart_here vs all id v at may.is_ground in let s = may.share in omega arith)
+same_cut key vs all id v at (part_share n) other_than may =
+    let e = not_ground v (apart_here vs all id v at) (omega (arith, may.fewer)) in
+    cut_same vs all id v at (left_by next (part_share n) v) (right_by (part_share n) v) e e refl
+same_cut key vs all id v at (hand_out b rest) other_than may =
+    let e = not_ground v (apart_here vs all id v at) may.share in
+    cut_same vs all id v at (left_by next (hand_out b rest) v) (right_by (hand_out b rest) v) e e refl
+same_cut key vs all id v at (recall b rest) other_than may =
+    let e = not_ground v (apart_here vs all id v at) may.share in
+    cut_same vs all id v at (left_by next (recall b rest) v) (right_by (recall b rest) v) e e refl
+same_cut key vs all id v at part_ground other_than may =
+    absurd (let z = apart_here vs all id v at may.is_ground in let s = may.share in omega arith)
 same_cut key vs all id v at (adopt b rest) other_than may = absurd other_than
 
 same_join : (vs : List View) (all : All GroundApart vs) (id : ℕ) (v : View) → get_elem? vs id ≡ some v
@@ -148,8 +155,11 @@ same_join vs all id v at other u ne there join_idle may =
     let e = not_ground v (apart_here vs all id v at) may.keeper.share in
     let f = not_ground u (apart_here vs all other u there) may.other.share in
     join_same vs all id v at other u (joined_by next join_idle v u) spent ne there e f (or_false v.is_ground u.is_ground e f) refl
-same_join vs all id v at other u ne there hand_in may = let e = not_ground v (apart_here vs all id v at) may.takes.share in join_same vs all id v at other u (joined_by next hand_in v u) spent ne there e may.takes.not_ground e refl
-same_join vs all id v at other u ne there keep_in may = let e = not_ground v (apart_here vs all id v at) may.share in join_same vs all id v at other u (joined_by next keep_in v u) spent ne there e may.not_ground e refl
+same_join vs all id v at other u ne there hand_in may =
+    let e = not_ground v (apart_here vs all id v at) may.takes.share in
+    join_same vs all id v at other u (joined_by next hand_in v u) spent ne there e may.takes.not_ground e refl
+same_join vs all id v at other u ne there keep_in may = let e = not_ground v (apart_here vs all id v at) may.share in
+    join_same vs all id v at other u (joined_by next keep_in v u) spent ne there e may.not_ground e refl
 
 to_state : (s t r : State) → t ≡ r → SameGrounds (views_of s) (views_of r)
     → SameGrounds (views_of s) (views_of t)
@@ -163,38 +173,50 @@ to_two : (es : List Eye) (id : ℕ) (w u : Eye)
     → SameGrounds (map view_in es) (set (map view_in es) id w.view ++ u.view ∷ [])
     → SameGrounds (map view_in es) (map view_in (set es id w ++ u ∷ []))
 to_two es id w u g =
-    subst (SameGrounds (map view_in es)) (sym (map-append view_in (set es id w) (u ∷ []) ∙ ap (λ (vs : List View). vs ++ u.view ∷ []) (map-set view_in es id w))) g
+    subst (SameGrounds (map view_in es))
+    (sym (map-append view_in (set es id w) (u ∷ []) ∙ ap (λ (vs : List View). vs ++ u.view ∷ []) (map-set view_in es id w))) g
 
 to_gone : (es : List Eye) (id other : ℕ) (w u : Eye)
     → SameGrounds (map view_in es) (set (set (map view_in es) id w.view) other u.view)
     → SameGrounds (map view_in es) (map view_in (set (set es id w) other u))
 to_gone es id other w u g =
-    subst (SameGrounds (map view_in es)) (sym (map-set view_in (set es id w) other u ∙ ap (λ (vs : List View). set vs other u.view) (map-set view_in es id w))) g
+    subst (SameGrounds (map view_in es))
+    (sym (map-set view_in (set es id w) other u ∙ ap (λ (vs : List View). set vs other u.view) (map-set view_in es id w))) g
 
 same_grounds : (key : Key) (s : State) (event : Event) (t : State) → All GroundApart (views_of s)
     → NoAdoption event → Happens key s event t → SameGrounds (views_of s) (views_of t)
 same_grounds key s (loads id word) t all other_than (e, at, about, inside, is) =
     let there = at_map view_in s.eyes id e at in
-    to_state s t _ is (to_one s.eyes id _ (one_same (views_of s) all id e.view there _ (apart_here (views_of s) all id e.view there) (λ x. looks_grounded x e.view (next e.view.moves) e.view.lost)))
+    to_state s t _ is (to_one s.eyes id _
+    (one_same (views_of s) all id e.view there _ (apart_here (views_of s) all id e.view there)
+    (λ x. looks_grounded x e.view (next e.view.moves) e.view.lost)))
 same_grounds key s (makes id kind) t all other_than (e, at, may, made, is) =
     let there = at_map view_in s.eyes id e at in
     let f = not_ground e.view (apart_here (views_of s) all id e.view there) may.share in
     let found : ℕ = get_or s.words (place key kind) 0 in
     let w : View = effect next kind found e.view in
     let g : w.is_ground ≡ false = effect_ground next kind found e.view ∙ f in
-    to_state s t _ is (to_one s.eyes id _ (one_same (views_of s) all id e.view there w (no_ground w g) (λ x. none_grounded x w g ∙ sym (none_grounded x e.view f))))
+    to_state s t _ is (to_one s.eyes id _
+    (one_same (views_of s) all id e.view there w (no_ground w g) (λ x. none_grounded x w g ∙ sym (none_grounded x e.view f))))
 same_grounds key s (loses id kind) t all other_than (e, at, may, exchange, differs, is) =
     let there = at_map view_in s.eyes id e at in
-    to_state s t _ is (to_one s.eyes id _ (one_same (views_of s) all id e.view there _ (apart_here (views_of s) all id e.view there) (λ x. looks_grounded x e.view (next e.view.moves) (next e.view.lost))))
+    to_state s t _ is (to_one s.eyes id _
+    (one_same (views_of s) all id e.view there _ (apart_here (views_of s) all id e.view there)
+    (λ x. looks_grounded x e.view (next e.view.moves) (next e.view.lost))))
 same_grounds key s (loses_at_will id kind) t all other_than (e, at, may, exchange, is) =
     let there = at_map view_in s.eyes id e at in
-    to_state s t _ is (to_one s.eyes id _ (one_same (views_of s) all id e.view there _ (apart_here (views_of s) all id e.view there) (λ x. looks_grounded x e.view (next e.view.moves) (next e.view.lost))))
+    to_state s t _ is (to_one s.eyes id _
+    (one_same (views_of s) all id e.view there _ (apart_here (views_of s) all id e.view there)
+    (λ x. looks_grounded x e.view (next e.view.moves) (next e.view.lost))))
 same_grounds key s (cuts id cut) t all other_than (e, at, may, is) =
     let there = at_map view_in s.eyes id e at in
-    to_state s t _ is (to_two s.eyes id (eye (left_by next cut e.view) e.read) (eye (right_by cut e.view) []) (same_cut key (views_of s) all id e.view there cut other_than may))
+    to_state s t _ is (to_two s.eyes id (eye (left_by next cut e.view) e.read) (eye (right_by cut e.view) [])
+    (same_cut key (views_of s) all id e.view there cut other_than may))
 same_grounds key s (joins id other join) t all other_than (e, o, at, apart, there, may, is) =
     to_state s t _ is
-    (to_gone s.eyes id other (eye (joined_by next join e.view o.view) e.read) (eye spent []) (same_join (views_of s) all id e.view (at_map view_in s.eyes id e at) other o.view apart (at_map view_in s.eyes other o there) join may))
+    (to_gone s.eyes id other (eye (joined_by next join e.view o.view) e.read) (eye spent [])
+    (same_join (views_of s) all id e.view (at_map view_in s.eyes id e at) other o.view apart
+    (at_map view_in s.eyes other o there) join may))
 
 -- What is carried, after an event.
 
@@ -225,7 +247,8 @@ plain_carries m event t c other_than h =
       count = omega (
         arith,
         c.count,
-        range_le (λ x. ground_at n x - (holders x m.remembered + boot m.key x)) (λ x. ground_at m x - (holders x m.remembered + boot m.key x)) 0 (frame_count m.key) (λ x l q. omega (arith, same x)),
+        range_le (λ x. ground_at n x - (holders x m.remembered + boot m.key x))
+            (λ x. ground_at m x - (holders x m.remembered + boot m.key x)) 0 (frame_count m.key) (λ x l q. omega (arith, same x)),
       );
     }
 
@@ -235,7 +258,8 @@ inside_by end x h = grind (arith, nat_tests)
 -- frames of an unsealed memory are named by its key only past the end
 not_boot : (key : Key) (x : ℕ) → key.ranges ≡ [] → x < key.frames → boot key x ≡ 0
 unfolding is_boot_frame
-not_boot key x r h = ap (λ (rs : List (ℕ × ℕ)). if nat_le key.frames x || list_any (is_in_range x) rs then 1 else 0) r ∙ ap (λ (b : Bool). if b then 1 else 0) (inside_by key.frames x h)
+not_boot key x r h = ap (λ (rs : List (ℕ × ℕ)). if nat_le key.frames x || list_any (is_in_range x) rs then 1 else 0) r
+    ∙ ap (λ (b : Bool). if b then 1 else 0) (inside_by key.frames x h)
 
 covered_inside : (b : FrameBlock) (x : ℕ) → covers b x ≡ 1 → x < b.frame + 2 ^ b.order
 unfolding covers
@@ -275,7 +299,8 @@ module _ (m : Moment) (c : Carries m) (id : ℕ) (b : FrameBlock) (rest : Rest) 
       )
 
   adopted_sum : (x : ℕ)
-      → sum_by (grounded x) (set (views_of m.state) id (left_by next (adopt b rest) e.view) ++ right_by (adopt b rest) e.view ∷ []) + covers b x
+      → sum_by (grounded x)
+      (set (views_of m.state) id (left_by next (adopt b rest) e.view) ++ right_by (adopt b rest) e.view ∷ []) + covers b x
       ≡ sum_by (grounded x) (views_of m.state)
   adopted_sum x =
       let left : View = left_by next (adopt b rest) e.view in
@@ -294,7 +319,8 @@ module _ (m : Moment) (c : Carries m) (id : ℕ) (b : FrameBlock) (rest : Rest) 
   adopted_apart =
       let left : View = left_by next (adopt b rest) e.view in
       let right : View = right_by (adopt b rest) e.view in
-      All-push GroundApart (set (views_of m.state) id left) right (All-set GroundApart (views_of m.state) id left (λ g. may.share) c.apart) (no_ground right refl)
+      All-push GroundApart (set (views_of m.state) id left) right
+      (All-set GroundApart (views_of m.state) id left (λ g. may.share) c.apart) (no_ground right refl)
 
   adopt_carries : (t : State) (rem : List FrameBlock) → Happens m.key m.state (cuts id (adopt b rest)) t
       → views_of t ≡ set (views_of m.state) id (left_by next (adopt b rest) e.view) ++ right_by (adopt b rest) e.view ∷ []
@@ -309,9 +335,12 @@ module _ (m : Moment) (c : Carries m) (id : ℕ) (b : FrameBlock) (rest : Rest) 
         ap (sum_by (grounded x)) views,
         adopted_sum x,
       ) in
-      let few : (x : ℕ) → x < frame_count m.key → ground_at m x ≤ 1 = λ x q. omega (arith, held_at m c x, once m.key m.shares m.state.words (views_of m.state) c.fits x q) in
-      let unnamed : (x : ℕ) → covers b x ≡ 1 → boot m.key x ≡ 0 = λ x q. not_boot m.key x (c.is_key.unsealed not_sealed) (omega (arith, covered_inside b x q, may.inside)) in
-      let either : (x : ℕ) → (covers b x ≡ 0) ⊎ (covers b x ≡ 1) = λ x. ⊎_elim (λ z. inl z) (λ p. inr (omega (arith, covers-le b x, p))) (cases_eq (covers b x) 0) in
+      let few : (x : ℕ) → x < frame_count m.key → ground_at m x ≤ 1 =
+      λ x q. omega (arith, held_at m c x, once m.key m.shares m.state.words (views_of m.state) c.fits x q) in
+      let unnamed : (x : ℕ) → covers b x ≡ 1 → boot m.key x ≡ 0 =
+      λ x q. not_boot m.key x (c.is_key.unsealed not_sealed) (omega (arith, covered_inside b x q, may.inside)) in
+      let either : (x : ℕ) → (covers b x ≡ 0) ⊎ (covers b x ≡ 1) =
+      λ x. ⊎_elim (λ z. inl z) (λ p. inr (omega (arith, covers-le b x, p))) (cases_eq (covers b x) 0) in
       record {
         fits = event_fits m.key m.shares m.state (cuts id (adopt b rest)) t c.fits h;
         is_key = c.is_key;
@@ -331,7 +360,8 @@ module _ (m : Moment) (c : Carries m) (id : ℕ) (b : FrameBlock) (rest : Rest) 
         count = omega (
           arith,
           c.count,
-          range_le (λ x. ground_at n x - (holders x rem + boot m.key x)) (λ x. ground_at m x - (holders x m.remembered + boot m.key x)) 0 (frame_count m.key)
+          range_le (λ x. ground_at n x - (holders x rem + boot m.key x))
+              (λ x. ground_at m x - (holders x m.remembered + boot m.key x)) 0 (frame_count m.key)
               (λ x l q. ⊎_elim (λ z. omega (arith, less x, f.elsewhere x z)) (λ o. omega (arith, less x, few x (omega arith))) (either x)),
         );
       }
@@ -339,25 +369,45 @@ module _ (m : Moment) (c : Carries m) (id : ℕ) (b : FrameBlock) (rest : Rest) 
 adopted_views : (s t : State) (id : ℕ) (w u : Eye)
     → t ≡ record { words = s.words; eyes = set s.eyes id w ++ u ∷ [] }
     → views_of t ≡ set (views_of s) id w.view ++ u.view ∷ []
-adopted_views s t id w u is = ap views_of is ∙ map-append view_in (set s.eyes id w) (u ∷ []) ∙ ap (λ (vs : List View). vs ++ u.view ∷ []) (map-set view_in s.eyes id w)
+adopted_views s t id w u is =
+    ap views_of is ∙ map-append view_in (set s.eyes id w) (u ∷ [])
+    ∙ ap (λ (vs : List View). vs ++ u.view ∷ []) (map-set view_in s.eyes id w)
 
 event_carries : (m : Moment) (event : Event) (t : State) (rem : List FrameBlock) → Carries m
     → Happens m.key m.state event t → Remembers m.key event m.remembered rem → Carries (after_event m t rem)
-event_carries m (loads id word) t rem c h r = subst (λ (x : List FrameBlock). Carries (after_event m t x)) (sym r) (plain_carries m (loads id word) t c tt h)
-event_carries m (makes id kind) t rem c h r = subst (λ (x : List FrameBlock). Carries (after_event m t x)) (sym r) (plain_carries m (makes id kind) t c tt h)
-event_carries m (loses id kind) t rem c h r = subst (λ (x : List FrameBlock). Carries (after_event m t x)) (sym r) (plain_carries m (loses id kind) t c tt h)
-event_carries m (loses_at_will id kind) t rem c h r = subst (λ (x : List FrameBlock). Carries (after_event m t x)) (sym r) (plain_carries m (loses_at_will id kind) t c tt h)
-event_carries m (cuts id (part_share n)) t rem c h r = subst (λ (x : List FrameBlock). Carries (after_event m t x)) (sym r) (plain_carries m (cuts id (part_share n)) t c tt h)
-event_carries m (cuts id (hand_out b rest)) t rem c h r = subst (λ (x : List FrameBlock). Carries (after_event m t x)) (sym r) (plain_carries m (cuts id (hand_out b rest)) t c tt h)
-event_carries m (cuts id (recall b rest)) t rem c h r = subst (λ (x : List FrameBlock). Carries (after_event m t x)) (sym r) (plain_carries m (cuts id (recall b rest)) t c tt h)
-event_carries m (cuts id part_ground) t rem c h r = subst (λ (x : List FrameBlock). Carries (after_event m t x)) (sym r) (plain_carries m (cuts id part_ground) t c tt h)
+event_carries m (loads id word) t rem c h r =
+    subst (λ (x : List FrameBlock). Carries (after_event m t x)) (sym r) (plain_carries m (loads id word) t c tt h)
+event_carries m (makes id kind) t rem c h r =
+    subst (λ (x : List FrameBlock). Carries (after_event m t x)) (sym r) (plain_carries m (makes id kind) t c tt h)
+event_carries m (loses id kind) t rem c h r =
+    subst (λ (x : List FrameBlock). Carries (after_event m t x)) (sym r) (plain_carries m (loses id kind) t c tt h)
+event_carries m (loses_at_will id kind) t rem c h r =
+    subst (λ (x : List FrameBlock). Carries (after_event m t x)) (sym r) (plain_carries m (loses_at_will id kind) t c tt h)
+event_carries m (cuts id (part_share n)) t rem c h r =
+    subst (λ (x : List FrameBlock). Carries (after_event m t x)) (sym r) (plain_carries m (cuts id (part_share n)) t c tt h)
+event_carries m (cuts id (hand_out b rest)) t rem c h r =
+    subst (λ (x : List FrameBlock). Carries (after_event m t x)) (sym r) (plain_carries m (cuts id (hand_out b rest)) t c tt h)
+event_carries m (cuts id (recall b rest)) t rem c h r =
+    subst (λ (x : List FrameBlock). Carries (after_event m t x)) (sym r) (plain_carries m (cuts id (recall b rest)) t c tt h)
+event_carries m (cuts id part_ground) t rem c h r =
+    subst (λ (x : List FrameBlock). Carries (after_event m t x)) (sym r) (plain_carries m (cuts id part_ground) t c tt h)
 event_carries m (cuts id (adopt b rest)) t rem c (e, at, may, is) r =
-    adopt_carries m c id b rest e at may t rem (e, at, may, is) (adopted_views m.state t id (eye (left_by next (adopt b rest) e.view) e.read) (eye (right_by (adopt b rest) e.view) []) is) r
-event_carries m (joins id other join) t rem c h r = subst (λ (x : List FrameBlock). Carries (after_event m t x)) (sym r) (plain_carries m (joins id other join) t c tt h)
+    adopt_carries m c id b rest e at may t rem (e, at, may, is)
+    (adopted_views m.state t id (eye (left_by next (adopt b rest) e.view) e.read)
+    (eye (right_by (adopt b rest) e.view) []) is) r
+event_carries m (joins id other join) t rem c h r =
+    subst (λ (x : List FrameBlock). Carries (after_event m t x)) (sym r) (plain_carries m (joins id other join) t c tt h)
 
 -- an event between stops
 pub step_carries : (m n : Moment) (event : Event) → Carries m → Steps event m n → Carries n
 step_carries m n event c s =
     let same : n ≡ after_event m n.state n.remembered =
-    (λ i. record { key = s.key i; shares = s.shares i; state = n.state; remembered = n.remembered; abandoned = s.abandoned i; stops = s.stops i }) in
+    (λ i. record {
+      key = s.key i;
+      shares = s.shares i;
+      state = n.state;
+      remembered = n.remembered;
+      abandoned = s.abandoned i;
+      stops = s.stops i;
+    }) in
     subst Carries (sym same) (event_carries m event n.state n.remembered c s.happens s.remembers)

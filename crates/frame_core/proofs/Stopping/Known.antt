@@ -45,7 +45,8 @@ pub record Carries (m : Moment) : Type 0 where
   pub remembered : (x : ℕ) → x < frame_count m.key → holders x m.remembered + boot m.key x ≤ ground_at m x
   pub abandoned : (x : ℕ) → x < frame_count m.key
       → ground_at m x ≤ holders x m.remembered + boot m.key x + holders x m.abandoned
-  pub count : sum_by (λ x. ground_at m x - (holders x m.remembered + boot m.key x)) (range_with_len 0 (frame_count m.key)) ≤ 512 * m.key.cores * m.stops
+  pub count : sum_by (λ x. ground_at m x - (holders x m.remembered + boot m.key x))
+      (range_with_len 0 (frame_count m.key)) ≤ 512 * m.key.cores * m.stops
 
 pub holders_none : (x : ℕ) → holders x [] ≡ 0
 unfolding holders
@@ -98,7 +99,9 @@ held_split x (v ∷ vs) all =
     )
 
 fixed_by : (key : Key) (x : ℕ) (b : Bool)
-    → (grounded x (if b then ground_with key (boot_blocks key) else spent) ≡ holders x (if b then ground_with key (boot_blocks key) else spent).own) × (holders x (if b then ground_with key (boot_blocks key) else spent).kept ≡ 0)
+    → (grounded x (if b then ground_with key (boot_blocks key) else spent)
+    ≡ holders x (if b then ground_with key (boot_blocks key) else spent).own)
+    × (holders x (if b then ground_with key (boot_blocks key) else spent).kept ≡ 0)
 unfolding grounded
 fixed_by key x true = (refl, holders_none x)
 fixed_by key x false = (sym (holders_none x), holders_none x)
@@ -161,7 +164,8 @@ module _ (m : Moment) (c : Carries m) where
   known_is x = holders_both x (known_of (views_of m.state)) m.remembered
 
   pub known_are_blocks : All (IsBlock m.key) (known_at m)
-  known_are_blocks = All-append (IsBlock m.key) (known_of (views_of m.state)) m.remembered (known_blocks m.key (views_of m.state) c.fits.each) c.are_blocks
+  known_are_blocks = All-append (IsBlock m.key) (known_of (views_of m.state)) m.remembered
+      (known_blocks m.key (views_of m.state) c.fits.each) c.are_blocks
 
   pub held_at : (x : ℕ)
       → holders x (holding_of m.key (views_of m.state))
@@ -180,7 +184,8 @@ module _ (m : Moment) (c : Carries m) where
       → (holders x m.remembered ≡ 0) × (boot m.key x ≡ 0) × (0 < ground_at m x)
   unfolding is_lost
   lost_is x e =
-      let t = flags (nat_lt 0 (holders x (holding_of m.key (views_of m.state)))) (nat_eq (holders x (known_at m)) 0) (nat_eq (holders x (flying_at m)) 0) (not (is_boot_frame m.key x)) e in
+      let t = flags (nat_lt 0 (holders x (holding_of m.key (views_of m.state)))) (nat_eq (holders x (known_at m)) 0)
+      (nat_eq (holders x (flying_at m)) 0) (not (is_boot_frame m.key x)) e in
       let some = some_of (holders x (holding_of m.key (views_of m.state))) t.0 in
       let known = none_of (holders x (known_at m)) t.1 in
       let flying = none_of (holders x (flying_at m)) t.2 in
@@ -210,7 +215,8 @@ module _ (m : Moment) (c : Carries m) where
     few_lost = omega (
       arith,
       c.count,
-      range_le (λ x. cond {A = ℕ} (is_lost m x) 1 0) (λ x. ground_at m x - (holders x m.remembered + boot m.key x)) 0 (frame_count m.key) (λ x l h. counted_lost x),
+      range_le (λ x. cond {A = ℕ} (is_lost m x) 1 0) (λ x. ground_at m x - (holders x m.remembered + boot m.key x)) 0
+          (frame_count m.key) (λ x l h. counted_lost x),
     );
     were_in_flight = λ x h e. let t = lost_is x e in omega (arith, c.abandoned x h, t.0, t.1, t.2);
   }

@@ -56,7 +56,8 @@ module _ (key : Key) (old new : List ℕ) (was : AreInRange key old) (r : IsRebu
   same_set : (c : ℕ) → c < key.children → huge_of old c ≡ 0 → set_of key new c ≡ set_of key old c
   same_set c h z =
       sym (bits_of_child key new r.in_range c h)
-      ∙ range_same (bit_of key old) (bit_of key new) (512 * c) 512 (λ x l u. let here : child_of x ≡ c = omega arith in kept_bit x (omega arith) (ap (huge_of old) here ∙ z))
+      ∙ range_same (bit_of key old) (bit_of key new) (512 * c) 512
+      (λ x l u. let here : child_of x ≡ c = omega arith in kept_bit x (omega arith) (ap (huge_of old) here ∙ z))
       ∙ bits_of_child key old was c h
 
   free_again : (c : ℕ) → c < key.children → rebuilt_free key new c ≡ rebuilt_free key old c
@@ -78,7 +79,8 @@ module _ (key : Key) (old new : List ℕ) (was : AreInRange key old) (r : IsRebu
 
   tree_again : (t : ℕ) → t < tree_count key → rebuilt_in_tree key new t ≡ rebuilt_in_tree key old t
   unfolding rebuilt_in_tree
-  tree_again t h = range_same (rebuilt_free key old) (rebuilt_free key new) (8 * t) (children_in key t) (λ c l u. free_again c (omega arith))
+  tree_again t h = range_same (rebuilt_free key old) (rebuilt_free key new) (8 * t) (children_in key t)
+      (λ c l u. free_again c (omega arith))
 
   pub again : IsRebuilt key new new
   again = record {

@@ -66,7 +66,9 @@ pub after_all : (key : Key) (ws : List ℕ) (P : View → Type 0) → P (idle ke
     → P (ground_with key (held_blocks key ws)) → All P (views_after key ws)
 after_all key ws P p q =
     let g : View = ground_with key (held_blocks key ws) in
-    subst (All P) (sym (views_are key ws)) (All-append P (replicate key.cores (idle key 1)) (g ∷ []) (all_same P key.cores (idle key 1) p) (All-cons P g [] q (λ k d h. absurd (omega arith))))
+    subst (All P) (sym (views_are key ws))
+    (All-append P (replicate key.cores (idle key 1)) (g ∷ []) (all_same P key.cores (idle key 1) p)
+    (All-cons P g [] q (λ k d h. absurd (omega arith))))
 
 nothing : (n m : ℕ) → m ≡ 0 → n * m ≡ 0
 nothing n m e = ap (λ k. n * k) e ∙ times_zero n
@@ -121,5 +123,6 @@ module _ (key : Key) (not_sealed : key.sealed ≡ false) (ws : List ℕ) (r : Is
           ground_is_out g refl,
         );
         one_ground = omega (arith, after_total ground_in (ground_no v refl) (ground_no spent refl), ground_yes g refl);
-        each = after_all key ws (IsViewOf key) (idle_is key (Some key) 1 refl (omega arith)) (ground_is key (Some key) (held_blocks key ws) refl (held_are_blocks key ws));
+        each = after_all key ws (IsViewOf key) (idle_is key (Some key) 1 refl (omega arith))
+            (ground_is key (Some key) (held_blocks key ws) refl (held_are_blocks key ws));
       })

@@ -52,12 +52,20 @@ passes_by : (m o : Moment) (events : List Event) (t : State) → ArePlain events
 passes_by m o [] t plain is rest = subst (λ (s : State). Passes (record m { state = s }) o) is rest
 passes_by m o (event ∷ events) t plain (mid, first, others) rest =
     steps m (record m { state = mid }) o event
-    (record { key = refl; shares = refl; happens = first; remembers = remembers_all m.key event m.remembered plain.0; abandoned = refl; stops = refl })
+    (record {
+      key = refl;
+      shares = refl;
+      happens = first;
+      remembers = remembers_all m.key event m.remembered plain.0;
+      abandoned = refl;
+      stops = refl;
+    })
     (passes_by (record m { state = mid }) o events t plain.1 others rest)
 
 -- what rebuilding makes does not look at what the key names
 rebuilt_unsealed : (key : Key) (old new : List ℕ) → IsRebuilt key old new → IsRebuilt (unsealed key) old new
-unfolding word_count tree_place local_place bits_place tree_word_of tree_free_of reserved_of local_word_of rest_of bit_word_of set_of rebuilt_free rebuilt_in_tree rebuilt_bits
+unfolding word_count tree_place local_place bits_place tree_word_of tree_free_of reserved_of local_word_of rest_of
+    bit_word_of set_of rebuilt_free rebuilt_in_tree rebuilt_bits
 rebuilt_unsealed key old new r = record {
   in_range = in_range_unsealed key new r.in_range;
   huge = r.huge;
@@ -72,15 +80,32 @@ abbrev before : State
 before = opened all_free (idle one_child 1)
 
 allowed : AllAllowed one_child before claimed_one
-unfolding entry_place tree_place bits_place local_place word_count last_seen free_in flag_in entry_word lane_in lane_put lane_shift count_in counted more less
+unfolding entry_place tree_place bits_place local_place word_count last_seen free_in flag_in entry_word lane_in
+    lane_put lane_shift count_in counted more less
 allowed = (
   (refl, refl, omega arith),
   (
-    (refl, record { share = omega arith; may = record { inside = omega arith; enough = omega arith; paid = λ d ne. count_none d }; read = refl }, refl),
+    (
+      refl,
+      record {
+        share = omega arith;
+        may = record { inside = omega arith; enough = omega arith; paid = λ d ne. count_none d };
+        read = refl;
+      },
+      refl,
+    ),
     (
       (refl, refl, omega arith),
       (
-        (refl, record { share = omega arith; may = record { inside = omega arith; no_flag = refl; enough = omega arith; one_child = lies_anywhere _ refl refl }; read = refl }, refl),
+        (
+          refl,
+          record {
+            share = omega arith;
+            may = record { inside = omega arith; no_flag = refl; enough = omega arith; one_child = lies_anywhere _ refl refl };
+            read = refl;
+          },
+          refl,
+        ),
         (
           (refl, refl, omega arith),
           (
@@ -98,7 +123,20 @@ allowed = (
                       (
                         (refl, refl, omega arith),
                         (
-                          (refl, record { share = omega arith; may = record { is_run = whole_word 0 (omega arith); clear = refl; charged = omega arith; paid = omega arith }; read = refl }, refl),
+                          (
+                            refl,
+                            record {
+                              share = omega arith;
+                              may = record {
+                                is_run = whole_word 0 (omega arith);
+                                clear = refl;
+                                charged = omega arith;
+                                paid = omega arith;
+                              };
+                              read = refl;
+                            },
+                            refl,
+                          ),
                           tt,
                         ),
                       ),
@@ -130,12 +168,14 @@ abbrev then : State
 then = reached one_child before claimed_one
 
 ends_so : then.words ≡ ws
-unfolding entry_place tree_place bits_place local_place word_count last_seen free_in flag_in entry_word lane_in lane_put lane_shift count_in counted more less
+unfolding entry_place tree_place bits_place local_place word_count last_seen free_in flag_in entry_word lane_in
+    lane_put lane_shift count_in counted more less
 ends_so = refl
 
 rebuilt : IsRebuilt one_child ws again
 unfolding entry_place tree_place
-rebuilt = rebuilt_by_bits 384 384 0 448 full_word 0 0 0 0 0 0 0 (omega arith) (omega (arith, ones_zero, ones_full)) full_fits low_word low_word low_word low_word low_word low_word low_word
+rebuilt = rebuilt_by_bits 384 384 0 448 full_word 0 0 0 0 0 0 0 (omega arith)
+    (omega (arith, ones_zero, ones_full)) full_fits low_word low_word low_word low_word low_word low_word low_word
 
 abbrev first : Moment
 first = opening_moment one_child all_free
@@ -145,22 +185,30 @@ last = stopped (record first { state = then }) again
 
 goes : Passes first last
 goes =
-    passes_by first last claimed_one then (tt, (tt, (tt, (tt, (tt, (tt, (tt, (tt, (tt, (tt, (tt, (tt, (tt, tt))))))))))))) (run_of one_child before claimed_one allowed)
-    (stops (record first { state = then }) last again (rebuilt_unsealed one_child then.words again (subst (λ (l : List ℕ). IsRebuilt one_child l again) (sym ends_so) rebuilt)) (stays last))
+    passes_by first last claimed_one then
+    (tt, (tt, (tt, (tt, (tt, (tt, (tt, (tt, (tt, (tt, (tt, (tt, (tt, tt)))))))))))))
+    (run_of one_child before claimed_one allowed)
+    (stops (record first { state = then }) last again
+    (rebuilt_unsealed one_child then.words again
+    (subst (λ (l : List ℕ). IsRebuilt one_child l again) (sym ends_so) rebuilt)) (stays last))
 
 held_still : is_lost last 0 ≡ true
-unfolding is_lost known_of flying_of range_blocks is_boot_frame is_in_range holders covers blocks_of fixed_ground boot_blocks set_blocks huge_blocks bit_of huge_of entry_of bit_word_of entry_place bits_place tree_place local_place word_count free_in flag_in lane_in lane_put lane_shift entry_word count_in counted more less last_seen
+unfolding is_lost known_of flying_of range_blocks is_boot_frame is_in_range holders covers blocks_of fixed_ground
+    boot_blocks set_blocks huge_blocks bit_of huge_of entry_of bit_word_of entry_place bits_place tree_place
+    local_place word_count free_in flag_in lane_in lane_put lane_shift entry_word count_in counted more less last_seen
 held_still = refl
 
 is_key : IsKey one_child
 unfolding AreRanges
 is_key = record {
-  some_children = omega arith;
-  few_children = omega arith;
-  some_cores = omega arith;
-  few_cores = omega arith;
-  last_child = omega arith;
-  inside = omega arith;
+  sizes = record {
+    some_children = omega arith;
+    few_children = omega arith;
+    some_cores = omega arith;
+    few_cores = omega arith;
+    last_child = omega arith;
+    inside = omega arith;
+  };
   ranges = tt;
   few_ranges = omega arith;
   unsealed = λ e. refl;

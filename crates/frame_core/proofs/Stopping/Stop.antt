@@ -49,7 +49,7 @@ boot_below key x h = let e = past_by key.frames x h in rw e refl
 
 range_blocks_are : (key : Key) → IsKey key → All (IsBlock key) (range_blocks key)
 unfolding range_blocks
-range_blocks_are key k = chosen_all (λ f. block f 0) (is_boot_frame key) (IsBlock key) 0 key.frames (λ d l h. record { order = omega arith; aligned = omega arith; inside = omega (arith, k.inside) })
+range_blocks_are key k = chosen_all (λ f. block f 0) (is_boot_frame key) (IsBlock key) 0 key.frames (λ d l h. record { order = omega arith; aligned = omega arith; inside = omega (arith, k.sizes.inside) })
 
 range_smalls : (key : Key) (x : ℕ) → x < key.frames → smalls x (range_blocks key) ≡ boot key x
 unfolding range_blocks
@@ -61,7 +61,8 @@ range_wholes key c = frames_wholes (is_boot_frame key) key.frames c
 
 range_past : (key : Key) (x : ℕ) → key.frames ≤ x → smalls x (range_blocks key) ≡ 0
 unfolding range_blocks smalls
-range_past key x h = chosen_none (λ f. block f 0) (is_boot_frame key) (small_at x) 0 key.frames (λ d l q. behind_block x (block d 0) (omega arith))
+range_past key x h = chosen_none (λ f. block f 0) (is_boot_frame key) (small_at x) 0 key.frames
+    (λ d l q. behind_block x (block d 0) (omega arith))
 
 -- a range's frames are remembered from a stop on, and the others stay named
 names_split : (key : Key) → IsKey key → (x : ℕ)
@@ -76,12 +77,14 @@ names_split key k x =
 unsealed_key : (key : Key) → IsKey key → IsKey (unsealed key)
 unfolding AreRanges
 unsealed_key key k = record {
-  some_children = k.some_children;
-  few_children = k.few_children;
-  some_cores = k.some_cores;
-  few_cores = k.few_cores;
-  last_child = k.last_child;
-  inside = k.inside;
+  sizes = record {
+    some_children = k.sizes.some_children;
+    few_children = k.sizes.few_children;
+    some_cores = k.sizes.some_cores;
+    few_cores = k.sizes.few_cores;
+    last_child = k.sizes.last_child;
+    inside = k.sizes.inside;
+  };
   ranges = tt;
   few_ranges = omega arith;
   unsealed = λ e. refl;
@@ -149,12 +152,17 @@ own_sum key v i one = by v.share refl
     by : (s : ℕ) → v.share ≡ s
         → sum_by (λ x. holders x (if nat_eq v.share 0 then [] else v.own)) (range_with_len 0 (frame_count key)) ≤ 512 * v.share
     by zero e =
-        omega (arith, range_all (λ x. holders x (if nat_eq v.share 0 then [] else v.own)) 0 0 (frame_count key) (λ x l h. ap (λ s. holders x (if nat_eq s 0 then [] else v.own)) e ∙ holders_none x))
+        omega (
+          arith,
+          range_all (λ x. holders x (if nat_eq v.share 0 then [] else v.own)) 0 0 (frame_count key)
+              (λ x l h. ap (λ s. holders x (if nat_eq s 0 then [] else v.own)) e ∙ holders_none x),
+        )
     by (suc s) e =
         let had : 0 < v.share = omega (arith, e) in
         let c : ℕ = (i.one_child had).0 in
         let l : LiesIn v c = (i.one_child had).1 in
-        let same : (x : ℕ) → holders x (if nat_eq v.share 0 then [] else v.own) ≡ holders x v.own = λ x. ap (λ (b : Bool). holders x (if b then [] else v.own)) (some_test v.share had) in
+        let same : (x : ℕ) → holders x (if nat_eq v.share 0 then [] else v.own) ≡ holders x v.own =
+        λ x. ap (λ (b : Bool). holders x (if b then [] else v.own)) (some_test v.share had) in
         omega (
           arith,
           had,
@@ -173,7 +181,9 @@ flying_sum key (v ∷ vs) all ones =
       own_sum key v (All-head (IsViewOf key) v vs all) (All-head (Once key) v vs ones),
       flying_sum key vs (All-tail (IsViewOf key) v vs all) (All-tail (Once key) v vs ones),
       sum_by-cons (λ (u : View). u.share) v vs,
-      range_le (λ x. holders x (flying_of (v ∷ vs))) (λ x. holders x (if nat_eq v.share 0 then [] else v.own) + holders x (flying_of vs)) 0 (frame_count key) (λ x l h. omega (arith, first_flying x v vs)),
+      range_le (λ x. holders x (flying_of (v ∷ vs)))
+          (λ x. holders x (if nat_eq v.share 0 then [] else v.own) + holders x (flying_of vs)) 0 (frame_count key)
+          (λ x l h. omega (arith, first_flying x v vs)),
       sum_plus (λ x. holders x (if nat_eq v.share 0 then [] else v.own)) (λ x. holders x (flying_of vs)) all_range,
     )
 
@@ -250,7 +260,8 @@ module _ (m : Moment) (c : Carries m) (new : List ℕ) (r : IsRebuilt (unsealed 
       idle_holds y = ap (λ n. m.key.cores * n) (idle_grounded (unsealed m.key) y) ∙ times_none m.key.cores
 
   flying_once : All (Once m.key) (views_of m.state)
-  flying_once k d h x q = omega (arith, once m.key m.shares m.state.words (views_of m.state) c.fits x q, own-le-held m.key x (views_of m.state) k d h)
+  flying_once k d h x q =
+      omega (arith, once m.key m.shares m.state.words (views_of m.state) c.fits x q, own-le-held m.key x (views_of m.state) k d h)
 
   few_flying : sum_by (λ x. holders x (flying_at m)) (range_with_len 0 (frame_count m.key)) ≤ 512 * m.key.cores
   few_flying =
@@ -278,7 +289,8 @@ module _ (m : Moment) (c : Carries m) (new : List ℕ) (r : IsRebuilt (unsealed 
     is_key = unsealed_key m.key c.is_key;
     few = omega arith;
     apart = after_all (unsealed m.key) new GroundApart (λ e. absurd (false-is-not-true e)) (λ e. refl);
-    are_blocks = same_blocks m.key (known_at m ++ range_blocks m.key) (All-append (IsBlock m.key) (known_at m) (range_blocks m.key) (known_are_blocks m c) (range_blocks_are m.key c.is_key));
+    are_blocks = same_blocks m.key (known_at m ++ range_blocks m.key)
+        (All-append (IsBlock m.key) (known_at m) (range_blocks m.key) (known_are_blocks m c) (range_blocks_are m.key c.is_key));
     remembered = λ x h. omega (arith, remembers x, stop_ground x h, held_at m c x, c.remembered x h);
     abandoned = λ x h. omega (
       arith,
@@ -292,7 +304,8 @@ module _ (m : Moment) (c : Carries m) (new : List ℕ) (r : IsRebuilt (unsealed 
       arith,
       c.count,
       few_flying,
-      sum_plus (λ x. holders x (flying_at m)) (λ x. ground_at m x - (holders x m.remembered + boot m.key x)) (range_with_len 0 (frame_count m.key)),
+      sum_plus (λ x. holders x (flying_at m)) (λ x. ground_at m x - (holders x m.remembered + boot m.key x))
+          (range_with_len 0 (frame_count m.key)),
       range_le (λ x. ground_at (stopped m new) x - (holders x (known_at m ++ range_blocks m.key) + boot (unsealed m.key) x))
           (λ x. holders x (flying_at m) + (ground_at m x - (holders x m.remembered + boot m.key x))) 0 (frame_count m.key)
           (λ x l h. let q : x < frame_count m.key = omega arith in omega (

@@ -37,7 +37,7 @@ module _ (key : Key) (ws : List ℕ) (k : IsKey key) (o : IsSealedOpening key ws
 
   pub opening_carries : Carries (opening_moment key ws)
   opening_carries = record {
-    fits = sealed_fits key ws key.cores k.some_cores o;
+    fits = sealed_fits key ws key.cores k.sizes.some_cores o;
     is_key = k;
     few = omega arith;
     apart = All-cons GroundApart (idle key key.cores) [] (λ e. absurd (false-is-not-true e)) (λ i d h. absurd (omega arith));
@@ -46,7 +46,8 @@ module _ (key : Key) (ws : List ℕ) (k : IsKey key) (o : IsSealedOpening key ws
     abandoned = λ x h. omega (arith, ground_then x h);
     count = omega (
       arith,
-      range_all (λ x. ground_at (opening_moment key ws) x - (holders x [] + boot key x)) 0 0 (frame_count key) (λ x l h. let q : x < frame_count key = omega arith in omega (arith, ground_then x q)),
+      range_all (λ x. ground_at (opening_moment key ws) x - (holders x [] + boot key x)) 0 0 (frame_count key)
+          (λ x l h. let q : x < frame_count key = omega arith in omega (arith, ground_then x q)),
     );
   }
     where

@@ -29,7 +29,8 @@ is_clear : (ws : List ℕ) (x : ℕ) → bit_word_of again ws (x / 64) ≡ 0 →
 is_clear ws x e = bit_is again ws x (x / 64) refl ∙ ap (λ n. bit_at n (x % 64)) e ∙ bit_at-zero (x % 64)
 
 -- a block below order 9 of which all frames are set
-adopts : (ws : List ℕ) (b : FrameBlock) → IsBlock again b → b.order < 9 → ((x : ℕ) → x < b.frame + 2 ^ b.order → bit_of again ws x ≡ 1) → IsAdopted ws b
+adopts : (ws : List ℕ) (b : FrameBlock) → IsBlock again b → b.order < 9
+    → ((x : ℕ) → x < b.frame + 2 ^ b.order → bit_of again ws x ≡ 1) → IsAdopted ws b
 adopts ws b is low all = record {
   share = refl;
   is_ground = refl;
@@ -58,7 +59,13 @@ claimed_is_adopted =
 
 pub rest_is_not_held : IsNotHeld one_claimed (block 0 7)
 rest_is_not_held rest can =
-    omega (arith, can.leaves.smalls 64, in_block 64 (block 0 7) (omega arith) (omega arith) (omega arith), held_smalls again one_claimed 64 (omega arith), is_clear one_claimed 64 word_1)
+    omega (
+      arith,
+      can.leaves.smalls 64,
+      in_block 64 (block 0 7) (omega arith) (omega arith) (omega arith),
+      held_smalls again one_claimed 64 (omega arith),
+      is_clear one_claimed 64 word_1,
+    )
 
 -- with four words filled
 

@@ -33,7 +33,8 @@ lies_anywhere v e o = record {
 pub can_pay : (v : View) (seen n : ℕ) → v.paid ≡ None → n ≤ free_in seen → CanTreePay one_child v 0 seen n
 can_pay v seen n e enough = record { inside = omega arith; enough = enough; paid = λ d ne. ap (count_in d) e ∙ count_none d }
 
-pub can_charge : (v : View) (seen n : ℕ) → v.charged ≡ None → v.own ≡ [] → flag_in (lane_in seen 0) ≡ 0 → n ≤ free_in (lane_in seen 0) → CanCharge one_child v 0 seen n
+pub can_charge : (v : View) (seen n : ℕ) → v.charged ≡ None → v.own ≡ [] → flag_in (lane_in seen 0) ≡ 0
+    → n ≤ free_in (lane_in seen 0) → CanCharge one_child v 0 seen n
 can_charge v seen n e o flag enough = record { inside = omega arith; no_flag = flag; enough = enough; one_child = lies_anywhere v e o }
 
 -- Blocks.
@@ -41,7 +42,8 @@ can_charge v seen n e o flag enough = record { inside = omega arith; no_flag = f
 pub no_blocks : All (IsBlock one_child) []
 no_blocks = All-nil (IsBlock one_child)
 
-pub and_block : (b : FrameBlock) (bs : List FrameBlock) → IsBlock one_child b → All (IsBlock one_child) bs → All (IsBlock one_child) (b ∷ bs)
+pub and_block : (b : FrameBlock) (bs : List FrameBlock) → IsBlock one_child b → All (IsBlock one_child) bs
+    → All (IsBlock one_child) (b ∷ bs)
 and_block b bs is are = All-cons (IsBlock one_child) b bs is are
 
 -- Whole bit words.
@@ -60,18 +62,22 @@ claimed first (suc n) = block (64 * (first + n)) 6 ∷ claimed first n
 pub claimed_are_blocks : (first n : ℕ) → first + n ≤ 8 → All (IsBlock one_child) (claimed first n)
 claimed_are_blocks first zero h = no_blocks
 claimed_are_blocks first (suc n) h =
-    and_block (block (64 * (first + n)) 6) (claimed first n) (word_is_block (first + n) (omega arith)) (claimed_are_blocks first n (omega arith))
+    and_block (block (64 * (first + n)) 6) (claimed first n) (word_is_block (first + n) (omega arith))
+    (claimed_are_blocks first n (omega arith))
 
-pub can_claim : (v : View) (word seen : ℕ) → word < 8 → bit_and seen (run 0 (2 ^ 6)) ≡ 0 → 2 ^ 6 ≤ charged_in (word / 8) v → 2 ^ 6 ≤ paid_on (word / 64) v → CanClaim one_child v word seen 0 6
+pub can_claim : (v : View) (word seen : ℕ) → word < 8 → bit_and seen (run 0 (2 ^ 6)) ≡ 0
+    → 2 ^ 6 ≤ charged_in (word / 8) v → 2 ^ 6 ≤ paid_on (word / 64) v → CanClaim one_child v word seen 0 6
 can_claim v word seen h clear charged paid = record { is_run = whole_word word h; clear = clear; charged = charged; paid = paid }
 
-pub can_release : (v : View) (word : ℕ) → word < 8 → All (IsBlock one_child) v.own → 0 < times (block (64 * word) 6) v.own → 0 < charged_in (word / 8) v → 0 < paid_on (word / 64) v
+pub can_release : (v : View) (word : ℕ) → word < 8 → All (IsBlock one_child) v.own
+    → 0 < times (block (64 * word) 6) v.own → 0 < charged_in (word / 8) v → 0 < paid_on (word / 64) v
     → CanRelease one_child v word 0 6 (less_one (block (64 * word) 6) v.own)
 can_release v word h are own charged paid =
     let same : 64 * word ≡ 64 * word + 0 = omega arith in
     record {
       is_run = whole_word word h;
-      leaves = subst (λ f. Leaves one_child v.own (block f 6) (less_one (block (64 * word) 6) v.own)) same (less_one_leaves one_child (block (64 * word) 6) v.own are own);
+      leaves = subst (λ f. Leaves one_child v.own (block f 6) (less_one (block (64 * word) 6) v.own)) same
+          (less_one_leaves one_child (block (64 * word) 6) v.own are own);
       charged = one_place (word / 8) v.charged charged;
       paid = one_place (word / 64) v.paid paid;
     }
@@ -80,9 +86,12 @@ can_release v word h are own charged paid =
 pub two_words : (frame x : ℕ) → small_at x (block (frame + 64) 6) + small_at x (block frame 6) ≡ small_at x (block frame 7)
 two_words frame x = omega (arith, halves x frame 6 (omega arith))
 
-pub four_words : (frame x : ℕ) → small_at x (block (frame + 192) 6) + small_at x (block (frame + 128) 6) + small_at x (block (frame + 64) 6) + small_at x (block frame 6) ≡ small_at x (block frame 8)
+pub four_words : (frame x : ℕ)
+    → small_at x (block (frame + 192) 6) + small_at x (block (frame + 128) 6) + small_at x (block (frame + 64) 6)
+    + small_at x (block frame 6) ≡ small_at x (block frame 8)
 four_words frame x =
-    let both : small_at x (block (frame + 128) 7) + small_at x (block frame 7) ≡ small_at x (block frame 8) = omega (arith, halves x frame 7 (omega arith)) in
+    let both : small_at x (block (frame + 128) 7) + small_at x (block frame 7) ≡ small_at x (block frame 8) =
+    omega (arith, halves x frame 7 (omega arith)) in
     let last : frame + 128 + 64 ≡ frame + 192 = omega arith in
     omega (arith, both, two_words frame x, two_words (frame + 128) x, ap (λ f. small_at x (block f 6)) last)
 
@@ -92,11 +101,14 @@ small_covers x b h = grind (arith, nat_tests)
 
 -- another number was found
 pub not_zero : (n : ℕ) → Some 0 ≢ Some (suc n)
-not_zero n e = let z : is_at 0 (Some 0) ≡ is_at 0 (Some (suc n)) = ap (is_at 0) e in omega (arith, z, is_at_here 0, is_at_else (suc n) 0 (omega arith))
+not_zero n e = let z : is_at 0 (Some 0) ≡ is_at 0 (Some (suc n)) = ap (is_at 0) e in
+    omega (arith, z, is_at_here 0, is_at_else (suc n) 0 (omega arith))
 
 -- The set frames, word by word.
 
-pub set_eight : (e t c b0 b1 b2 b3 b4 b5 b6 b7 : ℕ) → set_of one_child (words_of_one e t c b0 b1 b2 b3 b4 b5 b6 b7) 0 ≡ ones b0 + ones b1 + ones b2 + ones b3 + ones b4 + ones b5 + ones b6 + ones b7
+pub set_eight : (e t c b0 b1 b2 b3 b4 b5 b6 b7 : ℕ)
+    → set_of one_child (words_of_one e t c b0 b1 b2 b3 b4 b5 b6 b7) 0 ≡ ones b0 + ones b1 + ones b2 + ones b3
+    + ones b4 + ones b5 + ones b6 + ones b7
 unfolding set_of bits_place
 set_eight e t c b0 b1 b2 b3 b4 b5 b6 b7 = omega arith
 

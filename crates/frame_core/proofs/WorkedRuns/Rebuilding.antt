@@ -13,7 +13,7 @@ use Rattle.frame_core.specs.Words.{entry_place, tree_place, local_place, bits_pl
 use Rattle.frame_core.specs.Rebuilt.{rebuilt_free, rebuilt_in_tree, rebuilt_bits, IsRebuilt}
 use Rattle.frame_core.specs.Stops.{unsealed}
 use Rattle.frame_core.specs.WorkedRuns.{one_child, words_of_one, full_word, all_free, OpensAllFree}
-use Rattle.frame_core.proofs.AllFree.{IsImage-zeros, free_below_none, free_below_child}
+use Rattle.frame_core.proofs.Zeros.{IsImage-zeros}
 use Rattle.frame_core.proofs.Bits.{ones_zero}
 use Rattle.frame_core.proofs.Words.{entry_written, tree_written, bits_written}
 use Rattle.frame_core.proofs.Steps.Shared.{free_is, flag_is, free_of_is, huge_of_is, bit_is}
@@ -44,8 +44,8 @@ one_of_eight P p0 p1 p2 p3 p4 p5 p6 p7 (suc (suc (suc (suc (suc (suc (suc (suc i
 
 -- a first entry, and a first tree
 first_entry : AreInRange one_child (words_of_one 512 0 0 0 0 0 0 0 0 0 0)
-unfolding entry_place word_count entry_word lane_in lane_put lane_shift with_entry
-first_entry = (free_below_child one_child (replicate 33 0) 0 (IsImage-zeros one_child) (free_below_none one_child) (omega arith)).0.in_range
+unfolding entry_place word_count entry_word lane_in lane_put lane_shift with_entry free_in flag_in
+first_entry = (entry_written one_child (replicate 33 0) 0 512 (IsImage-zeros one_child).in_range (omega arith) (omega arith)).in_range (omega arith) (omega arith)
 
 -- the entry is written where nothing else stands in its word
 lone_entry : (e : ℕ) → lane_put 512 0 e ≡ e
@@ -53,7 +53,8 @@ unfolding lane_put lane_in lane_shift
 lone_entry e = omega arith
 
 module _ (e t b0 b1 b2 b3 b4 b5 b6 b7 : ℕ) (small : e < 65536) (free : free_in e ≤ 512) (flag : flag_in e ≤ 1) (few : t ≤ 512)
-    (f0 : b0 < 2 ^ 64) (f1 : b1 < 2 ^ 64) (f2 : b2 < 2 ^ 64) (f3 : b3 < 2 ^ 64) (f4 : b4 < 2 ^ 64) (f5 : b5 < 2 ^ 64) (f6 : b6 < 2 ^ 64) (f7 : b7 < 2 ^ 64) where
+    (f0 : b0 < 2 ^ 64) (f1 : b1 < 2 ^ 64) (f2 : b2 < 2 ^ 64) (f3 : b3 < 2 ^ 64) (f4 : b4 < 2 ^ 64) (f5 : b5 < 2 ^ 64)
+    (f6 : b6 < 2 ^ 64) (f7 : b7 < 2 ^ 64) where
   entry_put : AreInRange one_child (words_of_one e 0 0 0 0 0 0 0 0 0 0)
   unfolding with_entry entry_place
   entry_put =
@@ -63,7 +64,8 @@ module _ (e t b0 b1 b2 b3 b4 b5 b6 b7 : ℕ) (small : e < 65536) (free : free_in
   tree_put : AreInRange one_child (words_of_one e t 0 0 0 0 0 0 0 0 0)
   unfolding with_tree tree_place
   tree_put =
-      (tree_written one_child (words_of_one e 0 0 0 0 0 0 0 0 0 0) 0 t entry_put (omega arith)).in_range (omega (arith, free_is t)) (omega (arith, flag_is t))
+      (tree_written one_child (words_of_one e 0 0 0 0 0 0 0 0 0 0) 0 t entry_put (omega arith)).in_range
+      (omega (arith, free_is t)) (omega (arith, flag_is t))
 
   pub are_in_range : AreInRange one_child (words_of_one e t 0 b0 b1 b2 b3 b4 b5 b6 b7)
   unfolding with_bits bits_place
@@ -120,8 +122,10 @@ module _ (e t c b0 b1 b2 b3 b4 b5 b6 b7 : ℕ) where
   unfolding rest_of local_word_of local_place
   reads_rest = refl
 
-module _ (e t c n b0 b1 b2 b3 b4 b5 b6 b7 : ℕ) (unflagged : e ≤ 512) (all : n + (ones b0 + ones b1 + ones b2 + ones b3 + ones b4 + ones b5 + ones b6 + ones b7) ≡ 512)
-    (f0 : b0 < 2 ^ 64) (f1 : b1 < 2 ^ 64) (f2 : b2 < 2 ^ 64) (f3 : b3 < 2 ^ 64) (f4 : b4 < 2 ^ 64) (f5 : b5 < 2 ^ 64) (f6 : b6 < 2 ^ 64) (f7 : b7 < 2 ^ 64) where
+module _ (e t c n b0 b1 b2 b3 b4 b5 b6 b7 : ℕ) (unflagged : e ≤ 512)
+    (all : n + (ones b0 + ones b1 + ones b2 + ones b3 + ones b4 + ones b5 + ones b6 + ones b7) ≡ 512)
+    (f0 : b0 < 2 ^ 64) (f1 : b1 < 2 ^ 64) (f2 : b2 < 2 ^ 64) (f3 : b3 < 2 ^ 64) (f4 : b4 < 2 ^ 64) (f5 : b5 < 2 ^ 64)
+    (f6 : b6 < 2 ^ 64) (f7 : b7 < 2 ^ 64) where
   -- a child without a flag counts what is not set, and its bits stay
   pub rebuilt_by_bits : IsRebuilt one_child (words_of_one e t c b0 b1 b2 b3 b4 b5 b6 b7) (words_of_one n n 0 b0 b1 b2 b3 b4 b5 b6 b7)
   unfolding bit_word_of bits_place
@@ -131,20 +135,28 @@ module _ (e t c n b0 b1 b2 b3 b4 b5 b6 b7 : ℕ) (unflagged : e ≤ 512) (all : 
       let plain : huge_of old 0 ≡ 0 = omega (arith, reads_huge e t c b0 b1 b2 b3 b4 b5 b6 b7 (omega arith), flag_is e) in
       let free_n : free_in n ≡ n = omega (arith, free_is n) in
       let flag_n : flag_in n ≡ 0 = omega (arith, flag_is n) in
-      let counted : rebuilt_free one_child old 0 ≡ n = omega (arith, rebuilt_plain one_child old 0 plain, set_eight e t c b0 b1 b2 b3 b4 b5 b6 b7, all) in
-      let same : (w : ℕ) → huge_of old (w / 8) ≡ 0 → bit_word_of one_child old w ≡ rebuilt_bits one_child old w = λ w h. sym (bits_plain one_child old w h) in
+      let counted : rebuilt_free one_child old 0 ≡ n =
+      omega (arith, rebuilt_plain one_child old 0 plain, set_eight e t c b0 b1 b2 b3 b4 b5 b6 b7, all) in
+      let same : (w : ℕ) → huge_of old (w / 8) ≡ 0 → bit_word_of one_child old w ≡ rebuilt_bits one_child old w =
+      λ w h. sym (bits_plain one_child old w h) in
       record {
-        in_range = are_in_range n n b0 b1 b2 b3 b4 b5 b6 b7 (omega arith) (omega (arith, free_n)) (omega (arith, flag_n)) (omega arith) f0 f1 f2 f3 f4 f5 f6 f7;
-        huge = only_first (λ i. huge_of new i ≡ huge_of old i) (omega (arith, plain, reads_huge n n 0 b0 b1 b2 b3 b4 b5 b6 b7 (omega arith), flag_n));
-        free = only_first (λ i. free_of new i ≡ rebuilt_free one_child old i) (omega (arith, counted, reads_free n n 0 b0 b1 b2 b3 b4 b5 b6 b7 (omega arith), free_n));
-        bits = one_of_eight (λ w. bit_word_of one_child new w ≡ rebuilt_bits one_child old w) (same 0 plain) (same 1 plain) (same 2 plain) (same 3 plain) (same 4 plain) (same 5 plain) (same 6 plain) (same 7 plain);
-        trees = only_first (λ i. tree_free_of one_child new i ≡ rebuilt_in_tree one_child old i) (omega (arith, counted, only_child old, reads_tree n n 0 b0 b1 b2 b3 b4 b5 b6 b7, free_n));
+        in_range = are_in_range n n b0 b1 b2 b3 b4 b5 b6 b7 (omega arith) (omega (arith, free_n))
+            (omega (arith, flag_n)) (omega arith) f0 f1 f2 f3 f4 f5 f6 f7;
+        huge = only_first (λ i. huge_of new i ≡ huge_of old i)
+            (omega (arith, plain, reads_huge n n 0 b0 b1 b2 b3 b4 b5 b6 b7 (omega arith), flag_n));
+        free = only_first (λ i. free_of new i ≡ rebuilt_free one_child old i)
+            (omega (arith, counted, reads_free n n 0 b0 b1 b2 b3 b4 b5 b6 b7 (omega arith), free_n));
+        bits = one_of_eight (λ w. bit_word_of one_child new w ≡ rebuilt_bits one_child old w) (same 0 plain)
+            (same 1 plain) (same 2 plain) (same 3 plain) (same 4 plain) (same 5 plain) (same 6 plain) (same 7 plain);
+        trees = only_first (λ i. tree_free_of one_child new i ≡ rebuilt_in_tree one_child old i)
+            (omega (arith, counted, only_child old, reads_tree n n 0 b0 b1 b2 b3 b4 b5 b6 b7, free_n));
         unreserved = only_first (λ i. reserved_of one_child new i ≡ 0) (reads_reserved n n 0 b0 b1 b2 b3 b4 b5 b6 b7 ∙ flag_n);
         resting = only_first (λ i. rest_of one_child new i ≡ None) (reads_rest n n 0 b0 b1 b2 b3 b4 b5 b6 b7 ∙ rest_in-zero);
       }
 
 -- a child with a flag keeps it, and its bits are cleared
-pub rebuilt_by_flag : (t c b0 b1 b2 b3 b4 b5 b6 b7 : ℕ) → IsRebuilt one_child (words_of_one 32768 t c b0 b1 b2 b3 b4 b5 b6 b7) (words_of_one 32768 0 0 0 0 0 0 0 0 0 0)
+pub rebuilt_by_flag : (t c b0 b1 b2 b3 b4 b5 b6 b7 : ℕ)
+    → IsRebuilt one_child (words_of_one 32768 t c b0 b1 b2 b3 b4 b5 b6 b7) (words_of_one 32768 0 0 0 0 0 0 0 0 0 0)
 unfolding bit_word_of bits_place
 rebuilt_by_flag t c b0 b1 b2 b3 b4 b5 b6 b7 =
     let old : List ℕ = words_of_one 32768 t c b0 b1 b2 b3 b4 b5 b6 b7 in
@@ -157,18 +169,23 @@ rebuilt_by_flag t c b0 b1 b2 b3 b4 b5 b6 b7 =
     let zero_flag : flag_in 0 ≡ 0 = flag_is 0 in
     let cleared : (w : ℕ) → huge_of old (w / 8) ≡ 1 → 0 ≡ rebuilt_bits one_child old w = λ w h. sym (bits_huge one_child old w h) in
     record {
-      in_range = are_in_range 32768 0 0 0 0 0 0 0 0 0 (omega arith) (omega (arith, free)) (omega (arith, flag)) (omega arith) no_bits no_bits no_bits no_bits no_bits no_bits no_bits no_bits;
+      in_range = are_in_range 32768 0 0 0 0 0 0 0 0 0 (omega arith) (omega (arith, free)) (omega (arith, flag))
+          (omega arith) no_bits no_bits no_bits no_bits no_bits no_bits no_bits no_bits;
       huge = only_first (λ i. huge_of new i ≡ huge_of old i) (omega (arith, up, reads_huge 32768 0 0 0 0 0 0 0 0 0 0 (omega arith), flag));
-      free = only_first (λ i. free_of new i ≡ rebuilt_free one_child old i) (omega (arith, none, reads_free 32768 0 0 0 0 0 0 0 0 0 0 (omega arith), free));
-      bits = one_of_eight (λ w. bit_word_of one_child new w ≡ rebuilt_bits one_child old w) (cleared 0 up) (cleared 1 up) (cleared 2 up) (cleared 3 up) (cleared 4 up) (cleared 5 up) (cleared 6 up) (cleared 7 up);
-      trees = only_first (λ i. tree_free_of one_child new i ≡ rebuilt_in_tree one_child old i) (omega (arith, none, only_child old, reads_tree 32768 0 0 0 0 0 0 0 0 0 0, zero_free));
+      free = only_first (λ i. free_of new i ≡ rebuilt_free one_child old i)
+          (omega (arith, none, reads_free 32768 0 0 0 0 0 0 0 0 0 0 (omega arith), free));
+      bits = one_of_eight (λ w. bit_word_of one_child new w ≡ rebuilt_bits one_child old w) (cleared 0 up)
+          (cleared 1 up) (cleared 2 up) (cleared 3 up) (cleared 4 up) (cleared 5 up) (cleared 6 up) (cleared 7 up);
+      trees = only_first (λ i. tree_free_of one_child new i ≡ rebuilt_in_tree one_child old i)
+          (omega (arith, none, only_child old, reads_tree 32768 0 0 0 0 0 0 0 0 0 0, zero_free));
       unreserved = only_first (λ i. reserved_of one_child new i ≡ 0) (reads_reserved 32768 0 0 0 0 0 0 0 0 0 0 ∙ zero_flag);
       resting = only_first (λ i. rest_of one_child new i ≡ None) (reads_rest 32768 0 0 0 0 0 0 0 0 0 0 ∙ rest_in-zero);
     }
 
 -- whether a memory is sealed is nothing to its words
 pub rebuilt_unsealed : (old new : List ℕ) → IsRebuilt one_child old new → IsRebuilt (unsealed one_child) old new
-unfolding word_count tree_place local_place bits_place tree_word_of tree_free_of reserved_of local_word_of rest_of bit_word_of set_of rebuilt_free rebuilt_in_tree rebuilt_bits
+unfolding word_count tree_place local_place bits_place tree_word_of tree_free_of reserved_of local_word_of rest_of
+    bit_word_of set_of rebuilt_free rebuilt_in_tree rebuilt_bits
 rebuilt_unsealed old new r = record {
   in_range = record {
     count = r.in_range.count;
@@ -210,7 +227,8 @@ no_bit x h =
 pub opens_all_free : OpensAllFree
 opens_all_free = record {
   sealed = refl;
-  exact = rebuilt_by_bits 512 512 0 512 0 0 0 0 0 0 0 0 (omega arith) (omega (arith, ones_zero)) no_bits no_bits no_bits no_bits no_bits no_bits no_bits no_bits;
+  exact = rebuilt_by_bits 512 512 0 512 0 0 0 0 0 0 0 0 (omega arith)
+      (omega (arith, ones_zero)) no_bits no_bits no_bits no_bits no_bits no_bits no_bits no_bits;
   unflagged = only_first (λ i. huge_of all_free i ≡ 0) (reads_huge 512 512 0 0 0 0 0 0 0 0 0 (omega arith) ∙ flag_is 512);
   boot_frames = λ x h. no_bit x h ∙ sym (ap (λ (b : Bool). if b then 1 else 0) (no_boot_frame x h));
 }

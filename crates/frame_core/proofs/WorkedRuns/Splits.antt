@@ -43,17 +43,41 @@ low_leaves =
 
 all_filled : (word : ℕ) → word / 8 ≡ 0 → names word (7 ∷ 6 ∷ 5 ∷ 4 ∷ 3 ∷ 2 ∷ 1 ∷ 0 ∷ []) ≡ 1
 unfolding names
-all_filled word at = one_of_eight (λ w. names w (7 ∷ 6 ∷ 5 ∷ 4 ∷ 3 ∷ 2 ∷ 1 ∷ 0 ∷ []) ≡ 1) refl refl refl refl refl refl refl refl word (omega arith)
+all_filled word at = one_of_eight (λ w. names w (7 ∷ 6 ∷ 5 ∷ 4 ∷ 3 ∷ 2 ∷ 1 ∷ 0 ∷ []) ≡ 1) refl refl refl refl refl
+    refl refl refl word (omega arith)
 
 pub stop_with_half_filled_allowed : AllAllowed one_child at_first fills_half
-unfolding entry_place tree_place bits_place local_place word_count last_seen free_in flag_in entry_word lane_in lane_put lane_shift count_in counted more less less_one times is_same names wholes whole_at
+unfolding entry_place tree_place bits_place local_place word_count last_seen free_in flag_in entry_word lane_in
+    lane_put lane_shift count_in counted more less less_one times is_same names wholes whole_at
 stop_with_half_filled_allowed =
     (refl, refl, omega arith)
     ⟫ (refl, record { share = omega arith; may = can_pay _ 512 512 refl (omega arith); read = refl }, refl)
     ⟫ (refl, refl, omega arith)
-    ⟫ (refl, record { share = omega arith; may = record { inside = omega arith; all_free = refl; paid = omega arith; one_child = lies_anywhere _ refl refl }; read = refl }, refl)
+    ⟫ (
+      refl,
+      record {
+        share = omega arith;
+        may = record { inside = omega arith; all_free = refl; paid = omega arith; one_child = lies_anywhere _ refl refl };
+        read = refl;
+      },
+      refl,
+    )
     ⟫ (refl, record { share = omega arith; is_block = whole_is_block; leaves = whole_leaves; unfilled = λ e word at. names_none word })
-    ⟫ (refl, λ e. absurd (omega arith), refl, record { takes = record { share = omega arith; out = refl; not_ground = refl; block = block 0 9; owns = refl }; one_child = lies_anywhere _ refl refl })
+    ⟫ (
+      refl,
+      λ e. absurd (omega arith),
+      refl,
+      record {
+        takes = record {
+          share = omega arith;
+          out = refl;
+          not_ground = refl;
+          block = block 0 9;
+          owns = refl;
+        };
+        one_child = lies_anywhere _ refl refl;
+      },
+    )
     ⟫ (refl, record { share = omega arith; may = record { inside = omega arith; own = omega arith }; read = tt }, tt)
     ⟫ (refl, record { share = omega arith; may = record { inside = omega arith; own = omega arith }; read = tt }, tt)
     ⟫ (refl, record { share = omega arith; may = record { inside = omega arith; own = omega arith }; read = tt }, tt)
@@ -64,7 +88,8 @@ stop_with_half_filled_set : set_of one_child (words_of_one 32768 0 0 full_word f
 stop_with_half_filled_set = omega (arith, set_eight 32768 0 0 full_word full_word full_word full_word 0 0 0 0, ones_zero, ones_full)
 
 half_filled : StopsAfter fills_half 0 256 still_huge
-unfolding entry_place tree_place bits_place local_place word_count last_seen free_in flag_in entry_word lane_in lane_put lane_shift count_in counted more less less_one times is_same names wholes whole_at free_of entry_of
+unfolding entry_place tree_place bits_place local_place word_count last_seen free_in flag_in entry_word lane_in
+    lane_put lane_shift count_in counted more less less_one times is_same names wholes whole_at free_of entry_of
 half_filled = record {
   end = reached one_child at_first fills_half;
   run = run_of one_child at_first fills_half stop_with_half_filled_allowed;
@@ -74,28 +99,47 @@ half_filled = record {
 }
 
 stop_with_the_flag_dropped_allowed : AllAllowed one_child at_first fills_all
-unfolding entry_place tree_place bits_place local_place word_count last_seen free_in flag_in entry_word lane_in lane_put lane_shift count_in counted more less less_one times is_same names wholes whole_at
+unfolding entry_place tree_place bits_place local_place word_count last_seen free_in flag_in entry_word lane_in
+    lane_put lane_shift count_in counted more less less_one times is_same names wholes whole_at
 stop_with_the_flag_dropped_allowed =
     and_then one_child at_first fills_half fills_others stop_with_half_filled_allowed (
     (refl, record { share = omega arith; may = record { inside = omega arith; own = omega arith }; read = tt }, tt)
     ⟫ (refl, record { share = omega arith; may = record { inside = omega arith; own = omega arith }; read = tt }, tt)
     ⟫ (refl, record { share = omega arith; may = record { inside = omega arith; own = omega arith }; read = tt }, tt)
     ⟫ (refl, record { share = omega arith; may = record { inside = omega arith; own = omega arith }; read = tt }, tt)
-    ⟫ (refl, record { share = omega arith; may = record { inside = omega arith; leaves = whole_leaves; filled = all_filled }; read = tt }, tt)
+    ⟫ (
+      refl,
+      record {
+        share = omega arith;
+        may = record { inside = omega arith; leaves = whole_leaves; filled = all_filled };
+        read = tt;
+      },
+      tt,
+    )
     ⟫ tt
     )
 
-stop_with_the_flag_dropped_set : set_of one_child (words_of_one 0 0 0 full_word full_word full_word full_word full_word full_word full_word full_word) 0 ≡ 512
-stop_with_the_flag_dropped_set = omega (arith, set_eight 0 0 0 full_word full_word full_word full_word full_word full_word full_word full_word, ones_zero, ones_full)
+stop_with_the_flag_dropped_set : set_of one_child
+    (words_of_one 0 0 0 full_word full_word full_word full_word full_word full_word full_word full_word) 0 ≡ 512
+stop_with_the_flag_dropped_set =
+    omega (
+      arith,
+      set_eight 0 0 0 full_word full_word full_word full_word full_word full_word full_word full_word,
+      ones_zero,
+      ones_full,
+    )
 
 flag_dropped : StopsAfter fills_all 0 512 all_set
-unfolding entry_place tree_place bits_place local_place word_count last_seen free_in flag_in entry_word lane_in lane_put lane_shift count_in counted more less less_one times is_same names wholes whole_at free_of entry_of
+unfolding entry_place tree_place bits_place local_place word_count last_seen free_in flag_in entry_word lane_in
+    lane_put lane_shift count_in counted more less less_one times is_same names wholes whole_at free_of entry_of
 flag_dropped = record {
   end = reached one_child at_first fills_all;
   run = run_of one_child at_first fills_all stop_with_the_flag_dropped_allowed;
   free = refl;
   bits = stop_with_the_flag_dropped_set;
-  rebuilt = rebuilt_unsealed _ _ (rebuilt_by_bits 0 0 0 0 full_word full_word full_word full_word full_word full_word full_word full_word (omega arith) (omega (arith, ones_zero, ones_full))
+  rebuilt = rebuilt_unsealed _ _
+      (rebuilt_by_bits 0 0 0 0 full_word full_word full_word full_word full_word full_word full_word full_word
+      (omega arith) (omega (arith, ones_zero, ones_full))
       all_bits all_bits all_bits all_bits all_bits all_bits all_bits all_bits);
 }
 
@@ -106,7 +150,8 @@ pub stop_with_the_flag_dropped : StopWithTheFlagDropped
 stop_with_the_flag_dropped = (flag_dropped, huge_is_not_held, lower_is_adopted, upper_is_adopted)
 
 split_allowed : AllAllowed one_child at_first splits_huge
-unfolding entry_place tree_place bits_place local_place word_count last_seen free_in flag_in entry_word lane_in lane_put lane_shift count_in counted more less less_one times is_same names wholes whole_at
+unfolding entry_place tree_place bits_place local_place word_count last_seen free_in flag_in entry_word lane_in
+    lane_put lane_shift count_in counted more less less_one times is_same names wholes whole_at
 split_allowed =
     and_then one_child at_first fills_all hands_out_halves stop_with_the_flag_dropped_allowed (
     (refl, record { share = omega arith; is_block = low_is_block; leaves = low_leaves; unfilled = λ e. absurd (omega arith) })
@@ -115,7 +160,8 @@ split_allowed =
     )
 
 lower_half : HandsOut splits_huge 2 (block 0 8) 0 512
-unfolding entry_place tree_place bits_place local_place word_count last_seen free_in flag_in entry_word lane_in lane_put lane_shift count_in counted more less less_one times is_same names wholes whole_at free_of entry_of
+unfolding entry_place tree_place bits_place local_place word_count last_seen free_in flag_in entry_word lane_in
+    lane_put lane_shift count_in counted more less less_one times is_same names wholes whole_at free_of entry_of
 lower_half = record {
   end = reached one_child at_first splits_huge;
   run = run_of one_child at_first splits_huge split_allowed;
@@ -125,7 +171,8 @@ lower_half = record {
 }
 
 upper_half : HandsOut splits_huge 3 (block 256 8) 0 512
-unfolding entry_place tree_place bits_place local_place word_count last_seen free_in flag_in entry_word lane_in lane_put lane_shift count_in counted more less less_one times is_same names wholes whole_at free_of entry_of
+unfolding entry_place tree_place bits_place local_place word_count last_seen free_in flag_in entry_word lane_in
+    lane_put lane_shift count_in counted more less less_one times is_same names wholes whole_at free_of entry_of
 upper_half = record {
   end = reached one_child at_first splits_huge;
   run = run_of one_child at_first splits_huge split_allowed;

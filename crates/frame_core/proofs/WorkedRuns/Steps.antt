@@ -19,7 +19,8 @@ leads key s (loads id word) = record {
 }
 leads key s (makes id kind) = record {
   words = set s.words (place key kind) (turned kind (get_or s.words (place key kind) 0));
-  eyes = set s.eyes id (eye (effect next kind (get_or s.words (place key kind) 0) (seat s id).view) (sighting (place key kind) None ∷ (seat s id).read));
+  eyes = set s.eyes id (eye (effect next kind (get_or s.words (place key kind) 0) (seat s id).view)
+      (sighting (place key kind) None ∷ (seat s id).read));
 }
 leads key s (loses id kind) = record {
   words = s.words;
@@ -42,10 +43,13 @@ leads key s (joins id other join) = record {
 abbrev pub Allowed : Key → State → Event → Type 0
 Allowed key s (loads id word) = Has s id (seat s id) × ((seat s id).view.about ≡ Some key) × (word < word_count key)
 Allowed key s (makes id kind) = Has s id (seat s id) × MayTry key (seat s id) kind × IsMade kind (get_or s.words (place key kind) 0)
-Allowed key s (loses id kind) = Has s id (seat s id) × MayTry key (seat s id) kind × IsExchange kind × (seen_by kind ≢ Some (get_or s.words (place key kind) 0))
+Allowed key s (loses id kind) =
+    Has s id (seat s id) × MayTry key (seat s id) kind × IsExchange kind
+    × (seen_by kind ≢ Some (get_or s.words (place key kind) 0))
 Allowed key s (loses_at_will id kind) = Has s id (seat s id) × MayTry key (seat s id) kind × IsExchange kind
 Allowed key s (cuts id cut) = Has s id (seat s id) × MayCut key cut (seat s id).view
-Allowed key s (joins id other join) = Has s id (seat s id) × (other ≢ id) × Has s other (seat s other) × MayJoin join (seat s id).view (seat s other).view
+Allowed key s (joins id other join) =
+    Has s id (seat s id) × (other ≢ id) × Has s other (seat s other) × MayJoin join (seat s id).view (seat s other).view
 
 -- an event that may happen leads where `leads` says
 happens : (key : Key) (s : State) (event : Event) → Allowed key s event → Happens key s event (leads key s event)
@@ -70,7 +74,8 @@ run_of key s [] all = refl
 run_of key s (event ∷ events) all = (leads key s event, happens key s event all.0, run_of key (leads key s event) events all.1)
 
 -- two lists of events, one after the other
-pub and_then : (key : Key) (s : State) (events others : List Event) → AllAllowed key s events → AllAllowed key (reached key s events) others → AllAllowed key s (events ++ others)
+pub and_then : (key : Key) (s : State) (events others : List Event) → AllAllowed key s events
+    → AllAllowed key (reached key s events) others → AllAllowed key s (events ++ others)
 and_then key s [] others all more = more
 and_then key s (event ∷ events) others all more = (all.0, and_then key (leads key s event) events others all.1 more)
 

@@ -14,7 +14,8 @@ use Rattle.frame_core.proofs.WorkedRuns.Rebuilding.{no_bits, all_bits, rebuilt_b
 use Rattle.frame_core.proofs.WorkedRuns.Steps.{reached, AllAllowed, run_of, and_then, ◌⟫◌}
 
 stop_after_the_charge_allowed : AllAllowed one_child at_first charged_wide
-unfolding entry_place tree_place bits_place local_place word_count last_seen free_in flag_in entry_word lane_in lane_put lane_shift count_in counted more less
+unfolding entry_place tree_place bits_place local_place word_count last_seen free_in flag_in entry_word lane_in
+    lane_put lane_shift count_in counted more less
 stop_after_the_charge_allowed =
     (refl, refl, omega arith)
     ⟫ (refl, record { share = omega arith; may = can_pay _ 512 128 refl (omega arith); read = refl }, refl)
@@ -26,7 +27,8 @@ stop_after_the_charge_set : set_of one_child (words_of_one 384 384 0 0 0 0 0 0 0
 stop_after_the_charge_set = omega (arith, set_eight 384 384 0 0 0 0 0 0 0 0 0, ones_zero, ones_full)
 
 pub stop_after_the_charge : StopAfterTheCharge
-unfolding entry_place tree_place bits_place local_place word_count last_seen free_in flag_in entry_word lane_in lane_put lane_shift count_in counted more less free_of entry_of
+unfolding entry_place tree_place bits_place local_place word_count last_seen free_in flag_in entry_word lane_in
+    lane_put lane_shift count_in counted more less free_of entry_of
 stop_after_the_charge = record {
   end = reached one_child at_first charged_wide;
   run = run_of one_child at_first charged_wide stop_after_the_charge_allowed;
@@ -37,7 +39,8 @@ stop_after_the_charge = record {
 }
 
 pub stop_after_one_claim_allowed : AllAllowed one_child at_first claimed_one
-unfolding entry_place tree_place bits_place local_place word_count last_seen free_in flag_in entry_word lane_in lane_put lane_shift count_in counted more less
+unfolding entry_place tree_place bits_place local_place word_count last_seen free_in flag_in entry_word lane_in
+    lane_put lane_shift count_in counted more less
 stop_after_one_claim_allowed =
     and_then one_child at_first charged_wide loads_and_claims stop_after_the_charge_allowed (
     (refl, refl, omega arith)
@@ -56,7 +59,8 @@ stop_after_one_claim_set : set_of one_child (words_of_one 384 384 0 full_word 0 
 stop_after_one_claim_set = omega (arith, set_eight 384 384 0 full_word 0 0 0 0 0 0 0, ones_zero, ones_full)
 
 one_claim : StopsAfter claimed_one 384 64 one_claimed
-unfolding entry_place tree_place bits_place local_place word_count last_seen free_in flag_in entry_word lane_in lane_put lane_shift count_in counted more less free_of entry_of
+unfolding entry_place tree_place bits_place local_place word_count last_seen free_in flag_in entry_word lane_in
+    lane_put lane_shift count_in counted more less free_of entry_of
 one_claim = record {
   end = reached one_child at_first claimed_one;
   run = run_of one_child at_first claimed_one stop_after_one_claim_allowed;
@@ -70,7 +74,8 @@ pub stop_after_one_claim : StopAfterOneClaim
 stop_after_one_claim = (one_claim, rest_is_not_held, claimed_is_adopted)
 
 stop_after_two_claims_allowed : AllAllowed one_child at_first claimed_two
-unfolding entry_place tree_place bits_place local_place word_count last_seen free_in flag_in entry_word lane_in lane_put lane_shift count_in counted more less
+unfolding entry_place tree_place bits_place local_place word_count last_seen free_in flag_in entry_word lane_in
+    lane_put lane_shift count_in counted more less
 stop_after_two_claims_allowed =
     and_then one_child at_first claimed_one claims_second stop_after_one_claim_allowed (
     (refl, record { share = omega arith; may = can_claim _ 1 0 (omega arith) refl (omega arith) (omega arith); read = refl }, refl)
@@ -81,12 +86,14 @@ stop_after_two_claims_set : set_of one_child (words_of_one 384 384 0 full_word f
 stop_after_two_claims_set = omega (arith, set_eight 384 384 0 full_word full_word 0 0 0 0 0 0, ones_zero, ones_full)
 
 pub stop_after_two_claims : StopAfterTwoClaims
-unfolding entry_place tree_place bits_place local_place word_count last_seen free_in flag_in entry_word lane_in lane_put lane_shift count_in counted more less free_of entry_of
+unfolding entry_place tree_place bits_place local_place word_count last_seen free_in flag_in entry_word lane_in
+    lane_put lane_shift count_in counted more less free_of entry_of
 stop_after_two_claims = record {
   end = reached one_child at_first claimed_two;
   run = run_of one_child at_first claimed_two stop_after_two_claims_allowed;
   free = refl;
   bits = stop_after_two_claims_set;
-  rebuilt = rebuilt_unsealed _ _ (rebuilt_by_bits 384 384 0 384 full_word full_word 0 0 0 0 0 0 (omega arith) (omega (arith, ones_zero, ones_full))
+  rebuilt = rebuilt_unsealed _ _
+      (rebuilt_by_bits 384 384 0 384 full_word full_word 0 0 0 0 0 0 (omega arith) (omega (arith, ones_zero, ones_full))
       all_bits all_bits no_bits no_bits no_bits no_bits no_bits no_bits);
 }

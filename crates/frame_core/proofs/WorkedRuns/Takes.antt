@@ -38,7 +38,8 @@ wide_set : set_of one_child (words_of_one 383 383 0 0 1 full_word full_word 0 0 
 wide_set = omega (arith, set_eight 383 383 0 0 1 full_word full_word 0 0 0 0, ones_zero, ones_one, ones_full)
 
 wide_allowed : AllAllowed one_child at_first wide_take_that_loses
-unfolding entry_place tree_place bits_place local_place word_count last_seen free_in flag_in entry_word lane_in lane_put lane_shift count_in counted more less less_one times is_same without remains remainder is_apart is_inside covers
+unfolding entry_place tree_place bits_place local_place word_count last_seen free_in flag_in entry_word lane_in
+    lane_put lane_shift count_in counted more less less_one times is_same without remains remainder is_apart is_inside covers
 wide_allowed =
     (refl, record { some = omega arith; fewer = omega arith })
     ⟫ (refl, refl, omega arith)
@@ -59,17 +60,62 @@ wide_allowed =
     ⟫ (refl, refl, omega arith)
     ⟫ (refl, record { share = omega arith; may = can_claim _ 0 0 (omega arith) refl (omega arith) (omega arith); read = refl }, refl)
     ⟫ (refl, refl, omega arith)
-    ⟫ (refl, record { share = omega arith; may = record { is_run = record { inside = omega arith; small = omega arith; aligned = refl; fits = omega arith }; clear = refl; charged = omega arith; paid = omega arith }; read = refl }, refl)
-    ⟫ (refl, record { share = omega arith; may = can_claim _ 1 0 (omega arith) refl (omega arith) (omega arith); read = refl }, (0, refl), not_zero 0)
+    ⟫ (
+      refl,
+      record {
+        share = omega arith;
+        may = record {
+          is_run = record {
+            inside = omega arith;
+            small = omega arith;
+            aligned = refl;
+            fits = omega arith;
+          };
+          clear = refl;
+          charged = omega arith;
+          paid = omega arith;
+        };
+        read = refl;
+      },
+      refl,
+    )
+    ⟫ (
+      refl,
+      record {
+        share = omega arith;
+        may = can_claim _ 1 0 (omega arith) refl (omega arith) (omega arith);
+        read = refl;
+      },
+      (0, refl),
+      not_zero 0,
+    )
     ⟫ (refl, refl, omega arith)
-    ⟫ (refl, record { share = omega arith; may = can_release _ 0 (omega arith) (claimed_are_blocks 0 1 (omega arith)) (omega arith) (omega arith) (omega arith); read = tt }, tt)
+    ⟫ (
+      refl,
+      record {
+        share = omega arith;
+        may = can_release _ 0 (omega arith) (claimed_are_blocks 0 1 (omega arith)) (omega arith) (omega arith) (omega arith);
+        read = tt;
+      },
+      tt,
+    )
     ⟫ (refl, record { share = omega arith; may = can_claim _ 2 0 (omega arith) refl (omega arith) (omega arith); read = refl }, refl)
     ⟫ (refl, record { share = omega arith; may = can_claim _ 3 0 (omega arith) refl (omega arith) (omega arith); read = refl }, refl)
-    ⟫ (refl, record { share = omega arith; is_block = record { order = omega arith; aligned = refl; inside = omega arith }; leaves = two_leave; unfilled = λ e. absurd (omega arith) })
+    ⟫ (
+      refl,
+      record {
+        share = omega arith;
+        is_block = record { order = omega arith; aligned = refl; inside = omega arith };
+        leaves = two_leave;
+        unfilled = λ e. absurd (omega arith);
+      },
+    )
     ⟫ tt
 
 pub wide_take_loses : WideTakeThatLoses
-unfolding entry_place tree_place bits_place local_place word_count last_seen free_in flag_in entry_word lane_in lane_put lane_shift count_in counted more less less_one times is_same without remains remainder is_apart is_inside covers free_of entry_of
+unfolding entry_place tree_place bits_place local_place word_count last_seen free_in flag_in entry_word lane_in
+    lane_put lane_shift count_in counted more less less_one times is_same without remains remainder is_apart is_inside
+    covers free_of entry_of
 wide_take_loses = record {
   end = reached one_child at_first wide_take_that_loses;
   run = run_of one_child at_first wide_take_that_loses wide_allowed;
@@ -103,7 +149,8 @@ wider_set : set_of one_child (words_of_one 255 255 0 0 0 0 1 full_word full_word
 wider_set = omega (arith, set_eight 255 255 0 0 0 0 1 full_word full_word full_word full_word, ones_zero, ones_one, ones_full)
 
 wider_allowed : AllAllowed one_child at_first wider_take_that_loses
-unfolding entry_place tree_place bits_place local_place word_count last_seen free_in flag_in entry_word lane_in lane_put lane_shift count_in counted more less less_one times is_same without remains remainder is_apart is_inside covers
+unfolding entry_place tree_place bits_place local_place word_count last_seen free_in flag_in entry_word lane_in
+    lane_put lane_shift count_in counted more less less_one times is_same without remains remainder is_apart is_inside covers
 wider_allowed =
     (refl, record { some = omega arith; fewer = omega arith })
     ⟫ (refl, refl, omega arith)
@@ -126,21 +173,82 @@ wider_allowed =
     ⟫ (refl, record { share = omega arith; may = can_claim _ 1 0 (omega arith) refl (omega arith) (omega arith); read = refl }, refl)
     ⟫ (refl, record { share = omega arith; may = can_claim _ 2 0 (omega arith) refl (omega arith) (omega arith); read = refl }, refl)
     ⟫ (refl, refl, omega arith)
-    ⟫ (refl, record { share = omega arith; may = record { is_run = record { inside = omega arith; small = omega arith; aligned = refl; fits = omega arith }; clear = refl; charged = omega arith; paid = omega arith }; read = refl }, refl)
-    ⟫ (refl, record { share = omega arith; may = can_claim _ 3 0 (omega arith) refl (omega arith) (omega arith); read = refl }, (0, refl), not_zero 0)
+    ⟫ (
+      refl,
+      record {
+        share = omega arith;
+        may = record {
+          is_run = record {
+            inside = omega arith;
+            small = omega arith;
+            aligned = refl;
+            fits = omega arith;
+          };
+          clear = refl;
+          charged = omega arith;
+          paid = omega arith;
+        };
+        read = refl;
+      },
+      refl,
+    )
+    ⟫ (
+      refl,
+      record {
+        share = omega arith;
+        may = can_claim _ 3 0 (omega arith) refl (omega arith) (omega arith);
+        read = refl;
+      },
+      (0, refl),
+      not_zero 0,
+    )
     ⟫ (refl, refl, omega arith)
-    ⟫ (refl, record { share = omega arith; may = can_release _ 0 (omega arith) (claimed_are_blocks 0 3 (omega arith)) (omega arith) (omega arith) (omega arith); read = tt }, tt)
-    ⟫ (refl, record { share = omega arith; may = can_release _ 1 (omega arith) (claimed_are_blocks 1 2 (omega arith)) (omega arith) (omega arith) (omega arith); read = tt }, tt)
-    ⟫ (refl, record { share = omega arith; may = can_release _ 2 (omega arith) (claimed_are_blocks 2 1 (omega arith)) (omega arith) (omega arith) (omega arith); read = tt }, tt)
+    ⟫ (
+      refl,
+      record {
+        share = omega arith;
+        may = can_release _ 0 (omega arith) (claimed_are_blocks 0 3 (omega arith)) (omega arith) (omega arith) (omega arith);
+        read = tt;
+      },
+      tt,
+    )
+    ⟫ (
+      refl,
+      record {
+        share = omega arith;
+        may = can_release _ 1 (omega arith) (claimed_are_blocks 1 2 (omega arith)) (omega arith) (omega arith) (omega arith);
+        read = tt;
+      },
+      tt,
+    )
+    ⟫ (
+      refl,
+      record {
+        share = omega arith;
+        may = can_release _ 2 (omega arith) (claimed_are_blocks 2 1 (omega arith)) (omega arith) (omega arith) (omega arith);
+        read = tt;
+      },
+      tt,
+    )
     ⟫ (refl, record { share = omega arith; may = can_claim _ 4 0 (omega arith) refl (omega arith) (omega arith); read = refl }, refl)
     ⟫ (refl, record { share = omega arith; may = can_claim _ 5 0 (omega arith) refl (omega arith) (omega arith); read = refl }, refl)
     ⟫ (refl, record { share = omega arith; may = can_claim _ 6 0 (omega arith) refl (omega arith) (omega arith); read = refl }, refl)
     ⟫ (refl, record { share = omega arith; may = can_claim _ 7 0 (omega arith) refl (omega arith) (omega arith); read = refl }, refl)
-    ⟫ (refl, record { share = omega arith; is_block = record { order = omega arith; aligned = refl; inside = omega arith }; leaves = four_leave; unfilled = λ e. absurd (omega arith) })
+    ⟫ (
+      refl,
+      record {
+        share = omega arith;
+        is_block = record { order = omega arith; aligned = refl; inside = omega arith };
+        leaves = four_leave;
+        unfilled = λ e. absurd (omega arith);
+      },
+    )
     ⟫ tt
 
 pub wider_take_loses : WiderTakeThatLoses
-unfolding entry_place tree_place bits_place local_place word_count last_seen free_in flag_in entry_word lane_in lane_put lane_shift count_in counted more less less_one times is_same without remains remainder is_apart is_inside covers free_of entry_of
+unfolding entry_place tree_place bits_place local_place word_count last_seen free_in flag_in entry_word lane_in
+    lane_put lane_shift count_in counted more less less_one times is_same without remains remainder is_apart is_inside
+    covers free_of entry_of
 wider_take_loses = record {
   end = reached one_child at_first wider_take_that_loses;
   run = run_of one_child at_first wider_take_that_loses wider_allowed;

@@ -23,7 +23,8 @@ use Rattle.frame_core.proofs.Steps.Shared.{as_bits}
 use Rattle.frame_core.proofs.WrongSteps.Shared.{total_set}
 
 -- the bits of a run are set, the view owns it, and its charge falls by less than its frames
-set_uncharged : (key : Key) (ws : List ℕ) (vs : List View) (id : ℕ) (v : View) → IsBefore key ws vs id v → (k from o : ℕ) → IsRun key k from o → IsClearNow key ws k from o
+set_uncharged : (key : Key) (ws : List ℕ) (vs : List View) (id : ℕ) (v : View) → IsBefore key ws vs id v
+    → (k from o : ℕ) → IsRun key k from o → IsClearNow key ws k from o
     → (w : View) → w.own ≡ block (64 * k + from) o ∷ v.own → w.kept ≡ v.kept → charged_in (k / 8) v < charged_in (k / 8) w + 2 ^ o
     → DoNotFit key (set ws (bits_place key k) (bit_or (bit_word_of key ws k) (run from (2 ^ o)))) (set vs id w)
 set_uncharged key ws vs id v before k from o r clear w own kept few shares made =
@@ -31,20 +32,38 @@ set_uncharged key ws vs id v before k from o r clear w own kept few shares made 
     let n : ℕ = bit_word_of key ws k in
     let m : ℕ = run from (2 ^ o) in
     let b : FrameBlock = block (64 * k + from) o in
-    let words : with_bits key ws k (bit_or n m) ≡ set ws (bits_place key k) (bit_or n m) = as_bits key ws k (bit_or n m) (bit_or n m) refl in
+    let words : with_bits key ws k (bit_or n m) ≡ set ws (bits_place key k) (bit_or n m) =
+    as_bits key ws k (bit_or n m) (bit_or n m) refl in
     let new : List ℕ = with_bits key ws k (bit_or n m) in
     let after : Fit key shares new (set vs id w) = subst (λ (l : List ℕ). Fit key shares l (set vs id w)) (sym words) made in
     let z : BitsWritten key ws k (bit_or n m) new = bits_written key ws k (bit_or n m) fit.words_in_range r.inside in
     let child : k / 8 < key.children = omega (arith, r.inside) in
-    let added : ones (bit_or n m) ≡ ones n + 2 ^ o = omega (arith, ones_disjoint n m (fit.words_in_range.bits k r.inside) (run-lt from (2 ^ o) r.fits) clear, ones_run from (2 ^ o)) in
+    let added : ones (bit_or n m) ≡ ones n + 2 ^ o =
+    omega (
+      arith,
+      ones_disjoint n m (fit.words_in_range.bits k r.inside) (run-lt from (2 ^ o) r.fits) clear,
+      ones_run from (2 ^ o),
+    ) in
     let sets : set_of key new (k / 8) ≡ set_of key ws (k / 8) + 2 ^ o = omega (arith, z.sets_here, added) in
     let first : ℕ = 64 * k + from in
     let room : from < 64 = omega (arith, r.fits, pow_pos o) in
     let there : child_of first ≡ k / 8 = omega arith in
     let inside : first < frame_count key = omega (arith, r.inside) in
-    let owned : 1 ≤ small_in first w = omega (arith, ap (smalls first) own, smalls_cons first b v.own, in_block first b (omega (arith, r.small)) (omega arith) (omega (arith, pow_pos o))) in
+    let owned : 1 ≤ small_in first w =
+    omega (
+      arith,
+      ap (smalls first) own,
+      smalls_cons first b v.own,
+      in_block first b (omega (arith, r.small)) (omega arith) (omega (arith, pow_pos o)),
+    ) in
     let same : small_in first v + 1 ≤ small_in first w =
-    omega (arith, ap (smalls first) own, ap (smalls first) kept, smalls_cons first b v.own, in_block first b (omega (arith, r.small)) (omega arith) (omega (arith, pow_pos o))) in
+    omega (
+      arith,
+      ap (smalls first) own,
+      ap (smalls first) kept,
+      smalls_cons first b v.own,
+      in_block first b (omega (arith, r.small)) (omega arith) (omega (arith, pow_pos o)),
+    ) in
     ⊎_elim
     (λ none. omega (
       arith,

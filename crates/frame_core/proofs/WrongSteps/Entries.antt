@@ -29,7 +29,8 @@ pub refund_before_the_release : RefundBeforeTheRelease
 refund_before_the_release key ws vs id v before c n h small_n few =
     (λ can. omega (arith, can.charged, few), does_not_fit)
   where
-    does_not_fit : DoNotFit key (set ws (entry_place c) ((get_or ws (entry_place c) 0 + n * lane_shift c) % 2 ^ 64)) (set vs id (effect next (refund c n) 0 v))
+    does_not_fit : DoNotFit key (set ws (entry_place c) ((get_or ws (entry_place c) 0 + n * lane_shift c) % 2 ^ 64))
+        (set vs id (effect next (refund c n) 0 v))
     does_not_fit shares made =
         let fit : Fit key before.shares ws vs = before.fits in
         let w : View = effect next (refund c n) 0 v in
@@ -43,7 +44,9 @@ refund_before_the_release key ws vs id v before c n h small_n few =
         let below : found < 2 ^ 64 = fit.words_in_range.entry_words c (child-has-lane key c h) in
         let same : lane_in found c ≡ entry_of ws c = sym (entry_of_is ws c) in
         let written : ℕ = (found + n * lane_shift c) % 2 ^ 64 in
-        let words : with_entry ws c e ≡ set ws (entry_place c) written = as_entry ws c e written (lane_added found c n below (omega (arith, same, small)) ∙ ap (λ m. lane_put found c (m + n)) same) in
+        let words : with_entry ws c e ≡ set ws (entry_place c) written =
+        as_entry ws c e written
+        (lane_added found c n below (omega (arith, same, small)) ∙ ap (λ m. lane_put found c (m + n)) same) in
         let new : List ℕ = with_entry ws c e in
         let after : Fit key shares new (set vs id w) = subst (λ (l : List ℕ). Fit key shares l (set vs id w)) (sym words) made in
         let z : EntryWritten key ws c e new = entry_written key ws c e fit.words_in_range h small in
@@ -65,7 +68,8 @@ pub huge_from_511 : HugeFrom511
 huge_from_511 key ws vs id v before c h no_flag not_all =
     (λ can. omega (arith, can.all_free, parts ws c, entry_of_is ws c, no_flag, not_all), does_not_fit)
   where
-    does_not_fit : DoNotFit key (set ws (entry_place c) (lane_put (get_or ws (entry_place c) 0) c (entry_word 0 1))) (set vs id (effect next (take_huge c (get_or ws (entry_place c) 0)) 0 v))
+    does_not_fit : DoNotFit key (set ws (entry_place c) (lane_put (get_or ws (entry_place c) 0) c (entry_word 0 1)))
+        (set vs id (effect next (take_huge c (get_or ws (entry_place c) 0)) 0 v))
     does_not_fit shares made =
         let fit : Fit key before.shares ws vs = before.fits in
         let found : ℕ = get_or ws (entry_place c) 0 in
@@ -76,7 +80,8 @@ huge_from_511 key ws vs id v before c h no_flag not_all =
         let words : with_entry ws c e ≡ set ws (entry_place c) (lane_put found c e) = as_entry ws c e (lane_put found c e) refl in
         let new : List ℕ = with_entry ws c e in
         let after : Fit key shares new (set vs id w) = subst (λ (l : List ℕ). Fit key shares l (set vs id w)) (sym words) made in
-        let z : EntryWritten key ws c e new = entry_written key ws c e fit.words_in_range h (entry_word-lt 0 1 (omega arith) (omega arith)) in
+        let z : EntryWritten key ws c e new =
+        entry_written key ws c e fit.words_in_range h (entry_word-lt 0 1 (omega arith) (omega arith)) in
         let unfilled : (x : ℕ) → child_of x ≡ c → total key (fills x) vs ≡ 0 =
         λ x s. omega (
           arith,
@@ -120,7 +125,9 @@ pub flag_dropped_before_the_bits : FlagDroppedBeforeTheBits
 flag_dropped_before_the_bits key ws vs id v before c k rest h there leaves unfilled =
     (λ can. omega (arith, can.filled k there, unfilled), does_not_fit)
   where
-    does_not_fit : DoNotFit key (set ws (entry_place c) ((get_or ws (entry_place c) 0 + (2 ^ 64 - 32768 * lane_shift c)) % 2 ^ 64)) (set vs id (effect next (drop_flag c rest) 0 v))
+    does_not_fit : DoNotFit key
+        (set ws (entry_place c) ((get_or ws (entry_place c) 0 + (2 ^ 64 - 32768 * lane_shift c)) % 2 ^ 64))
+        (set vs id (effect next (drop_flag c rest) 0 v))
     does_not_fit shares made =
         let fit : Fit key before.shares ws vs = before.fits in
         let w : View = effect next (drop_flag c rest) 0 v in
@@ -132,7 +139,9 @@ flag_dropped_before_the_bits key ws vs id v before c k rest h there leaves unfil
         let below : found < 2 ^ 64 = fit.words_in_range.entry_words c (child-has-lane key c h) in
         let same : lane_in found c ≡ 32768 = sym (entry_of_is ws c) ∙ entry in
         let written : ℕ = (found + (2 ^ 64 - 32768 * lane_shift c)) % 2 ^ 64 in
-        let words : with_entry ws c 0 ≡ set ws (entry_place c) written = as_entry ws c 0 written (lane_taken found c 32768 below (omega (arith, same)) ∙ ap (λ m. lane_put found c (m - 32768)) same) in
+        let words : with_entry ws c 0 ≡ set ws (entry_place c) written =
+        as_entry ws c 0 written
+        (lane_taken found c 32768 below (omega (arith, same)) ∙ ap (λ m. lane_put found c (m - 32768)) same) in
         let new : List ℕ = with_entry ws c 0 in
         let after : Fit key shares new (set vs id w) = subst (λ (l : List ℕ). Fit key shares l (set vs id w)) (sym words) made in
         let z : EntryWritten key ws c 0 new = entry_written key ws c 0 fit.words_in_range h (omega arith) in
@@ -142,7 +151,8 @@ flag_dropped_before_the_bits key ws vs id v before c k rest h there leaves unfil
         let low : FrameBlock = block (512 * c) 8 in
         let high : FrameBlock = block (512 * c + 256) 8 in
         let before_marks : marks x v ≤ total key (marks x) vs = at-le-total key before.shares ws vs id v fit before.seat (marks x) in
-        let halves : 1 ≤ smalls x w.own = omega (arith, smalls_cons x low (high ∷ rest v.own), smalls_cons x high (rest v.own), halves_here c x in_child) in
+        let halves : 1 ≤ smalls x w.own =
+        omega (arith, smalls_cons x low (high ∷ rest v.own), smalls_cons x high (rest v.own), halves_here c x in_child) in
         omega (
           arith,
           after.bits x (omega (arith, h, in_child)),

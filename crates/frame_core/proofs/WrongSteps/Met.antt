@@ -29,12 +29,14 @@ at_end events = reached one_child at_first events
 
 fits_at_end : (events : List Event) → AllAllowed one_child at_first events → Fits one_child 2 (at_end events)
 fits_at_end events all =
-    every_run_fits one_child 2 at_first events (at_end events) (sealed_fits one_child all_free 2 (omega arith) opens_all_free) (run_of one_child at_first events all)
+    every_run_fits one_child 2 at_first events (at_end events)
+    (sealed_fits one_child all_free 2 (omega arith) opens_all_free) (run_of one_child at_first events all)
 
 abbrev Before : List Event → ℕ → Type 0
 Before events id = IsBefore one_child (at_end events).words (views_of (at_end events)) id (seat (at_end events) id).view
 
-before : (events : List Event) (id : ℕ) → AllAllowed one_child at_first events → get_elem? (views_of (at_end events)) id ≡ some (seat (at_end events) id).view → Before events id
+before : (events : List Event) (id : ℕ) → AllAllowed one_child at_first events
+    → get_elem? (views_of (at_end events)) id ≡ some (seat (at_end events) id).view → Before events id
 before events id all there = record { shares = 2; fits = fits_at_end events all; seat = there }
 
 -- An idle view charges nothing: a claim of frame 0, and a refund of one frame, find too little charged.
@@ -57,7 +59,8 @@ abbrev one_charged : List Event
 one_charged = loads 0 9 ∷ makes 0 (tree_pay 0 512 1) ∷ loads 0 8 ∷ makes 0 (charge 0 512 1) ∷ []
 
 one_charged_allowed : AllAllowed one_child at_first one_charged
-unfolding entry_place tree_place bits_place local_place word_count last_seen free_in flag_in entry_word lane_in lane_put lane_shift count_in counted more less
+unfolding entry_place tree_place bits_place local_place word_count last_seen free_in flag_in entry_word lane_in
+    lane_put lane_shift count_in counted more less
 one_charged_allowed =
     (refl, refl, omega arith)
     ⟫ (refl, record { share = omega arith; may = can_pay _ 512 1 refl (omega arith); read = refl }, refl)
@@ -81,7 +84,15 @@ unfolding entry_place tree_place bits_place local_place word_count last_seen fre
 reserved_allowed =
     (refl, record { some = omega arith; fewer = omega arith })
     ⟫ (refl, refl, omega arith)
-    ⟫ (refl, record { share = omega arith; may = record { inside = omega arith; no_flag = refl; paid = refl; reserving = refl }; read = refl }, refl)
+    ⟫ (
+      refl,
+      record {
+        share = omega arith;
+        may = record { inside = omega arith; no_flag = refl; paid = refl; reserving = refl };
+        read = refl;
+      },
+      refl,
+    )
     ⟫ tt
 
 before_unreserve : Before reserved 0
@@ -94,7 +105,8 @@ can_unreserve = record { inside = omega arith; reserving = refl; paid = omega ar
 before_second_reserve : Before reserved 1
 before_second_reserve = before reserved 1 reserved_allowed refl
 
-other_reserves : (get_elem? (views_of (at_end reserved)) 0 ≡ some (seat (at_end reserved) 0).view) × ((seat (at_end reserved) 0).view.reserving ≡ Some 0)
+other_reserves : (get_elem? (views_of (at_end reserved)) 0 ≡ some (seat (at_end reserved) 0).view)
+    × ((seat (at_end reserved) 0).view.reserving ≡ Some 0)
 other_reserves = (refl, refl)
 
 -- One word is claimed: half of a block of order 7.
@@ -104,7 +116,13 @@ before_half = before claimed_one 0 stop_after_one_claim_allowed refl
 only_half : ¬ HasFrames (seat (at_end claimed_one) 0).view.own (block 0 7)
 unfolding covers
 only_half has =
-    omega (arith, has.smalls (omega arith) 64 refl, smalls_cons 64 (block 0 6) [], smalls_none 64, behind_block 64 (block 0 6) (omega arith))
+    omega (
+      arith,
+      has.smalls (omega arith) 64 refl,
+      smalls_cons 64 (block 0 6) [],
+      smalls_none 64,
+      behind_block 64 (block 0 6) (omega arith),
+    )
 
 -- Four words of a huge frame are filled, and word 4 is not.
 before_drop : Before fills_half 0

@@ -30,7 +30,8 @@ within : (b : FrameBlock) (x : ℕ) → covers b x ≡ 1 → x < b.frame + 2 ^ b
 unfolding covers
 within b x e = grind (arith, nat_tests)
 
-module _ (key : Key) (shares : ℕ) (ws : List ℕ) (vs : List View) (id : ℕ) (v : View) (fit : Fit key shares ws vs) (at : get_elem? vs id ≡ some v) (b : FrameBlock) (is : IsBlock key b) where
+module _ (key : Key) (shares : ℕ) (ws : List ℕ) (vs : List View) (id : ℕ) (v : View) (fit : Fit key shares ws vs)
+    (at : get_elem? vs id ≡ some v) (b : FrameBlock) (is : IsBlock key b) where
   in_memory : (x : ℕ) → covers b x ≡ 1 → x < frame_count key
   in_memory x e = omega (arith, is.inside, within b x e)
 
@@ -46,7 +47,8 @@ module _ (key : Key) (shares : ℕ) (ws : List ℕ) (vs : List View) (id : ℕ) 
   }
 
   -- and so they were where the words fit the views after it was handed out
-  fits_all : (rest : Rest) (others : ℕ) → Fit key others ws (set vs id (left_by next (hand_out b rest) v) ++ right_by (hand_out b rest) v ∷ []) → HasFrames v.own b
+  fits_all : (rest : Rest) (others : ℕ)
+      → Fit key others ws (set vs id (left_by next (hand_out b rest) v) ++ right_by (hand_out b rest) v ∷ []) → HasFrames v.own b
   fits_all rest others after =
       let w : View = left_by next (hand_out b rest) v in
       let u : View = right_by (hand_out b rest) v in

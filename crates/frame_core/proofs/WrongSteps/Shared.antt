@@ -33,12 +33,25 @@ module _ (key : Key) (vs : List View) (id : ℕ) (v w : View) (at : get_elem? vs
 
   -- and so does a seat that is cut off
   pub total_cut : (u : View) → total key f (set vs id w ++ u ∷ []) + f v ≡ total key f vs + f w + f u
-  total_cut u = omega (arith, total_is key f vs, total_is key f (set vs id w ++ u ∷ []), sum_set f vs id v w at, sum_by-append f (set vs id w) (u ∷ []), sum_one f u)
+  total_cut u = omega (
+    arith,
+    total_is key f vs,
+    total_is key f (set vs id w ++ u ∷ []),
+    sum_set f vs id v w at,
+    sum_by-append f (set vs id w) (u ∷ []),
+    sum_one f u,
+  )
 
   -- it counts beside another seat, which has the view of before
   pub total_two : (other : ℕ) (u : View) → other ≢ id → get_elem? vs other ≡ some u → f w + f u ≤ total key f (set vs id w) + f spent
   total_two other u apart there =
       let turned : get_elem? (set vs id w) id ≡ some w = set_here vs id w (at_here vs id v v at).0 in
       let still : get_elem? (set vs id w) other ≡ some u = set_else vs id other w apart ∙ there in
-      let kept : get_elem? (set (set vs id w) other spent) id ≡ some w = set_else (set vs id w) other id spent (λ e. apart (sym e)) ∙ turned in
-      omega (arith, total_is key f (set vs id w), sum_set f (set vs id w) other u spent still, at-le-sum f (set (set vs id w) other spent) id w kept)
+      let kept : get_elem? (set (set vs id w) other spent) id ≡ some w =
+      set_else (set vs id w) other id spent (λ e. apart (sym e)) ∙ turned in
+      omega (
+        arith,
+        total_is key f (set vs id w),
+        sum_set f (set vs id w) other u spent still,
+        at-le-sum f (set (set vs id w) other spent) id w kept,
+      )

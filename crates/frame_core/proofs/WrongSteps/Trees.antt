@@ -21,11 +21,25 @@ drops_the_resting_count key ws vs id v before t back n can fewer shares made =
     let f = free_is found in
     let g = flag_is found in
     let mine : reserves t v ≡ 1 = ap (is_at t) can.reserving ∙ is_at_here t in
-    let set_flag : reserved_of key ws t ≡ 1 = omega (arith, fit.reserved_once t can.inside, at-le-total key before.shares ws vs id v fit before.seat (reserves t), mine, fit.words_in_range.reserved t can.inside) in
-    let room : tree_free_of key ws t + n ≤ 4096 = omega (arith, fit.trees_add_up t can.inside, at-le-total key before.shares ws vs id v fit before.seat (paid_on t), can.paid) in
+    let set_flag : reserved_of key ws t ≡ 1 =
+    omega (
+      arith,
+      fit.reserved_once t can.inside,
+      at-le-total key before.shares ws vs id v fit before.seat (reserves t),
+      mine,
+      fit.words_in_range.reserved t can.inside,
+    ) in
+    let room : tree_free_of key ws t + n ≤ 4096 =
+    omega (
+      arith,
+      fit.trees_add_up t can.inside,
+      at-le-total key before.shares ws vs id v fit before.seat (paid_on t),
+      can.paid,
+    ) in
     let m : ℕ = tree_free_of key ws t + back in
     let written : ℕ = (found + (2 ^ 64 - (32768 - back))) % 2 ^ 64 in
-    let words : with_tree key ws t m ≡ set ws (tree_place key t) written = as_tree key ws t m written (omega (arith, had, flag, f, g, room, set_flag, fewer)) in
+    let words : with_tree key ws t m ≡ set ws (tree_place key t) written =
+    as_tree key ws t m written (omega (arith, had, flag, f, g, room, set_flag, fewer)) in
     let new : List ℕ = with_tree key ws t m in
     let after : Fit key shares new (set vs id w) = subst (λ (l : List ℕ). Fit key shares l (set vs id w)) (sym words) made in
     let z : TreeWritten key ws t m new = tree_written key ws t m fit.words_in_range can.inside in

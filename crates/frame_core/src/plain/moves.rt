@@ -99,6 +99,8 @@ impl Moves for PlainMoves {
       IsOutIn,
       plain_fits,
       plain_outs,
+      plain_fills,
+      plain_sizes,
       plain_tick_most,
       plain_tick_up,
     };
@@ -135,6 +137,10 @@ impl Moves for PlainMoves {
     ghost outs_are_blocks = { λ m b o. plain_outs _ _ _ _ b m.agrees o };
 
     ghost stays_alone = { λ _ _. tt };
+
+    ghost sizes = { λ m. plain_sizes m.geometry m.sealed };
+
+    ghost fills_own = { λ m none. plain_fills _ _ _ _ m.agrees none };
 
     ghost counts_at_most = { plain_tick_most };
 

@@ -1,4 +1,4 @@
-use Rattle.std.proofs.Common.{ℕ, List, true, refl, sym, subst, ◌∙◌}
+use Rattle.std.proofs.Common.{ℕ, List, true, sym, subst, ◌∙◌}
 use Rattle.frame_core.specs.Plain.{plain_key, FitsIdle}
 use Rattle.frame_core.proofs.PlainOpening.{sealed_opens}
 use Rattle.frame_core.proofs.plain.PlainMoves.new.Goals as goal
@@ -10,5 +10,4 @@ of-requires-clause-fits c =
     let image = c.in_ok-image in
     let same = c.in_ok-words.ensures.items_if_clones_equal (λ t y e. e) ∙ c.words.ensures in
     subst (λ (l : List ℕ). ∥ FitsIdle key l ∥₁) (sym same)
-    (sealed_opens key image.image.words refl c.requires refl geometry.some_cores
-    image.ensures.in_range.in_range image.ensures.all_free)
+    (sealed_opens key image.image.words geometry.some_cores image.ensures.opens)

@@ -15,14 +15,20 @@ push_back_reserved-requires t c =
 
 pub returns-then-are_apart-clause-items : goal.returns-then-are_apart-clause-items
 returns-then-are_apart-clause-items t c =
-    c.push_back_reserved.ensures.items ∙ ap (λ (l : List FrameBlock). c.args.list.now.items ++ l) (sym (remains_apart c.args.b c.args.order c.args.frame (sym c.are_apart.ensures ∙ c.if-are_apart.true)))
+    c.push_back_reserved.ensures.items
+    ∙ ap (λ (l : List FrameBlock). c.args.list.now.items ++ l)
+    (sym (remains_apart c.args.b c.args.order c.args.frame (sym c.are_apart.ensures ∙ c.if-are_apart.true)))
 
 pub returns-then-order-eq0-clause-items : goal.returns-then-order-eq0-clause-items
 returns-then-order-eq0-clause-items t c =
     let no = sym c.are_apart.ensures ∙ c.if-are_apart.false in
     let why : (c.args.order ≡ 0) ⊎ (is_inside c.args.b (block c.args.frame c.args.order) ≡ true) =
-    elim c.then-order-eq0.branch [ then-order-eq0-via-then-order-eq0 w ↦ inl w.if-order-eq0.true | then-order-eq0-via-else-order-eq0+then-lies_inside w ↦ inr (sym w.lies_inside.ensures ∙ w.if-lies_inside.true) ] in
-    sym (ap (λ (l : List FrameBlock). c.args.list.now.items ++ l) (remains_inside c.args.b c.args.order c.args.frame no why) ∙ append-nil c.args.list.now.items)
+    elim c.then-order-eq0.branch [
+      | then-order-eq0-via-then-order-eq0 w ↦ inl w.if-order-eq0.true
+      | then-order-eq0-via-else-order-eq0+then-lies_inside w ↦ inr (sym w.lies_inside.ensures ∙ w.if-lies_inside.true)
+    ] in
+    sym (ap (λ (l : List FrameBlock). c.args.list.now.items ++ l)
+    (remains_inside c.args.b c.args.order c.args.frame no why) ∙ append-nil c.args.list.now.items)
 
 pub push_remains-requires-2 : goal.push_remains-requires-2
 push_remains-requires-2 t c =
@@ -35,4 +41,13 @@ push_remains-requires-2 t c =
     let parts = length-append (remains c.args.b (o - 1) c.args.frame) (remains c.args.b (o - 1) (c.args.frame + 2 ^ (o - 1))) in
     let now = ap (λ (l : List FrameBlock). length l) c.push_remains.ensures.items in
     let sum = length-append c.args.list.now.items (remains c.args.b (o - 1) c.args.frame) in
-    rw h.0 (omega (arith, c.decreases, some), (c.requires.block, ((omega (arith, c.requires.whole.0), h.1), omega (arith, both, parts, now, sum, c.requires.room, c.push_remains.ensures.room))))
+    rw h.0 (
+      omega (arith, c.decreases, some),
+      (
+        c.requires.block,
+        (
+          (omega (arith, c.requires.whole.0), h.1),
+          omega (arith, both, parts, now, sum, c.requires.room, c.push_remains.ensures.room),
+        ),
+      ),
+    )

@@ -15,7 +15,8 @@ loop-i-preserved c =
     elim c.match-pop_front.branch [
       | in-Some w ↦
           (let x = w.in-Some.whole in
-          let one = one_less all c.loop-i.list.items c.pop_front.new.self.items done i x inside c.loop-i.invariant.items.1.0 w.in-Some.ensures.items in
+          let one = one_less all c.loop-i.list.items c.pop_front.new.self.items done i x inside
+          c.loop-i.invariant.items.1.0 w.in-Some.ensures.items in
           let keeps = not c.loop-i.has_left && is_same c.args.b x in
           let before = c.loop-i.invariant.items.1.1 in
           let after = once_more c.args.b x (drop (i + 1) all) done (less_one c.args.b all) c.loop-i.has_left (rw one.0 at before) in

@@ -31,15 +31,24 @@ invariant_of-self-clause-agrees c =
     stepped key m.words.items m.outs.items (plain_view key m.outs.items m.paid m.charged m.reserving m.own.items m.filled.items m.moves) _
     (charge c.args.child c.args.seen c.args.n) c.number_of.result c.with_lane.result m.agrees c.requires.share c.requires.may
     (got m.words.items (entry_place c.args.child) c.args.seen c.requires.seen)
-    (ap (lane_put c.args.seen c.args.child) (ap (λ f. entry_word (f - c.args.n) 0) (ap free_in (sym c.lane.ensures.value) ∙ sym c.entry_free.ensures.value) ∙ sym c.entry-left.ensures.word) ∙ sym c.with_lane.ensures.word)
-    (viewed key m.outs.items _ _ _ _ _ _ _ _ _ _ _ _ refl (sym c.with_more-self.ensures) refl refl refl (sym c.saturating_add-self.ensures)) (sym (c.number_of.ensures.number true))
+    (ap (lane_put c.args.seen c.args.child)
+    (ap (λ f. entry_word (f - c.args.n) 0)
+    (ap free_in (sym c.lane.ensures.value) ∙ sym c.entry_free.ensures.value) ∙ sym c.entry-left.ensures.word)
+    ∙ sym c.with_lane.ensures.word)
+    (viewed key m.outs.items _ _ _ _ _ _ _ _ _ _ _ _ refl (sym c.with_more-self.ensures) refl refl refl
+    (sym c.saturating_add-self.ensures)) (sym (c.number_of.ensures.number true))
 
 pub returns-clause-read : goal.returns-clause-read
-returns-clause-read c = λ i n. reads_but c.args.self.now.words.items c.number_of.result c.with_lane.result i (λ e. n (e ∙ c.number_of.ensures.number true))
+returns-clause-read c =
+    λ i n. reads_but c.args.self.now.words.items c.number_of.result c.with_lane.result i
+    (λ e. n (e ∙ c.number_of.ensures.number true))
 
 pub returns-clause-words : goal.returns-clause-words
-returns-clause-words c = λ u e. (
-  refl,
+returns-clause-words c = λ u. (
+  got c.args.self.now.words.items (entry_place c.args.child) c.args.seen c.requires.seen,
   written c.args.self.now.words.items _ _ _ _ (c.number_of.ensures.number true)
-      (sym (ap (lane_put c.args.seen c.args.child) (ap (λ f. entry_word (f - c.args.n) 0) (ap free_in (sym c.lane.ensures.value) ∙ sym c.entry_free.ensures.value) ∙ sym c.entry-left.ensures.word) ∙ sym c.with_lane.ensures.word)),
+      (sym (ap (lane_put c.args.seen c.args.child)
+      (ap (λ f. entry_word (f - c.args.n) 0)
+      (ap free_in (sym c.lane.ensures.value) ∙ sym c.entry_free.ensures.value) ∙ sym c.entry-left.ensures.word)
+      ∙ sym c.with_lane.ensures.word)),
 )

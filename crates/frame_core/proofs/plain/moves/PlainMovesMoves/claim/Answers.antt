@@ -78,12 +78,20 @@ invariant_of-self-clause-agrees c =
     let bound : 2 ^ c.run_of-bit.result.1 ≤ 64 = omega (arith, ap (λ o. 2 ^ o) rr.1, may.is_run.fits) in
     let cut : 1 * 2 ^ c.run_of-bit.result.1 % 4294967296 ≡ 2 ^ c.run_of-bit.result.1 = omega (arith, bound) in
     let size : 1 * 2 ^ c.run_of-bit.result.1 % 4294967296 ≡ 2 ^ order = cut ∙ ap (λ o. 2 ^ o) rr.1 in
-    let b : block (64 * c.args.word + c.run_of-bit.result.0) c.run_of-bit.result.1 ≡ block (64 * c.args.word + from) order = λ i. block (64 * c.args.word + rr.0 i) (rr.1 i) in
-    stepped key ws m.outs.items v _ (claim c.args.word c.args.seen from order) c.number_of.result _ m.agrees c.requires.share may (got ws (bits_place key c.args.word) c.args.seen c.requires.seen) (ap (bit_or c.args.seen) (sym e))
-    (viewed key m.outs.items _ _ _ _ _ _ _ _ _ _ _ _ (sym (c.with_less-self-2.ensures ∙ ap (λ n. less (c.args.word / 64) n m.paid) size)) (sym (c.with_less-self.ensures ∙ ap (λ n. less (c.args.word / 8) n m.charged) size)) refl (sym (c.push_front_reserved.ensures.items ∙ ap (λ (x : FrameBlock). x ∷ m.own.items) b)) refl (sym c.saturating_add-self.ensures)) (sym (c.number_of.ensures.number m.sealed))
+    let b : block (64 * c.args.word + c.run_of-bit.result.0) c.run_of-bit.result.1 ≡ block (64 * c.args.word + from) order =
+    λ i. block (64 * c.args.word + rr.0 i) (rr.1 i) in
+    stepped key ws m.outs.items v _ (claim c.args.word c.args.seen from order) c.number_of.result _ m.agrees
+    c.requires.share may (got ws (bits_place key c.args.word) c.args.seen c.requires.seen) (ap (bit_or c.args.seen) (sym e))
+    (viewed key m.outs.items _ _ _ _ _ _ _ _ _ _ _ _
+    (sym (c.with_less-self-2.ensures ∙ ap (λ n. less (c.args.word / 64) n m.paid) size))
+    (sym (c.with_less-self.ensures ∙ ap (λ n. less (c.args.word / 8) n m.charged) size)) refl
+    (sym (c.push_front_reserved.ensures.items ∙ ap (λ (x : FrameBlock). x ∷ m.own.items) b)) refl
+    (sym c.saturating_add-self.ensures)) (sym (c.number_of.ensures.number m.sealed))
 
 pub returns-clause-read : goal.returns-clause-read
-returns-clause-read c = λ i n. reads_but c.args.self.now.words.items c.number_of.result _ i (λ e. n (e ∙ c.number_of.ensures.number c.args.self.now.sealed))
+returns-clause-read c =
+    λ i n. reads_but c.args.self.now.words.items c.number_of.result _ i
+    (λ e. n (e ∙ c.number_of.ensures.number c.args.self.now.sealed))
 
 pub returns-clause-view : goal.returns-clause-view
 returns-clause-view c =
@@ -96,8 +104,13 @@ returns-clause-view c =
     let cut : 1 * 2 ^ c.run_of-bit.result.1 % 4294967296 ≡ 2 ^ c.run_of-bit.result.1 = omega (arith, bound) in
     λ from order e. (let rr = c.run_of-bit.ensures from order e in
     let size : 1 * 2 ^ c.run_of-bit.result.1 % 4294967296 ≡ 2 ^ order = cut ∙ ap (λ o. 2 ^ o) rr.1 in
-    let b : block (64 * c.args.word + c.run_of-bit.result.0) c.run_of-bit.result.1 ≡ block (64 * c.args.word + from) order = λ i. block (64 * c.args.word + rr.0 i) (rr.1 i) in
-    sym (viewed key m.outs.items _ _ _ _ _ _ _ _ _ _ _ _ (sym (c.with_less-self-2.ensures ∙ ap (λ n. less (c.args.word / 64) n m.paid) size)) (sym (c.with_less-self.ensures ∙ ap (λ n. less (c.args.word / 8) n m.charged) size)) refl (sym (c.push_front_reserved.ensures.items ∙ ap (λ (x : FrameBlock). x ∷ m.own.items) b)) refl (sym c.saturating_add-self.ensures)))
+    let b : block (64 * c.args.word + c.run_of-bit.result.0) c.run_of-bit.result.1 ≡ block (64 * c.args.word + from) order =
+    λ i. block (64 * c.args.word + rr.0 i) (rr.1 i) in
+    sym (viewed key m.outs.items _ _ _ _ _ _ _ _ _ _ _ _
+    (sym (c.with_less-self-2.ensures ∙ ap (λ n. less (c.args.word / 64) n m.paid) size))
+    (sym (c.with_less-self.ensures ∙ ap (λ n. less (c.args.word / 8) n m.charged) size)) refl
+    (sym (c.push_front_reserved.ensures.items ∙ ap (λ (x : FrameBlock). x ∷ m.own.items) b)) refl
+    (sym c.saturating_add-self.ensures)))
 
 pub returns-clause-words : goal.returns-clause-words
 returns-clause-words c =
@@ -105,4 +118,4 @@ returns-clause-words c =
     let key = plain_key m.geometry m.sealed in
     let ws = m.words.items in
     let v = plain_view key m.outs.items m.paid m.charged m.reserving m.own.items m.filled.items m.moves in
-    λ u from order e q. (refl, written ws _ _ _ _ (c.number_of.ensures.number m.sealed) (sym (ap (bit_or c.args.seen) (sym e))))
+    λ u from order e. (got ws (bits_place key c.args.word) c.args.seen c.requires.seen, written ws _ _ _ _ (c.number_of.ensures.number m.sealed) (sym (ap (bit_or c.args.seen) (sym e))))

@@ -17,7 +17,8 @@ add_word-requires c =
     let key = plain_key m.geometry m.sealed in
     let ws = m.words.items in
     let v = plain_view key m.outs.items m.paid m.charged m.reserving m.own.items m.filled.items m.moves in
-    let full = or_full (get_or ws (bits_place key c.args.word) 0) (word_low key ws m.outs.items v c.args.word m.agrees c.requires.may.inside) in
+    let full = or_full (get_or ws (bits_place key c.args.word) 0)
+    (word_low key ws m.outs.items v c.args.word m.agrees c.requires.may.inside) in
     omega (arith, few_filled key ws m.outs.items v m.agrees m.distinct, m.filled_room, m.filled.ok)
 
 pub invariant_of-self-clause-agrees : goal.invariant_of-self-clause-agrees
@@ -26,12 +27,16 @@ invariant_of-self-clause-agrees c =
     let key = plain_key m.geometry m.sealed in
     let ws = m.words.items in
     let v = plain_view key m.outs.items m.paid m.charged m.reserving m.own.items m.filled.items m.moves in
-    let full = or_full (get_or ws (bits_place key c.args.word) 0) (word_low key ws m.outs.items v c.args.word m.agrees c.requires.may.inside) in
+    let full = or_full (get_or ws (bits_place key c.args.word) 0)
+    (word_low key ws m.outs.items v c.args.word m.agrees c.requires.may.inside) in
     stepped key ws m.outs.items v _ (fill_word c.args.word) c.number_of.result _ m.agrees c.requires.share c.requires.may tt (full)
-    (viewed key m.outs.items _ _ _ _ _ _ _ _ _ _ _ _ refl refl refl refl (sym c.add_word.ensures.items) (sym c.saturating_add-self.ensures)) (sym (c.number_of.ensures.number m.sealed))
+    (viewed key m.outs.items _ _ _ _ _ _ _ _ _ _ _ _ refl refl refl refl (sym c.add_word.ensures.items)
+    (sym c.saturating_add-self.ensures)) (sym (c.number_of.ensures.number m.sealed))
 
 pub returns-clause-read : goal.returns-clause-read
-returns-clause-read c = λ i n. reads_but c.args.self.now.words.items c.number_of.result _ i (λ e. n (e ∙ c.number_of.ensures.number c.args.self.now.sealed))
+returns-clause-read c =
+    λ i n. reads_but c.args.self.now.words.items c.number_of.result _ i
+    (λ e. n (e ∙ c.number_of.ensures.number c.args.self.now.sealed))
 
 pub returns-clause-words : goal.returns-clause-words
 returns-clause-words c =
@@ -39,7 +44,8 @@ returns-clause-words c =
     let key = plain_key m.geometry m.sealed in
     let ws = m.words.items in
     let v = plain_view key m.outs.items m.paid m.charged m.reserving m.own.items m.filled.items m.moves in
-    let full = or_full (get_or ws (bits_place key c.args.word) 0) (word_low key ws m.outs.items v c.args.word m.agrees c.requires.may.inside) in
+    let full = or_full (get_or ws (bits_place key c.args.word) 0)
+    (word_low key ws m.outs.items v c.args.word m.agrees c.requires.may.inside) in
     λ u. written ws _ _ _ _ (c.number_of.ensures.number m.sealed) (sym (full))
 
 pub invariant_of-self-clause-distinct : goal.invariant_of-self-clause-distinct

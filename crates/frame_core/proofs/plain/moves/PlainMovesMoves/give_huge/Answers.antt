@@ -24,7 +24,8 @@ overflow_sub-left-2 c =
     let is : found ≡ c.plain_word-found.result = c.plain_word-found.ensures.value m.sealed in
     let low : found < 2 ^ 64 = omega (arith, is, c.plain_word-found.type_inv) in
     let few = few_own key ws m.outs.items v m.agrees c.requires.share in
-    let flag = huge_entry key ws m.outs.items v k m.agrees c.requires.may.inside (omega (arith, c.requires.may.leaves.wholes k, whole_here k)) in
+    let flag = huge_entry key ws m.outs.items v k m.agrees c.requires.may.inside
+    (omega (arith, c.requires.may.leaves.wholes k, whole_here k)) in
     let here = ap (λ f. lane_in f k) is in
     omega (arith, flag, here, c.lane.ensures.value, c.from.ensures)
 
@@ -39,7 +40,8 @@ with_more-self-requires c =
     let is : found ≡ c.plain_word-found.result = c.plain_word-found.ensures.value m.sealed in
     let low : found < 2 ^ 64 = omega (arith, is, c.plain_word-found.type_inv) in
     let few = few_own key ws m.outs.items v m.agrees c.requires.share in
-    let flag = huge_entry key ws m.outs.items v k m.agrees c.requires.may.inside (omega (arith, c.requires.may.leaves.wholes k, whole_here k)) in
+    let flag = huge_entry key ws m.outs.items v k m.agrees c.requires.may.inside
+    (omega (arith, c.requires.may.leaves.wholes k, whole_here k)) in
     let here = ap (λ f. lane_in f k) is in
     omega (arith, paid_few key ws m.outs.items v (k / 8) m.agrees (omega (arith, c.requires.may.inside)))
 
@@ -54,7 +56,8 @@ leave-requires-clause-list c =
     let is : found ≡ c.plain_word-found.result = c.plain_word-found.ensures.value m.sealed in
     let low : found < 2 ^ 64 = omega (arith, is, c.plain_word-found.type_inv) in
     let few = few_own key ws m.outs.items v m.agrees c.requires.share in
-    let flag = huge_entry key ws m.outs.items v k m.agrees c.requires.may.inside (omega (arith, c.requires.may.leaves.wholes k, whole_here k)) in
+    let flag = huge_entry key ws m.outs.items v k m.agrees c.requires.may.inside
+    (omega (arith, c.requires.may.leaves.wholes k, whole_here k)) in
     let here = ap (λ f. lane_in f k) is in
     low_own key ws m.outs.items v m.geometry.few_children m.agrees
 
@@ -69,10 +72,14 @@ leave-requires-clause-room c =
     let is : found ≡ c.plain_word-found.result = c.plain_word-found.ensures.value m.sealed in
     let low : found < 2 ^ 64 = omega (arith, is, c.plain_word-found.type_inv) in
     let few = few_own key ws m.outs.items v m.agrees c.requires.share in
-    let flag = huge_entry key ws m.outs.items v k m.agrees c.requires.may.inside (omega (arith, c.requires.may.leaves.wholes k, whole_here k)) in
+    let flag = huge_entry key ws m.outs.items v k m.agrees c.requires.may.inside
+    (omega (arith, c.requires.may.leaves.wholes k, whole_here k)) in
     let here = ap (λ f. lane_in f k) is in
     let b = c.huge_block.ensures in
-    let now = few_own key _ m.outs.items (effect plain_tick (give_huge c.args.child (without (block (512 * c.args.child) 9))) found v) (stepped key ws m.outs.items v _ (give_huge c.args.child (without (block (512 * c.args.child) 9))) _ _ m.agrees c.requires.share c.requires.may tt refl refl refl) c.requires.share in
+    let now = few_own key _ m.outs.items
+    (effect plain_tick (give_huge c.args.child (without (block (512 * c.args.child) 9))) found v)
+    (stepped key ws m.outs.items v _ (give_huge c.args.child (without (block (512 * c.args.child) 9))) _ _
+    m.agrees c.requires.share c.requires.may tt refl refl refl) c.requires.share in
     omega (arith, few, now, ap (λ (x : FrameBlock). length (without x m.own.items)) b, m.room)
 
 pub invariant_of-self-clause-agrees : goal.invariant_of-self-clause-agrees
@@ -86,14 +93,23 @@ invariant_of-self-clause-agrees c =
     let is : found ≡ c.plain_word-found.result = c.plain_word-found.ensures.value m.sealed in
     let low : found < 2 ^ 64 = omega (arith, is, c.plain_word-found.type_inv) in
     let few = few_own key ws m.outs.items v m.agrees c.requires.share in
-    let flag = huge_entry key ws m.outs.items v k m.agrees c.requires.may.inside (omega (arith, c.requires.may.leaves.wholes k, whole_here k)) in
+    let flag = huge_entry key ws m.outs.items v k m.agrees c.requires.may.inside
+    (omega (arith, c.requires.may.leaves.wholes k, whole_here k)) in
     let here = ap (λ f. lane_in f k) is in
     let b = c.huge_block.ensures in
-    stepped key ws m.outs.items v _ (give_huge c.args.child (without (block (512 * c.args.child) 9))) c.number_of.result c.with_lane.result m.agrees c.requires.share c.requires.may tt (lane_taken found k 32256 low (omega (arith, flag)) ∙ ap (λ f. lane_put f k (lane_in f k - 32256)) is ∙ ap (lane_put c.plain_word-found.result k) (omega (arith, c.lane.ensures.value, c.from.ensures)) ∙ sym c.with_lane.ensures.word)
-    (viewed key m.outs.items _ _ _ _ _ _ _ _ _ _ _ _ (sym c.with_more-self.ensures) refl refl (ap (λ (x : FrameBlock). without x m.own.items) (sym b) ∙ sym c.leave.ensures.items) refl (sym c.saturating_add-self.ensures)) (sym (c.number_of.ensures.number m.sealed))
+    stepped key ws m.outs.items v _ (give_huge c.args.child (without (block (512 * c.args.child) 9)))
+    c.number_of.result c.with_lane.result m.agrees c.requires.share c.requires.may tt
+    (lane_taken found k 32256 low (omega (arith, flag)) ∙ ap (λ f. lane_put f k (lane_in f k - 32256)) is
+    ∙ ap (lane_put c.plain_word-found.result k) (omega (arith, c.lane.ensures.value, c.from.ensures))
+    ∙ sym c.with_lane.ensures.word)
+    (viewed key m.outs.items _ _ _ _ _ _ _ _ _ _ _ _ (sym c.with_more-self.ensures) refl refl
+    (ap (λ (x : FrameBlock). without x m.own.items) (sym b) ∙ sym c.leave.ensures.items) refl
+    (sym c.saturating_add-self.ensures)) (sym (c.number_of.ensures.number m.sealed))
 
 pub returns-clause-read : goal.returns-clause-read
-returns-clause-read c = λ i n. reads_but c.args.self.now.words.items c.number_of.result c.with_lane.result i (λ e. n (e ∙ c.number_of.ensures.number c.args.self.now.sealed))
+returns-clause-read c =
+    λ i n. reads_but c.args.self.now.words.items c.number_of.result c.with_lane.result i
+    (λ e. n (e ∙ c.number_of.ensures.number c.args.self.now.sealed))
 
 pub returns-clause-words : goal.returns-clause-words
 returns-clause-words c =
@@ -106,7 +122,11 @@ returns-clause-words c =
     let is : found ≡ c.plain_word-found.result = c.plain_word-found.ensures.value m.sealed in
     let low : found < 2 ^ 64 = omega (arith, is, c.plain_word-found.type_inv) in
     let few = few_own key ws m.outs.items v m.agrees c.requires.share in
-    let flag = huge_entry key ws m.outs.items v k m.agrees c.requires.may.inside (omega (arith, c.requires.may.leaves.wholes k, whole_here k)) in
+    let flag = huge_entry key ws m.outs.items v k m.agrees c.requires.may.inside
+    (omega (arith, c.requires.may.leaves.wholes k, whole_here k)) in
     let here = ap (λ f. lane_in f k) is in
     let b = c.huge_block.ensures in
-    λ u. written ws _ _ _ _ (c.number_of.ensures.number m.sealed) (sym (lane_taken found k 32256 low (omega (arith, flag)) ∙ ap (λ f. lane_put f k (lane_in f k - 32256)) is ∙ ap (lane_put c.plain_word-found.result k) (omega (arith, c.lane.ensures.value, c.from.ensures)) ∙ sym c.with_lane.ensures.word))
+    λ u. written ws _ _ _ _ (c.number_of.ensures.number m.sealed)
+    (sym (lane_taken found k 32256 low (omega (arith, flag)) ∙ ap (λ f. lane_put f k (lane_in f k - 32256)) is
+    ∙ ap (lane_put c.plain_word-found.result k) (omega (arith, c.lane.ensures.value, c.from.ensures))
+    ∙ sym c.with_lane.ensures.word))

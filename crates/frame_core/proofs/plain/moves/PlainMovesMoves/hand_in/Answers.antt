@@ -31,8 +31,13 @@ invariant_of-self-clause-agrees c =
     let b = c.args.held in
     let f = c.frame-frame.ensures in
     let o = c.order-order.ensures in
-    subst (λ (w : View). ∥ Agrees key ws (set m.outs.items c.frame-frame.result 0) w ∥₁) (viewed_in key _ _ _ _ _ _ _ _ _ _ (one_in m.outs.items b.frame c.requires.held.0 (omega (arith, c.requires.held.1)) ∙ ap (λ i. out_count (set m.outs.items i 0) + 1) (sym f)) (sym (c.push_front_reserved.ensures.items ∙ (λ i. block (f i) (o i) ∷ m.own.items))) (sym c.saturating_add-self.ensures))
-    (subst (λ i. ∥ Agrees key ws (set m.outs.items i 0) (joined_by plain_tick hand_in v (holder (Some key) b)) ∥₁) (sym f) (taken_in key ws m.outs.items v b m.agrees c.requires.share c.requires.child c.requires.held))
+    subst (λ (w : View). ∥ Agrees key ws (set m.outs.items c.frame-frame.result 0) w ∥₁)
+    (viewed_in key _ _ _ _ _ _ _ _ _ _
+    (one_in m.outs.items b.frame c.requires.held.0 (omega (arith, c.requires.held.1))
+    ∙ ap (λ i. out_count (set m.outs.items i 0) + 1) (sym f))
+    (sym (c.push_front_reserved.ensures.items ∙ (λ i. block (f i) (o i) ∷ m.own.items))) (sym c.saturating_add-self.ensures))
+    (subst (λ i. ∥ Agrees key ws (set m.outs.items i 0) (joined_by plain_tick hand_in v (holder (Some key) b)) ∥₁)
+    (sym f) (taken_in key ws m.outs.items v b m.agrees c.requires.share c.requires.child c.requires.held))
 
 pub returns-clause-view : goal.returns-clause-view
 returns-clause-view c =
@@ -43,4 +48,7 @@ returns-clause-view c =
     let b = c.args.held in
     let f = c.frame-frame.ensures in
     let o = c.order-order.ensures in
-    sym (viewed_in key _ _ _ _ _ _ _ _ _ _ (one_in m.outs.items b.frame c.requires.held.0 (omega (arith, c.requires.held.1)) ∙ ap (λ i. out_count (set m.outs.items i 0) + 1) (sym f)) (sym (c.push_front_reserved.ensures.items ∙ (λ i. block (f i) (o i) ∷ m.own.items))) (sym c.saturating_add-self.ensures))
+    sym (viewed_in key _ _ _ _ _ _ _ _ _ _
+    (one_in m.outs.items b.frame c.requires.held.0 (omega (arith, c.requires.held.1))
+    ∙ ap (λ i. out_count (set m.outs.items i 0) + 1) (sym f))
+    (sym (c.push_front_reserved.ensures.items ∙ (λ i. block (f i) (o i) ∷ m.own.items))) (sym c.saturating_add-self.ensures))

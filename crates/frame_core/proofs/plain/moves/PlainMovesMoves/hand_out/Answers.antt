@@ -18,7 +18,8 @@ leave-requires-clause-list c =
     let ws = m.words.items in
     let v = plain_view key m.outs.items m.paid m.charged m.reserving m.own.items m.filled.items m.moves in
     let b = block c.args.frame c.args.order in
-    let inside : c.args.frame < length m.outs.items = omega (arith, m.frames, m.outs.ok, c.requires.may.is_block.inside, pow_pos c.args.order) in
+    let inside : c.args.frame < length m.outs.items =
+    omega (arith, m.frames, m.outs.ok, c.requires.may.is_block.inside, pow_pos c.args.order) in
     let free = byte_free key ws m.outs.items v b (without b) m.agrees c.requires.may inside in
     let gone = handed_out key ws m.outs.items v b (without b) m.agrees refl c.requires.may inside in
     low_own key ws m.outs.items v m.geometry.few_children m.agrees
@@ -30,10 +31,16 @@ leave-requires-clause-room c =
     let ws = m.words.items in
     let v = plain_view key m.outs.items m.paid m.charged m.reserving m.own.items m.filled.items m.moves in
     let b = block c.args.frame c.args.order in
-    let inside : c.args.frame < length m.outs.items = omega (arith, m.frames, m.outs.ok, c.requires.may.is_block.inside, pow_pos c.args.order) in
+    let inside : c.args.frame < length m.outs.items =
+    omega (arith, m.frames, m.outs.ok, c.requires.may.is_block.inside, pow_pos c.args.order) in
     let free = byte_free key ws m.outs.items v b (without b) m.agrees c.requires.may inside in
     let gone = handed_out key ws m.outs.items v b (without b) m.agrees refl c.requires.may inside in
-    omega (arith, few_own key ws m.outs.items v m.agrees c.requires.may.share, few_own key ws _ (left_by plain_tick (hand_out b (without b)) v) gone c.requires.may.share, m.room)
+    omega (
+      arith,
+      few_own key ws m.outs.items v m.agrees c.requires.may.share,
+      few_own key ws _ (left_by plain_tick (hand_out b (without b)) v) gone c.requires.may.share,
+      m.room,
+    )
 
 pub invariant_of-self-clause-agrees : goal.invariant_of-self-clause-agrees
 invariant_of-self-clause-agrees c =
@@ -42,10 +49,14 @@ invariant_of-self-clause-agrees c =
     let ws = m.words.items in
     let v = plain_view key m.outs.items m.paid m.charged m.reserving m.own.items m.filled.items m.moves in
     let b = block c.args.frame c.args.order in
-    let inside : c.args.frame < length m.outs.items = omega (arith, m.frames, m.outs.ok, c.requires.may.is_block.inside, pow_pos c.args.order) in
+    let inside : c.args.frame < length m.outs.items =
+    omega (arith, m.frames, m.outs.ok, c.requires.may.is_block.inside, pow_pos c.args.order) in
     let free = byte_free key ws m.outs.items v b (without b) m.agrees c.requires.may inside in
     let gone = handed_out key ws m.outs.items v b (without b) m.agrees refl c.requires.may inside in
-    subst (λ (w : View). ∥ Agrees key ws (set m.outs.items c.args.frame (c.args.order + 1)) w ∥₁) (viewed_out key _ _ _ _ _ _ _ _ _ _ (one_out m.outs.items c.args.frame (c.args.order + 1) inside free (omega arith)) (sym c.leave.ensures.items) (sym c.saturating_add-self.ensures)) gone
+    subst (λ (w : View). ∥ Agrees key ws (set m.outs.items c.args.frame (c.args.order + 1)) w ∥₁)
+    (viewed_out key _ _ _ _ _ _ _ _ _ _
+    (one_out m.outs.items c.args.frame (c.args.order + 1) inside free (omega arith)) (sym c.leave.ensures.items)
+    (sym c.saturating_add-self.ensures)) gone
 
 pub returns-clause-view : goal.returns-clause-view
 returns-clause-view c =
@@ -54,10 +65,13 @@ returns-clause-view c =
     let ws = m.words.items in
     let v = plain_view key m.outs.items m.paid m.charged m.reserving m.own.items m.filled.items m.moves in
     let b = block c.args.frame c.args.order in
-    let inside : c.args.frame < length m.outs.items = omega (arith, m.frames, m.outs.ok, c.requires.may.is_block.inside, pow_pos c.args.order) in
+    let inside : c.args.frame < length m.outs.items =
+    omega (arith, m.frames, m.outs.ok, c.requires.may.is_block.inside, pow_pos c.args.order) in
     let free = byte_free key ws m.outs.items v b (without b) m.agrees c.requires.may inside in
     let gone = handed_out key ws m.outs.items v b (without b) m.agrees refl c.requires.may inside in
-    sym (viewed_out key _ _ _ _ _ _ _ _ _ _ (one_out m.outs.items c.args.frame (c.args.order + 1) inside free (omega arith)) (sym c.leave.ensures.items) (sym c.saturating_add-self.ensures))
+    sym (viewed_out key _ _ _ _ _ _ _ _ _ _
+    (one_out m.outs.items c.args.frame (c.args.order + 1) inside free (omega arith)) (sym c.leave.ensures.items)
+    (sym c.saturating_add-self.ensures))
 
 pub returns-clause-out : goal.returns-clause-out
 returns-clause-out c =
@@ -66,7 +80,8 @@ returns-clause-out c =
     let ws = m.words.items in
     let v = plain_view key m.outs.items m.paid m.charged m.reserving m.own.items m.filled.items m.moves in
     let b = block c.args.frame c.args.order in
-    let inside : c.args.frame < length m.outs.items = omega (arith, m.frames, m.outs.ok, c.requires.may.is_block.inside, pow_pos c.args.order) in
+    let inside : c.args.frame < length m.outs.items =
+    omega (arith, m.frames, m.outs.ok, c.requires.may.is_block.inside, pow_pos c.args.order) in
     let free = byte_free key ws m.outs.items v b (without b) m.agrees c.requires.may inside in
     let gone = handed_out key ws m.outs.items v b (without b) m.agrees refl c.requires.may inside in
     λ d out. still_out m.outs.items b free d out

@@ -18,7 +18,8 @@ returns-clause-layout c =
     let key = plain_key m.geometry m.sealed in
     let ws = m.words.items in
     let v = plain_view key m.outs.items m.paid m.charged m.reserving m.own.items m.filled.items m.moves in
-    subst (HasLayout key c.args.place) (c.plain_word.ensures.value m.sealed) (layout_known key ws m.outs.items v m.agrees c.args.place c.requires.place)
+    subst (HasLayout key c.args.place) (c.plain_word.ensures.value m.sealed)
+    (layout_known key ws m.outs.items v m.agrees c.args.place c.requires.place)
 
 pub returns-clause-found : goal.returns-clause-found
 returns-clause-found c = c.plain_word.ensures.found c.args.self.now.sealed

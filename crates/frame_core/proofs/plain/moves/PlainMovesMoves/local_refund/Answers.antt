@@ -22,7 +22,8 @@ overflow_add-resting c =
     let e : rest_in c.args.seen ≡ Some (t, r) = sym c.local_of.ensures ∙ c.unwrap-tree.ensures in
     let known = rest_known key ws m.outs.items v k m.agrees c.requires.may.inside (Some (t, r)) (ap rest_in is ∙ e) in
     let room = resting_bound key ws m.outs.items v k t r m.agrees c.requires.may.inside (ap rest_in is ∙ e) in
-    let pair : ◌≡◌ {A = Option (ℕ × ℕ)} (Some (t, r)) (Some (c.requires.may.tree, c.requires.may.resting)) = sym e ∙ c.requires.may.seen_as in
+    let pair : ◌≡◌ {A = Option (ℕ × ℕ)} (Some (t, r)) (Some (c.requires.may.tree, c.requires.may.resting)) =
+    sym e ∙ c.requires.may.seen_as in
     let same : t ≡ c.requires.may.tree = cc in
     let rest_same : r ≡ c.requires.may.resting = cc in
     omega (arith, room, c.requires.may.paid, ap (λ (x : ℕ). paid_on x v) same)
@@ -41,10 +42,12 @@ local-left-requires c =
     let e : rest_in c.args.seen ≡ Some (t, r) = sym c.local_of.ensures ∙ c.unwrap-tree.ensures in
     let known = rest_known key ws m.outs.items v k m.agrees c.requires.may.inside (Some (t, r)) (ap rest_in is ∙ e) in
     let room = resting_bound key ws m.outs.items v k t r m.agrees c.requires.may.inside (ap rest_in is ∙ e) in
-    let pair : ◌≡◌ {A = Option (ℕ × ℕ)} (Some (t, r)) (Some (c.requires.may.tree, c.requires.may.resting)) = sym e ∙ c.requires.may.seen_as in
+    let pair : ◌≡◌ {A = Option (ℕ × ℕ)} (Some (t, r)) (Some (c.requires.may.tree, c.requires.may.resting)) =
+    sym e ∙ c.requires.may.seen_as in
     let same : t ≡ c.requires.may.tree = cc in
     let rest_same : r ≡ c.requires.may.resting = cc in
-    rest_low key m.geometry.few_children (Some (t, r + n)) (known.0, omega (arith, room, c.requires.may.paid, ap (λ (x : ℕ). paid_on x v) same))
+    rest_low key m.geometry.few_children (Some (t, r + n))
+    (known.0, omega (arith, room, c.requires.may.paid, ap (λ (x : ℕ). paid_on x v) same))
 
 pub invariant_of-self-clause-agrees : goal.invariant_of-self-clause-agrees
 invariant_of-self-clause-agrees c =
@@ -60,14 +63,21 @@ invariant_of-self-clause-agrees c =
     let e : rest_in c.args.seen ≡ Some (t, r) = sym c.local_of.ensures ∙ c.unwrap-tree.ensures in
     let known = rest_known key ws m.outs.items v k m.agrees c.requires.may.inside (Some (t, r)) (ap rest_in is ∙ e) in
     let room = resting_bound key ws m.outs.items v k t r m.agrees c.requires.may.inside (ap rest_in is ∙ e) in
-    let pair : ◌≡◌ {A = Option (ℕ × ℕ)} (Some (t, r)) (Some (c.requires.may.tree, c.requires.may.resting)) = sym e ∙ c.requires.may.seen_as in
+    let pair : ◌≡◌ {A = Option (ℕ × ℕ)} (Some (t, r)) (Some (c.requires.may.tree, c.requires.may.resting)) =
+    sym e ∙ c.requires.may.seen_as in
     let same : t ≡ c.requires.may.tree = cc in
     let rest_same : r ≡ c.requires.may.resting = cc in
-    stepped key ws m.outs.items v _ (local_refund c.args.core c.args.seen c.args.n) c.number_of.result c.local-left.result m.agrees c.requires.share c.requires.may is (ap (λ (x : Option (ℕ × ℕ)). local_word (rest_more n x)) e ∙ sym c.local-left.ensures.word)
-    (viewed key m.outs.items _ _ _ _ _ _ _ _ _ _ _ _ (ap (λ (x : Option (ℕ × ℕ)). less_of x n m.paid) e ∙ sym c.with_less-self.ensures) refl refl refl refl (sym c.saturating_add-self.ensures)) (sym (c.number_of.ensures.number m.sealed))
+    stepped key ws m.outs.items v _ (local_refund c.args.core c.args.seen c.args.n) c.number_of.result
+    c.local-left.result m.agrees c.requires.share c.requires.may is
+    (ap (λ (x : Option (ℕ × ℕ)). local_word (rest_more n x)) e ∙ sym c.local-left.ensures.word)
+    (viewed key m.outs.items _ _ _ _ _ _ _ _ _ _ _ _
+    (ap (λ (x : Option (ℕ × ℕ)). less_of x n m.paid) e ∙ sym c.with_less-self.ensures) refl refl refl refl
+    (sym c.saturating_add-self.ensures)) (sym (c.number_of.ensures.number m.sealed))
 
 pub returns-clause-read : goal.returns-clause-read
-returns-clause-read c = λ i n. reads_but c.args.self.now.words.items c.number_of.result c.local-left.result i (λ e. n (e ∙ c.number_of.ensures.number c.args.self.now.sealed))
+returns-clause-read c =
+    λ i n. reads_but c.args.self.now.words.items c.number_of.result c.local-left.result i
+    (λ e. n (e ∙ c.number_of.ensures.number c.args.self.now.sealed))
 
 pub returns-clause-words : goal.returns-clause-words
 returns-clause-words c =
@@ -83,7 +93,8 @@ returns-clause-words c =
     let e : rest_in c.args.seen ≡ Some (t, r) = sym c.local_of.ensures ∙ c.unwrap-tree.ensures in
     let known = rest_known key ws m.outs.items v k m.agrees c.requires.may.inside (Some (t, r)) (ap rest_in is ∙ e) in
     let room = resting_bound key ws m.outs.items v k t r m.agrees c.requires.may.inside (ap rest_in is ∙ e) in
-    let pair : ◌≡◌ {A = Option (ℕ × ℕ)} (Some (t, r)) (Some (c.requires.may.tree, c.requires.may.resting)) = sym e ∙ c.requires.may.seen_as in
+    let pair : ◌≡◌ {A = Option (ℕ × ℕ)} (Some (t, r)) (Some (c.requires.may.tree, c.requires.may.resting)) =
+    sym e ∙ c.requires.may.seen_as in
     let same : t ≡ c.requires.may.tree = cc in
     let rest_same : r ≡ c.requires.may.resting = cc in
-    λ u q. (refl, written ws _ _ _ _ (c.number_of.ensures.number m.sealed) (sym (ap (λ (x : Option (ℕ × ℕ)). local_word (rest_more n x)) e ∙ sym c.local-left.ensures.word)))
+    λ u. (is, written ws _ _ _ _ (c.number_of.ensures.number m.sealed) (sym (ap (λ (x : Option (ℕ × ℕ)). local_word (rest_more n x)) e ∙ sym c.local-left.ensures.word)))

@@ -33,11 +33,18 @@ invariant_of-self-clause-agrees c =
     let is : found ≡ c.plain_word-found.result = c.plain_word-found.ensures.value m.sealed in
     let low : found < 2 ^ 64 = omega (arith, is, c.plain_word-found.type_inv) in
     let fits : lane_in found k + n < 65536 = refund_bound key ws m.outs.items v k n m.agrees c.requires.may.inside c.requires.may.charged in
-    stepped key ws m.outs.items v _ (refund c.args.child c.args.n) c.number_of.result c.with_lane.result m.agrees c.requires.share c.requires.may tt (lane_added found k n low fits ∙ ap (λ f. lane_put f k (lane_in f k + n)) is ∙ ap (lane_put c.plain_word-found.result k) (omega (arith, c.lane.ensures.value, c.from.ensures)) ∙ sym c.with_lane.ensures.word)
-    (viewed key m.outs.items _ _ _ _ _ _ _ _ _ _ _ _ refl (sym c.with_less-self.ensures) refl refl refl (sym c.saturating_add-self.ensures)) (sym (c.number_of.ensures.number m.sealed))
+    stepped key ws m.outs.items v _ (refund c.args.child c.args.n) c.number_of.result c.with_lane.result m.agrees
+    c.requires.share c.requires.may tt
+    (lane_added found k n low fits ∙ ap (λ f. lane_put f k (lane_in f k + n)) is
+    ∙ ap (lane_put c.plain_word-found.result k) (omega (arith, c.lane.ensures.value, c.from.ensures))
+    ∙ sym c.with_lane.ensures.word)
+    (viewed key m.outs.items _ _ _ _ _ _ _ _ _ _ _ _ refl (sym c.with_less-self.ensures) refl refl refl
+    (sym c.saturating_add-self.ensures)) (sym (c.number_of.ensures.number m.sealed))
 
 pub returns-clause-read : goal.returns-clause-read
-returns-clause-read c = λ i n. reads_but c.args.self.now.words.items c.number_of.result c.with_lane.result i (λ e. n (e ∙ c.number_of.ensures.number c.args.self.now.sealed))
+returns-clause-read c =
+    λ i n. reads_but c.args.self.now.words.items c.number_of.result c.with_lane.result i
+    (λ e. n (e ∙ c.number_of.ensures.number c.args.self.now.sealed))
 
 pub returns-clause-words : goal.returns-clause-words
 returns-clause-words c =
@@ -51,4 +58,7 @@ returns-clause-words c =
     let is : found ≡ c.plain_word-found.result = c.plain_word-found.ensures.value m.sealed in
     let low : found < 2 ^ 64 = omega (arith, is, c.plain_word-found.type_inv) in
     let fits : lane_in found k + n < 65536 = refund_bound key ws m.outs.items v k n m.agrees c.requires.may.inside c.requires.may.charged in
-    λ u. written ws _ _ _ _ (c.number_of.ensures.number m.sealed) (sym (lane_added found k n low fits ∙ ap (λ f. lane_put f k (lane_in f k + n)) is ∙ ap (lane_put c.plain_word-found.result k) (omega (arith, c.lane.ensures.value, c.from.ensures)) ∙ sym c.with_lane.ensures.word))
+    λ u. written ws _ _ _ _ (c.number_of.ensures.number m.sealed)
+    (sym (lane_added found k n low fits ∙ ap (λ f. lane_put f k (lane_in f k + n)) is
+    ∙ ap (lane_put c.plain_word-found.result k) (omega (arith, c.lane.ensures.value, c.from.ensures))
+    ∙ sym c.with_lane.ensures.word))

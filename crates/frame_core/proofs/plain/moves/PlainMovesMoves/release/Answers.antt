@@ -124,9 +124,14 @@ leave-requires-clause-room c =
     let rr = c.run_of-bit.ensures from order e in
     let bound : 2 ^ c.run_of-bit.result.1 ≤ 64 = omega (arith, ap (λ o. 2 ^ o) rr.1, may.is_run.fits) in
     let cut : 1 * 2 ^ c.run_of-bit.result.1 % 4294967296 ≡ 2 ^ c.run_of-bit.result.1 = omega (arith, bound) in
-    let b : block (64 * c.args.word + c.run_of-bit.result.0) c.run_of-bit.result.1 ≡ block (64 * c.args.word + from) order = λ i. block (64 * c.args.word + rr.0 i) (rr.1 i) in
+    let b : block (64 * c.args.word + c.run_of-bit.result.0) c.run_of-bit.result.1 ≡ block (64 * c.args.word + from) order =
+    λ i. block (64 * c.args.word + rr.0 i) (rr.1 i) in
     let few = few_own key ws m.outs.items v m.agrees c.requires.share in
-    let now = few_own key _ m.outs.items (effect plain_tick (release c.args.word from order (without (block (64 * c.args.word + from) order))) found v) (stepped key ws m.outs.items v _ (release c.args.word from order (without (block (64 * c.args.word + from) order))) _ _ m.agrees c.requires.share may tt refl refl refl) c.requires.share in
+    let now = few_own key _ m.outs.items
+    (effect plain_tick (release c.args.word from order (without (block (64 * c.args.word + from) order))) found v)
+    (stepped key ws m.outs.items v _
+    (release c.args.word from order (without (block (64 * c.args.word + from) order))) _ _ m.agrees
+    c.requires.share may tt refl refl refl) c.requires.share in
     omega (arith, few, now, ap (λ (x : FrameBlock). length (without x m.own.items)) b, m.room)
 
 pub invariant_of-self-clause-agrees : goal.invariant_of-self-clause-agrees
@@ -145,12 +150,22 @@ invariant_of-self-clause-agrees c =
     let bound : 2 ^ c.run_of-bit.result.1 ≤ 64 = omega (arith, ap (λ o. 2 ^ o) rr.1, may.is_run.fits) in
     let cut : 1 * 2 ^ c.run_of-bit.result.1 % 4294967296 ≡ 2 ^ c.run_of-bit.result.1 = omega (arith, bound) in
     let size : 1 * 2 ^ c.run_of-bit.result.1 % 4294967296 ≡ 2 ^ order = cut ∙ ap (λ o. 2 ^ o) rr.1 in
-    let b : block (64 * c.args.word + c.run_of-bit.result.0) c.run_of-bit.result.1 ≡ block (64 * c.args.word + from) order = λ i. block (64 * c.args.word + rr.0 i) (rr.1 i) in
-    stepped key ws m.outs.items v _ (release c.args.word from order (without (block (64 * c.args.word + from) order))) c.number_of.result _ m.agrees c.requires.share may tt (ap (λ f. bit_and f (bit_not w64 (run from (2 ^ order)))) is ∙ ap (λ k. bit_and c.plain_word-found.result (bit_not w64 k)) (sym e))
-    (viewed key m.outs.items _ _ _ _ _ _ _ _ _ _ _ _ (sym (c.with_more-self-2.ensures ∙ ap (λ n. more (c.args.word / 64) n m.paid) size)) (sym (c.with_more-self.ensures ∙ ap (λ n. more (c.args.word / 8) n m.charged) size)) refl (sym (c.leave.ensures.items ∙ ap (λ (x : FrameBlock). without x m.own.items) b)) refl (sym c.saturating_add-self.ensures)) (sym (c.number_of.ensures.number m.sealed))
+    let b : block (64 * c.args.word + c.run_of-bit.result.0) c.run_of-bit.result.1 ≡ block (64 * c.args.word + from) order =
+    λ i. block (64 * c.args.word + rr.0 i) (rr.1 i) in
+    stepped key ws m.outs.items v _ (release c.args.word from order (without (block (64 * c.args.word + from) order)))
+    c.number_of.result _ m.agrees c.requires.share may tt
+    (ap (λ f. bit_and f (bit_not w64 (run from (2 ^ order)))) is
+    ∙ ap (λ k. bit_and c.plain_word-found.result (bit_not w64 k)) (sym e))
+    (viewed key m.outs.items _ _ _ _ _ _ _ _ _ _ _ _
+    (sym (c.with_more-self-2.ensures ∙ ap (λ n. more (c.args.word / 64) n m.paid) size))
+    (sym (c.with_more-self.ensures ∙ ap (λ n. more (c.args.word / 8) n m.charged) size)) refl
+    (sym (c.leave.ensures.items ∙ ap (λ (x : FrameBlock). without x m.own.items) b)) refl
+    (sym c.saturating_add-self.ensures)) (sym (c.number_of.ensures.number m.sealed))
 
 pub returns-clause-read : goal.returns-clause-read
-returns-clause-read c = λ i n. reads_but c.args.self.now.words.items c.number_of.result _ i (λ e. n (e ∙ c.number_of.ensures.number c.args.self.now.sealed))
+returns-clause-read c =
+    λ i n. reads_but c.args.self.now.words.items c.number_of.result _ i
+    (λ e. n (e ∙ c.number_of.ensures.number c.args.self.now.sealed))
 
 pub returns-clause-view : goal.returns-clause-view
 returns-clause-view c =
@@ -165,8 +180,13 @@ returns-clause-view c =
     let cut : 1 * 2 ^ c.run_of-bit.result.1 % 4294967296 ≡ 2 ^ c.run_of-bit.result.1 = omega (arith, bound) in
     λ from order e. (let rr = c.run_of-bit.ensures from order e in
     let size : 1 * 2 ^ c.run_of-bit.result.1 % 4294967296 ≡ 2 ^ order = cut ∙ ap (λ o. 2 ^ o) rr.1 in
-    let b : block (64 * c.args.word + c.run_of-bit.result.0) c.run_of-bit.result.1 ≡ block (64 * c.args.word + from) order = λ i. block (64 * c.args.word + rr.0 i) (rr.1 i) in
-    sym (viewed key m.outs.items _ _ _ _ _ _ _ _ _ _ _ _ (sym (c.with_more-self-2.ensures ∙ ap (λ n. more (c.args.word / 64) n m.paid) size)) (sym (c.with_more-self.ensures ∙ ap (λ n. more (c.args.word / 8) n m.charged) size)) refl (sym (c.leave.ensures.items ∙ ap (λ (x : FrameBlock). without x m.own.items) b)) refl (sym c.saturating_add-self.ensures)))
+    let b : block (64 * c.args.word + c.run_of-bit.result.0) c.run_of-bit.result.1 ≡ block (64 * c.args.word + from) order =
+    λ i. block (64 * c.args.word + rr.0 i) (rr.1 i) in
+    sym (viewed key m.outs.items _ _ _ _ _ _ _ _ _ _ _ _
+    (sym (c.with_more-self-2.ensures ∙ ap (λ n. more (c.args.word / 64) n m.paid) size))
+    (sym (c.with_more-self.ensures ∙ ap (λ n. more (c.args.word / 8) n m.charged) size)) refl
+    (sym (c.leave.ensures.items ∙ ap (λ (x : FrameBlock). without x m.own.items) b)) refl
+    (sym c.saturating_add-self.ensures)))
 
 pub returns-clause-words : goal.returns-clause-words
 returns-clause-words c =
@@ -176,4 +196,6 @@ returns-clause-words c =
     let v = plain_view key m.outs.items m.paid m.charged m.reserving m.own.items m.filled.items m.moves in
     let found = get_or ws (bits_place key c.args.word) 0 in
     let is : found ≡ c.plain_word-found.result = c.plain_word-found.ensures.value m.sealed in
-    λ u from order e. written ws _ _ _ _ (c.number_of.ensures.number m.sealed) (sym (ap (λ f. bit_and f (bit_not w64 (run from (2 ^ order)))) is ∙ ap (λ k. bit_and c.plain_word-found.result (bit_not w64 k)) (sym e)))
+    λ u from order e. written ws _ _ _ _ (c.number_of.ensures.number m.sealed)
+    (sym (ap (λ f. bit_and f (bit_not w64 (run from (2 ^ order)))) is
+    ∙ ap (λ k. bit_and c.plain_word-found.result (bit_not w64 k)) (sym e)))

@@ -18,11 +18,16 @@ invariant_of-self-clause-agrees c =
     let room = tree_bound key ws m.outs.items v t m.agrees c.requires.may.inside in
     let low = tree_low key ws m.outs.items v t m.agrees c.requires.may.inside in
     let here = ap free_in is in
-    stepped key ws m.outs.items v _ (reserve c.args.tree c.args.seen) c.number_of.result c.tree-left.result m.agrees c.requires.share c.requires.may is (sym c.tree-left.ensures.word)
-    (viewed key m.outs.items _ _ _ _ _ _ _ _ _ _ _ _ (ap (counted t) (sym c.tree_free.ensures.value) ∙ sym c.amount_of-self.ensures) refl refl refl refl (sym c.saturating_add-self.ensures)) (sym (c.number_of.ensures.number m.sealed))
+    stepped key ws m.outs.items v _ (reserve c.args.tree c.args.seen) c.number_of.result c.tree-left.result m.agrees
+    c.requires.share c.requires.may is (sym c.tree-left.ensures.word)
+    (viewed key m.outs.items _ _ _ _ _ _ _ _ _ _ _ _
+    (ap (counted t) (sym c.tree_free.ensures.value) ∙ sym c.amount_of-self.ensures) refl refl refl refl
+    (sym c.saturating_add-self.ensures)) (sym (c.number_of.ensures.number m.sealed))
 
 pub returns-clause-read : goal.returns-clause-read
-returns-clause-read c = λ i n. reads_but c.args.self.now.words.items c.number_of.result c.tree-left.result i (λ e. n (e ∙ c.number_of.ensures.number c.args.self.now.sealed))
+returns-clause-read c =
+    λ i n. reads_but c.args.self.now.words.items c.number_of.result c.tree-left.result i
+    (λ e. n (e ∙ c.number_of.ensures.number c.args.self.now.sealed))
 
 pub returns-clause-words : goal.returns-clause-words
 returns-clause-words c =
@@ -35,4 +40,4 @@ returns-clause-words c =
     let room = tree_bound key ws m.outs.items v t m.agrees c.requires.may.inside in
     let low = tree_low key ws m.outs.items v t m.agrees c.requires.may.inside in
     let here = ap free_in is in
-    λ u q. (refl, written ws _ _ _ _ (c.number_of.ensures.number m.sealed) (sym (sym c.tree-left.ensures.word)))
+    λ u. (is, written ws _ _ _ _ (c.number_of.ensures.number m.sealed) (sym (sym c.tree-left.ensures.word)))

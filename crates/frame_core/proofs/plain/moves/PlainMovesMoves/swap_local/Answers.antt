@@ -27,11 +27,16 @@ invariant_of-self-clause-agrees c =
     let k = c.args.core in
     let found = get_or ws (local_place key k) 0 in
     let is : rest_in found ≡ c.local_of-found.result = ap rest_in (c.plain_word.ensures.value m.sealed) ∙ sym c.local_of-found.ensures in
-    stepped key ws m.outs.items v _ (swap_local c.args.core c.args.put) c.number_of.result c.local.result m.agrees c.requires.share c.requires.may tt (sym c.local.ensures.word)
-    (viewed key m.outs.items _ _ _ _ _ _ _ _ _ _ _ _ (ap rest_amount is ∙ sym c.amount_in-self.ensures) refl (ap rest_tree is ∙ sym c.tree_in-self.ensures) refl refl (sym c.saturating_add-self.ensures)) (sym (c.number_of.ensures.number m.sealed))
+    stepped key ws m.outs.items v _ (swap_local c.args.core c.args.put) c.number_of.result c.local.result m.agrees
+    c.requires.share c.requires.may tt (sym c.local.ensures.word)
+    (viewed key m.outs.items _ _ _ _ _ _ _ _ _ _ _ _ (ap rest_amount is ∙ sym c.amount_in-self.ensures) refl
+    (ap rest_tree is ∙ sym c.tree_in-self.ensures) refl refl (sym c.saturating_add-self.ensures))
+    (sym (c.number_of.ensures.number m.sealed))
 
 pub returns-clause-read : goal.returns-clause-read
-returns-clause-read c = λ i n. reads_but c.args.self.now.words.items c.number_of.result c.local.result i (λ e. n (e ∙ c.number_of.ensures.number c.args.self.now.sealed))
+returns-clause-read c =
+    λ i n. reads_but c.args.self.now.words.items c.number_of.result c.local.result i
+    (λ e. n (e ∙ c.number_of.ensures.number c.args.self.now.sealed))
 
 pub returns-clause-left : goal.returns-clause-left
 returns-clause-left c =
@@ -52,8 +57,13 @@ returns-clause-view c =
     let v = plain_view key m.outs.items m.paid m.charged m.reserving m.own.items m.filled.items m.moves in
     let k = c.args.core in
     let found = get_or ws (local_place key k) 0 in
-    let is : rest_in found ≡ c.local_of-found.result = ap rest_in (c.plain_word.ensures.value m.sealed) ∙ sym c.local_of-found.ensures in
-    (found, is, sym (viewed key m.outs.items _ _ _ _ _ _ _ _ _ _ _ _ (ap rest_amount is ∙ sym c.amount_in-self.ensures) refl (ap rest_tree is ∙ sym c.tree_in-self.ensures) refl refl (sym c.saturating_add-self.ensures)))
+    let is : rest_in found ≡ c.local_of-found.result = ap rest_in (c.plain_word.ensures.value m.sealed) ∙ sym c.local_of-found.ensures in (
+      found,
+      is,
+      sym (viewed key m.outs.items _ _ _ _ _ _ _ _ _ _ _ _
+          (ap rest_amount is ∙ sym c.amount_in-self.ensures) refl (ap rest_tree is ∙ sym c.tree_in-self.ensures) refl
+          refl (sym c.saturating_add-self.ensures)),
+    )
 
 pub returns-clause-is_rest : goal.returns-clause-is_rest
 returns-clause-is_rest c =

@@ -31,11 +31,17 @@ invariant_of-self-clause-agrees c =
     let is = got ws (entry_place k) c.args.seen c.requires.seen in
     let few = few_own key ws m.outs.items v m.agrees c.requires.share in
     let b = c.huge_block.ensures in
-    stepped key ws m.outs.items v _ (take_huge c.args.child c.args.seen) c.number_of.result c.with_lane.result m.agrees c.requires.share c.requires.may is (ap (lane_put c.args.seen k) (sym c.entry-left.ensures.word) ∙ sym c.with_lane.ensures.word)
-    (viewed key m.outs.items _ _ _ _ _ _ _ _ _ _ _ _ (sym c.with_less-self.ensures) refl refl (ap (λ (x : FrameBlock). x ∷ m.own.items) (sym b) ∙ sym c.push_front_reserved.ensures.items) refl (sym c.saturating_add-self.ensures)) (sym (c.number_of.ensures.number m.sealed))
+    stepped key ws m.outs.items v _ (take_huge c.args.child c.args.seen) c.number_of.result c.with_lane.result
+    m.agrees c.requires.share c.requires.may is
+    (ap (lane_put c.args.seen k) (sym c.entry-left.ensures.word) ∙ sym c.with_lane.ensures.word)
+    (viewed key m.outs.items _ _ _ _ _ _ _ _ _ _ _ _ (sym c.with_less-self.ensures) refl refl
+    (ap (λ (x : FrameBlock). x ∷ m.own.items) (sym b) ∙ sym c.push_front_reserved.ensures.items) refl
+    (sym c.saturating_add-self.ensures)) (sym (c.number_of.ensures.number m.sealed))
 
 pub returns-clause-read : goal.returns-clause-read
-returns-clause-read c = λ i n. reads_but c.args.self.now.words.items c.number_of.result c.with_lane.result i (λ e. n (e ∙ c.number_of.ensures.number c.args.self.now.sealed))
+returns-clause-read c =
+    λ i n. reads_but c.args.self.now.words.items c.number_of.result c.with_lane.result i
+    (λ e. n (e ∙ c.number_of.ensures.number c.args.self.now.sealed))
 
 pub returns-clause-words : goal.returns-clause-words
 returns-clause-words c =
@@ -47,4 +53,4 @@ returns-clause-words c =
     let is = got ws (entry_place k) c.args.seen c.requires.seen in
     let few = few_own key ws m.outs.items v m.agrees c.requires.share in
     let b = c.huge_block.ensures in
-    λ u q. (refl, written ws _ _ _ _ (c.number_of.ensures.number m.sealed) (sym (ap (lane_put c.args.seen k) (sym c.entry-left.ensures.word) ∙ sym c.with_lane.ensures.word)))
+    λ u. (is, written ws _ _ _ _ (c.number_of.ensures.number m.sealed) (sym (ap (lane_put c.args.seen k) (sym c.entry-left.ensures.word) ∙ sym c.with_lane.ensures.word)))

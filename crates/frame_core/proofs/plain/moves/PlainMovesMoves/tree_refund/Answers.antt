@@ -29,11 +29,16 @@ invariant_of-self-clause-agrees c =
     let is : found ≡ c.plain_word-found.result = c.plain_word-found.ensures.value m.sealed in
     let room = tree_bound key ws m.outs.items v t m.agrees c.requires.may.inside in
     let low = tree_low key ws m.outs.items v t m.agrees c.requires.may.inside in
-    stepped key ws m.outs.items v _ (tree_refund c.args.tree c.args.n) c.number_of.result (c.plain_word-found.result + c.from.result) m.agrees c.requires.share c.requires.may tt (omega (arith, is, low, c.from.ensures, c.ranges.n.fits))
-    (viewed key m.outs.items _ _ _ _ _ _ _ _ _ _ _ _ (sym c.with_less-self.ensures) refl refl refl refl (sym c.saturating_add-self.ensures)) (sym (c.number_of.ensures.number m.sealed))
+    stepped key ws m.outs.items v _ (tree_refund c.args.tree c.args.n) c.number_of.result
+    (c.plain_word-found.result + c.from.result) m.agrees c.requires.share c.requires.may tt
+    (omega (arith, is, low, c.from.ensures, c.ranges.n.fits))
+    (viewed key m.outs.items _ _ _ _ _ _ _ _ _ _ _ _ (sym c.with_less-self.ensures) refl refl refl refl
+    (sym c.saturating_add-self.ensures)) (sym (c.number_of.ensures.number m.sealed))
 
 pub returns-clause-read : goal.returns-clause-read
-returns-clause-read c = λ i n. reads_but c.args.self.now.words.items c.number_of.result (c.plain_word-found.result + c.from.result) i (λ e. n (e ∙ c.number_of.ensures.number c.args.self.now.sealed))
+returns-clause-read c =
+    λ i n. reads_but c.args.self.now.words.items c.number_of.result (c.plain_word-found.result + c.from.result) i
+    (λ e. n (e ∙ c.number_of.ensures.number c.args.self.now.sealed))
 
 pub returns-clause-words : goal.returns-clause-words
 returns-clause-words c =

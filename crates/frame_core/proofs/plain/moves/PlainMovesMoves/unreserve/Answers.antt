@@ -44,11 +44,16 @@ invariant_of-self-clause-agrees c =
     let room = tree_bound key ws m.outs.items v t m.agrees c.requires.may.inside in
     let low = tree_low key ws m.outs.items v t m.agrees c.requires.may.inside in
     let flag = flagged key ws m.outs.items v t m.agrees c.requires.may.inside c.requires.may.reserving in
-    stepped key ws m.outs.items v _ (unreserve c.args.tree c.args.n) c.number_of.result (c.plain_word-found.result - (32768 - c.from.result)) m.agrees c.requires.share c.requires.may tt (omega (arith, is, low, flag, c.from.ensures, room, c.requires.may.paid))
-    (viewed key m.outs.items _ _ _ _ _ _ _ _ _ _ _ _ (sym c.with_less-self.ensures) refl refl refl refl (sym c.saturating_add-self.ensures)) (sym (c.number_of.ensures.number m.sealed))
+    stepped key ws m.outs.items v _ (unreserve c.args.tree c.args.n) c.number_of.result
+    (c.plain_word-found.result - (32768 - c.from.result)) m.agrees c.requires.share c.requires.may tt
+    (omega (arith, is, low, flag, c.from.ensures, room, c.requires.may.paid))
+    (viewed key m.outs.items _ _ _ _ _ _ _ _ _ _ _ _ (sym c.with_less-self.ensures) refl refl refl refl
+    (sym c.saturating_add-self.ensures)) (sym (c.number_of.ensures.number m.sealed))
 
 pub returns-clause-read : goal.returns-clause-read
-returns-clause-read c = λ i n. reads_but c.args.self.now.words.items c.number_of.result (c.plain_word-found.result - (32768 - c.from.result)) i (λ e. n (e ∙ c.number_of.ensures.number c.args.self.now.sealed))
+returns-clause-read c =
+    λ i n. reads_but c.args.self.now.words.items c.number_of.result
+    (c.plain_word-found.result - (32768 - c.from.result)) i (λ e. n (e ∙ c.number_of.ensures.number c.args.self.now.sealed))
 
 pub returns-clause-words : goal.returns-clause-words
 returns-clause-words c =
@@ -62,4 +67,5 @@ returns-clause-words c =
     let room = tree_bound key ws m.outs.items v t m.agrees c.requires.may.inside in
     let low = tree_low key ws m.outs.items v t m.agrees c.requires.may.inside in
     let flag = flagged key ws m.outs.items v t m.agrees c.requires.may.inside c.requires.may.reserving in
-    λ u. written ws _ _ _ _ (c.number_of.ensures.number m.sealed) (sym (omega (arith, is, low, flag, c.from.ensures, room, c.requires.may.paid)))
+    λ u. written ws _ _ _ _ (c.number_of.ensures.number m.sealed)
+    (sym (omega (arith, is, low, flag, c.from.ensures, room, c.requires.may.paid)))

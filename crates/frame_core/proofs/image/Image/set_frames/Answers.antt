@@ -1,0 +1,30 @@
+use Rattle.std.proofs.Common.{◌≡◌, ◌*◌, take, drop, arith, ap, ◌∙◌}
+use Rattle.std.specs.List.{sum_by}
+use Rattle.std.specs.Int.Count.{ones}
+use Rattle.frame_core.specs.declared.key.Key.{Key}
+use Rattle.frame_core.specs.Image.{key_in}
+use Rattle.frame_core.specs.Words.{bits_place, set_of}
+use Rattle.frame_core.proofs.Bits.{ones-le}
+use Rattle.frame_core.proofs.Sets.{set_more}
+use Rattle.frame_core.proofs.image.Image.set_frames.Goals as goal
+
+pub loop-word-preserved : goal.loop-word-preserved
+loop-word-preserved c =
+    let inv = c.loop-word.invariant in
+    record {
+      counted = omega (
+        arith,
+        inv.counted,
+        ap ones c.word.ensures,
+        set_more (key_in c.args.self.now) c.args.self.now.words c.args.child c.loop-word.word,
+      );
+      limit = omega (arith, inv.limit, ones-le 64 c.word.result c.word.type_inv);
+    }
+
+pub returns-clause-value : goal.returns-clause-value
+unfolding set_of
+returns-clause-value c =
+    let all : c.loop-word.word ≡ 8 = omega (arith, c.loop-word-test.false, c.loop-word.auto.word-end) in
+    let key : Key = key_in c.args.self.now in
+    c.loop-word.invariant.counted
+    ∙ ap (λ n. sum_by ones (take n (drop (bits_place key (8 * c.args.child)) c.args.self.now.words))) all

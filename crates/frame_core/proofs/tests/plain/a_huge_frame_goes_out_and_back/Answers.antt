@@ -1,0 +1,48 @@
+use Rattle.std.proofs.Common.{rules, ◌≤◌, ◌∷◌, List, Option, ap, sym, subst, ◌∙◌, arith}
+use Rattle.frame_core.specs.declared.view.Amount.{Amount}
+use Rattle.frame_core.specs.declared.view.View.{View}
+use Rattle.frame_core.specs.declared.block.FrameBlock.{FrameBlock}
+use Rattle.frame_core.specs.Block.{block}
+use Rattle.frame_core.specs.View.{count_in}
+use Rattle.frame_core.specs.Steps.{after_load}
+use Rattle.frame_core.specs.Steps.Amounts.{more, less}
+use Rattle.frame_core.specs.Plain.{plain_tick}
+use Rattle.frame_core.proofs.ByHand.{made, whole, may_pay, may_take_huge, none_again}
+use Rattle.frame_core.proofs.tests.plain.a_huge_frame_goes_out_and_back.Goals as goal
+
+pub tree_pay-requires-clause-may : goal.tree_pay-requires-clause-may
+tree_pay-requires-clause-may g c =
+    let m = c.load-tree.new.self in
+    let idle = c.load-tree.ensures.view ∙ ap (after_load plain_tick) c.in_ok-m.ensures.idle in
+    may_pay _ _ c.load-tree.result 512 m.geometry.some_children (ap (λ (v : View). v.paid) idle)
+    (search rules) (omega arith)
+
+pub take_huge-requires-clause-may : goal.take_huge-requires-clause-may
+take_huge-requires-clause-may g c =
+    let m = c.load-entry.new.self in
+    let idle = c.load-tree.ensures.view ∙ ap (after_load plain_tick) c.in_ok-m.ensures.idle in
+    let paid = made c.tree_pay.result _ _ (search rules) c.tree_pay.ensures.view in
+    let now = c.load-entry.ensures.view ∙ ap (after_load plain_tick) paid in
+    may_take_huge _ _ c.load-entry.result m.geometry.some_children
+    (subst (λ (a : Option Amount). 512 ≤ count_in 0 a) (sym (ap (λ (v : View). v.paid) now))
+    (whole _ (ap (λ (v : View). v.paid) idle)))
+    (ap (λ (v : View). v.charged) now ∙ ap (λ (v : View). v.charged) idle)
+    (ap (λ (v : View). v.own) now ∙ ap (λ (v : View). v.own) idle) (search rules)
+
+pub give_back-requires-clause-own : goal.give_back-requires-clause-own
+give_back-requires-clause-own g c =
+    let idle = c.load-tree.ensures.view ∙ ap (after_load plain_tick) c.in_ok-m.ensures.idle in
+    let paid = made c.tree_pay.result _ _ (search rules) c.tree_pay.ensures.view in
+    let now = c.load-entry.ensures.view ∙ ap (after_load plain_tick) paid in
+    let taken = made c.take_huge.result _ _ (search rules) c.take_huge.ensures.view in
+    let none = ap (λ (v : View). v.own) now ∙ ap (λ (v : View). v.own) idle in
+    ap (λ (v : View). v.own) taken ∙ ap (λ (l : List FrameBlock). block 0 9 ∷ l) none
+
+pub give_back-requires-clause-paid : goal.give_back-requires-clause-paid
+give_back-requires-clause-paid g c =
+    let idle = c.load-tree.ensures.view ∙ ap (after_load plain_tick) c.in_ok-m.ensures.idle in
+    let paid = made c.tree_pay.result _ _ (search rules) c.tree_pay.ensures.view in
+    let now = c.load-entry.ensures.view ∙ ap (after_load plain_tick) paid in
+    let taken = made c.take_huge.result _ _ (search rules) c.take_huge.ensures.view in
+    let all = ap (λ (v : View). v.paid) now ∙ ap (λ (v : View). more 0 512 v.paid) idle in
+    ap (λ (v : View). v.paid) taken ∙ ap (less 0 512) all ∙ none_again 512
