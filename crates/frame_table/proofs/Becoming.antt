@@ -7,6 +7,7 @@ use Rattle.atomic_table.specs.Seated.{TableId}
 use Rattle.frame_core.specs.declared.key.Key.{Key}
 use Rattle.frame_core.specs.declared.view.Eye.{Eye}
 use Rattle.frame_core.specs.declared.view.View.{View}
+use Rattle.frame_core.specs.View.{IsViewOf}
 use Rattle.frame_core.specs.Steps.{Kind, effect, after_load, after_loss, next}
 use Rattle.frame_core.specs.Events.{sighting, last_seen}
 use Rattle.frame_core.specs.Moves.{ReadsBut}
@@ -32,6 +33,7 @@ module _ (id : TableId) (key : Key) (seat after : TableId) (old new : Me (Unit {
           table = same ∙ is.table;
           bare = b.1 ∙ is.bare;
           about = ap (λ (u : View). u.about) view_is ∙ (about ∙ is.about);
+          is_view = ∣ subst (IsViewOf key) (sym view_is) (b.2 key is.about) ∣₁;
           laid = subst (AreLaid key) (sym read_is) laid;
         };
         view = view_is;

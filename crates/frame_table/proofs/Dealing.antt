@@ -7,7 +7,7 @@ use Rattle.frame_core.specs.declared.key.Key.{Key}
 use Rattle.frame_core.specs.declared.view.Eye.{Eye}
 use Rattle.frame_core.specs.declared.view.View.{View}
 use Rattle.frame_core.specs.Image.{Contents}
-use Rattle.frame_core.specs.View.{idle}
+use Rattle.frame_core.specs.View.{idle, IsViewOf}
 use Rattle.frame_core.specs.Fit.{Fit}
 use Rattle.frame_core.specs.Steps.{next}
 use Rattle.frame_core.specs.Seats.{part_share, left_by}
@@ -32,8 +32,8 @@ laid_none key = record {
 }
 
 -- a seat that has read nothing
-pub fresh_seat : (id : TableId) (key : Key) (seat : TableId) (me : Me (Unit {0}) Eye) (v : View) → seat ≡ id → me ≡ (eye v [], []) → v.about ≡ Some key → IsSeat id key seat me
-fresh_seat id key seat me v at is about = subst (IsSeat id key seat) (sym is) (record { table = at; bare = refl; about = about; laid = laid_none key })
+pub fresh_seat : (id : TableId) (key : Key) (seat : TableId) (me : Me (Unit {0}) Eye) (v : View) → seat ≡ id → me ≡ (eye v [], []) → v.about ≡ Some key → ∥ IsViewOf key v ∥₁ → IsSeat id key seat me
+fresh_seat id key seat me v at is about view = subst (IsSeat id key seat) (sym is) (record { table = at; bare = refl; about = about; is_view = view; laid = laid_none key })
 
 -- the first seat, from which a share was cut off
 pub dealt : (key : Key) (m s r : ℕ) (v w : View) → v ≡ moved m (idle key s) → w ≡ left_by next (part_share 1) v → s - 1 ≡ r → w ≡ moved w.moves (idle key r)

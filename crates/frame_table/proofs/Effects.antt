@@ -1,9 +1,10 @@
--- What every kind of step leaves of its seat, and that its word is one of the table's.
+-- What every kind of step, cut and join leaves of its seat, and that a step's word is one of the table's.
 use Rattle.std.proofs.Common.{◌≡◌, ℕ, ◌*◌, ◌<◌, refl, arith}
 use Rattle.frame_core.specs.declared.key.Key.{Key}
 use Rattle.frame_core.specs.declared.view.View.{View}
 use Rattle.frame_core.specs.Words.{word_count, bits_place}
 use Rattle.frame_core.specs.Steps.{Kind, charge, refund, claim, release, take_huge, give_huge, tree_pay, tree_refund, reserve, swap_local, unreserve, local_pay, local_refund, collect, fill_word, drop_flag, place, May, effect}
+use Rattle.frame_core.specs.Seats.{Cut, part_share, hand_out, recall, part_ground, adopt, Join, join_idle, hand_in, keep_in, left_by, right_by, joined_by}
 use Rattle.frame_core.proofs.ImageLemmas.{entry_place-lt, tree_place-lt, local_place-lt}
 
 bits_place-lt : (key : Key) (w : ℕ) → w < 8 * key.children → bits_place key w < word_count key
@@ -45,6 +46,25 @@ effect_share t (local_refund k seen n) found v = refl
 effect_share t (collect u seen) found v = refl
 effect_share t (fill_word w) found v = refl
 effect_share t (drop_flag c rest) found v = refl
+
+pub left_about : (t : ℕ → ℕ) (cut : Cut) (v : View) → (left_by t cut v).about ≡ v.about
+left_about t (part_share n) v = refl
+left_about t (hand_out b rest) v = refl
+left_about t (recall b rest) v = refl
+left_about t part_ground v = refl
+left_about t (adopt b rest) v = refl
+
+pub right_about : (cut : Cut) (v : View) → (right_by cut v).about ≡ v.about
+right_about (part_share n) v = refl
+right_about (hand_out b rest) v = refl
+right_about (recall b rest) v = refl
+right_about part_ground v = refl
+right_about (adopt b rest) v = refl
+
+pub both_about : (t : ℕ → ℕ) (join : Join) (v u : View) → (joined_by t join v u).about ≡ v.about
+both_about t join_idle v u = refl
+both_about t hand_in v u = refl
+both_about t keep_in v u = refl
 
 pub place_inside : (key : Key) (kind : Kind) (v : View) → May key kind v → place key kind < word_count key
 place_inside key (charge c seen n) v may = entry_place-lt key c may.inside

@@ -5,8 +5,7 @@ use Rattle.std.proofs.lemmas.Int.{ints}
 use Rattle.std.proofs.lemmas.List.Sums.{sum_by-append}
 use mathlib.Core.Option.{some, some-injective, some-ne-none}
 use lib.ListN.{get_elem?}
-use Rattle.atomic_table.specs.Table.{Final, Seen, Me}
-use Rattle.atomic_table.specs.Seated.{TableId}
+use Rattle.atomic_table.specs.Table.{Final, Seen}
 use Rattle.atomic_table.proofs.Lists.{at_map}
 use Rattle.frame_core.specs.declared.block.FrameBlock.{FrameBlock}
 use Rattle.frame_core.specs.declared.key.Key.{Key}
@@ -20,8 +19,8 @@ use Rattle.frame_core.specs.Seats.{join_idle, joined_by}
 use Rattle.frame_core.proofs.Steps.Shared.{at-le-total}
 use Rattle.frame_table.specs.declared.rule.Origin.{Origin}
 use Rattle.frame_table.specs.declared.seats.CoreSeat.{CoreSeat}
-use Rattle.frame_table.specs.Rule.{key_from, view_in, Holds, both_eyes}
-use Rattle.frame_table.specs.Seats.{IsSeat, view_of}
+use Rattle.frame_table.specs.Rule.{key_from, view_in, Holds}
+use Rattle.frame_table.specs.Seats.{view_of}
 use Rattle.frame_table.specs.Closing.{lent_by, IsGathered, IsClosed}
 
 module _ {A : Type 0} where
@@ -107,10 +106,6 @@ gathered_all all others v g e = record {
   smalls = λ x. omega (arith, g.smalls x, ap (sum_by (λ s. smalls x (view_of s).kept)) e);
   wholes = λ c. omega (arith, g.wholes c, ap (sum_by (λ s. wholes c (view_of s).kept)) e);
 }
-
--- the seat that took another in
-pub joined_seat : (id : TableId) (key : Key) (seat after : TableId) (me new : Me (Unit {0}) Eye) (e : Eye) → IsSeat id key seat me → after ≡ id → new ≡ (both_eyes join_idle me.0 e, []) → IsSeat id key after new
-joined_seat id key seat after me new e s at is = subst (IsSeat id key after) (sym is) (record { table = at; bare = refl; about = s.about; laid = s.laid })
 
 -- what a closed table was
 pub closed_as : (o : Origin) (id : ℕ) (e : Eye) (words : List ℕ) (slots : List (Unit {0})) (seats : List CoreSeat) → Final (Seen (Holds o) id e) words slots → IsGathered seats e.view → (key_from o).cores ≤ length seats → IsClosed (key_from o) seats words

@@ -1,5 +1,5 @@
 -- What a seat has read: each word counts no more than its places can have.
-use Rattle.std.proofs.Common.{◌≡◌, ◌≢◌, ℕ, ◌<◌, ◌≤◌, arith, List, ◌∷◌, Option, None, Some, get_or, sym, refl, subst}
+use Rattle.std.proofs.Common.{◌≡◌, ◌≢◌, ℕ, ◌+◌, ◌*◌, ◌^◌, ◌<◌, ◌≤◌, arith, List, ◌∷◌, Option, None, Some, get_or, sym, refl, subst}
 use Rattle.std.specs.Prelude.{if◌then◌else◌}
 use Rattle.std.proofs.Common.{eq-eqb, ne_eqb}
 use mathlib.Core.Logic.{dite}
@@ -64,3 +64,29 @@ number_at key g s (Entry c) h n e = (omega (arith, e), omega (arith, e, h))
 number_at key g s (Bits w) h n e = (omega (arith, e, s.0, s.1), omega (arith, e, s.0, s.1, h))
 number_at key g s (Tree t) h n e = (omega (arith, e, s.0, s.1), omega (arith, e, s.0, s.1, h))
 number_at key g s (Local k) h n e = (omega (arith, e, s.0, s.1), omega (arith, e, s.0, s.1, h))
+
+-- the tree words and the bit words stand in a row each
+pub tree_from : (key : Key) (first tree : ℕ) → first ≡ tree_place key 0 → tree < tree_count key
+    → (first + tree ≡ tree_place key tree) × (first + tree < word_count key)
+unfolding tree_place word_count
+tree_from key first tree e h = (omega (arith, e), omega (arith, e, h))
+
+pub bits_from : (key : Key) (first word : ℕ) → first ≡ bits_place key 0 → word < 8 * key.children
+    → (first + word ≡ bits_place key word) × (first + word < word_count key)
+unfolding bits_place word_count
+bits_from key first word e h = (omega (arith, e), omega (arith, e, h))
+
+-- a table has few words
+pub few_words : (key : Key) (g : Geometry) → HasSizes key g → word_count key < 2 ^ 32
+unfolding word_count
+few_words key g s = omega (arith, s.0, s.1, g.few_children, g.few_cores)
+
+pub first_tree_at : (key : Key) (g : Geometry) → HasSizes key g → (n : ℕ) → n ≡ tree_place (key_of g) 0
+    → n ≡ tree_place key 0
+unfolding tree_place
+first_tree_at key g s n e = omega (arith, e, s.0)
+
+pub first_bits_at : (key : Key) (g : Geometry) → HasSizes key g → (n : ℕ) → n ≡ bits_place (key_of g) 0
+    → n ≡ bits_place key 0
+unfolding bits_place
+first_bits_at key g s n e = omega (arith, e, s.0, s.1)

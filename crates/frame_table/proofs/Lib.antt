@@ -4,7 +4,9 @@ pub mod Lifting
 pub mod Becoming
 pub mod Numbers
 pub mod RunEnds
+pub mod Clearing
 pub mod Handing
 pub mod Dealing
+pub mod Parting
 pub mod Gathering
 pub mod Imaged

@@ -1,5 +1,5 @@
 -- What an opening gives.
-use Rattle.std.specs.Prelude.{List, ◌≡◌, ℕ, ◌≤◌, false, true}
+use Rattle.std.specs.Prelude.{◌≡◌, ℕ, ◌≤◌, false, true}
 use Rattle.frame_words.specs.declared.geometry.Geometry.{Geometry}
 use Rattle.frame_core.specs.declared.block.FrameBlock.{FrameBlock}
 use Rattle.frame_core.specs.declared.key.Key.{Key}
@@ -16,10 +16,6 @@ use Rattle.frame_table.specs.declared.table.FrameTable.{FrameTable}
 -- the key of a memory that was in use before its opening
 abbrev pub unsealed_key : Geometry → Key
 unsealed_key geometry = record (key_of geometry) { sealed = false }
-
--- the key of a memory whose opening holds back these ranges
-abbrev pub sealed_key : Geometry → List (ℕ × ℕ) → Key
-sealed_key geometry ranges = record (key_of geometry) { ranges = ranges }
 
 -- the view after so many moves
 abbrev pub moved : ℕ → View → View

@@ -1,14 +1,16 @@
 -- The rule of the shared table, and what each atomic operation tells of the seat that steps.
-use Rattle.std.specs.Prelude.{◌≡◌, ℕ, ◌==◌, [], ◌∷◌, Some, None, MatchBool, map, if◌then◌else◌}
+use Rattle.std.specs.Prelude.{◌≡◌, ℕ, ◌==◌, List, [], ◌∷◌, Some, None, MatchBool, map, slice_index, if◌then◌else◌}
+use mathlib.Core.Option.{some}
+use lib.ListN.{get_elem?}
 use Rattle.atomic_table.specs.Table.{State, Me, Step}
 use Rattle.frame_core.specs.declared.key.Key.{Key}
 use Rattle.frame_core.specs.declared.place.Place.{Place}
 use Rattle.frame_core.specs.declared.view.Eye.{Eye}
 use Rattle.frame_core.specs.declared.view.Sighting.{Sighting}
 use Rattle.frame_core.specs.declared.view.View.{View}
-use Rattle.frame_core.specs.View.{spent, idle}
+use Rattle.frame_core.specs.View.{spent, idle, IsViewOf}
 use Rattle.frame_core.specs.Fit.{Fit}
-use Rattle.frame_core.specs.Steps.{Kind, effect, after_load, after_loss, next}
+use Rattle.frame_core.specs.Steps.{Kind, place, effect, after_load, after_loss, next}
 use Rattle.frame_core.specs.Seats.{Cut, Join, left_by, right_by, joined_by}
 use Rattle.frame_core.specs.Events.{eye, sighting}
 use Rattle.frame_core.specs.Moves.{place_of, IsPlace, HasLayout}
@@ -51,9 +53,20 @@ IsFoundIn key word found = (place : Place) → IsPlace key place → place_of ke
 abbrev pub Finds : View → ℕ → ℕ → Type 0
 Finds v word found = (key : Key) → v.about ≡ Some key → IsFoundIn key word found
 
--- the seat afterwards has this view, and has read one word more
+-- a seat with this view may find the word there: one of words and views that fit
+abbrev pub MayFind : Key → Kind → View → ℕ → Type 0
+MayFind key kind v found =
+    (words : List ℕ) × ((views : List View) × ((id : ℕ) × (Fit key key.cores words views
+    × ((get_elem? views id ≡ some v) × (slice_index words (place key kind) ≡ found)))))
+
+-- the second is a view of the memory that the first names
+abbrev pub IsOfOneMemory : View → View → Type 0
+IsOfOneMemory v u = (key : Key) → v.about ≡ Some key → IsViewOf key u
+
+-- the seat afterwards has this view, which is one of its memory, and has read one word more
 abbrev pub Becomes : Me (Unit {0}) Eye → Sighting → View → Me (Unit {0}) Eye → Type 0
-Becomes v read view w = (w.0 ≡ eye view (read ∷ v.0.read)) × (w.1 ≡ v.1)
+Becomes v read view w =
+    (w.0 ≡ eye view (read ∷ v.0.read)) × (w.1 ≡ v.1) × IsOfOneMemory v.0.view view
 
 -- a load: the seat has read what it found, and its view is that after a load
 abbrev pub Looks : Step (Unit {0}) → Me (Unit {0}) Eye → ℕ → Me (Unit {0}) Eye → Type 0

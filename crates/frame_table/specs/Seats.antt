@@ -1,5 +1,6 @@
 -- What clauses say of seats.
 use Rattle.std.specs.Prelude.{◌≡◌, ℕ, ◌<◌, ◌≤◌, List, [], Option, Some}
+use Rattle.std.specs.List.{All}
 use Rattle.atomic_table.specs.Table.{Me}
 use Rattle.atomic_table.specs.Seated.{TableId}
 use Rattle.frame_core.specs.declared.key.Key.{Key}
@@ -7,6 +8,7 @@ use Rattle.frame_core.specs.declared.view.Eye.{Eye}
 use Rattle.frame_core.specs.declared.view.Sighting.{Sighting}
 use Rattle.frame_core.specs.declared.view.View.{View}
 use Rattle.frame_core.specs.Block.{block, IsBlock}
+use Rattle.frame_core.specs.View.{IsViewOf}
 use Rattle.frame_core.specs.declared.block.FrameBlock.{FrameBlock}
 use Rattle.frame_core.specs.Seats.{Cut, recall}
 use Rattle.frame_core.specs.Without.{less_one}
@@ -44,11 +46,16 @@ pub record AreLaid (key : Key) (read : List Sighting) : Type 0 where
   pub locals : (k seen tree resting : ℕ) → k < key.cores → last_seen read (local_place key k) ≡ Some seen
       → rest_in seen ≡ Some (tree, resting) → (tree < tree_count key) × (resting ≤ 4096)
 
--- a seat of a table, with this view and these readings
+-- the blocks that the view has, in flight or kept, are those of the memory
+abbrev pub HasBlocksOf : Key → View → Type 0
+HasBlocksOf key v = All (IsBlock key) v.own × All (IsBlock key) v.kept
+
+-- a seat of a table, whose view is one of the memory
 pub record IsSeat (id : TableId) (key : Key) (seat : TableId) (me : Me (Unit {0}) Eye) : Type 0 where
   pub table : seat ≡ id
   pub bare : me.1 ≡ []
   pub about : me.0.view.about ≡ Some key
+  pub is_view : ∥ IsViewOf key me.0.view ∥₁
   pub laid : AreLaid key me.0.read
 
 -- the seat of a core at this table

@@ -1,8 +1,13 @@
--- What ties a mover to its seat and its table, and the laws of its counts.
-use Rattle.std.proofs.Common.{◌≡◌, ℕ, ◌+◌, ◌^◌, ◌<◌, ◌≤◌, List, arith, refl}
+-- What ties a mover to its seat and its table, and its laws.
+use Rattle.std.proofs.Common.{◌≡◌, ℕ, ◌+◌, ◌^◌, ◌<◌, ◌≤◌, List, [], arith, refl}
 use Rattle.std.specs.Prelude.{Option, None, Some}
 use Rattle.atomic_table.specs.Seated.{TableId}
+use Rattle.frame_core.specs.Key.{AreSizes}
 use Rattle.frame_core.specs.Steps.{next}
+use Rattle.frame_core.specs.Movers.{sizes_of, fills_none}
+use Rattle.frame_table.specs.Seats.{key_at, view_of, Sits}
+use Rattle.frame_table.specs.declared.seats.CoreSeat.{CoreSeat}
+use Rattle.frame_table.specs.declared.table.FrameTable.{FrameTable}
 
 -- the name of the seat that steps, and the table
 abbrev pub Tied : Type 0
@@ -17,3 +22,12 @@ next_most n = omega arith
 
 pub next_up : (n : ℕ) → n < 2 ^ 63 → next n ≡ n + 1
 next_up n h = refl
+
+-- the sizes of a table are those of its geometry
+pub table_sizes : (t : FrameTable) → AreSizes (key_at t)
+table_sizes t = sizes_of (key_at t) t.geometry t.sizes
+
+-- with no block in flight the seat of a core has filled no word
+pub seat_fills : (t : FrameTable) (s : CoreSeat) → Sits t s
+    → (view_of s).own ≡ [] → (view_of s).filled ≡ []
+seat_fills t s sits own = fills_none (key_at t) (view_of s) sits.at.is_view own

@@ -55,7 +55,7 @@ pub fn close_table(
         });
     };
     let all = gather(&table, seats);
-    let FrameTable { grid, geometry } = table;
+    let FrameTable { grid, geometry, .. } = table;
     let words = read_words(grid.close_with(all), words);
     Ok(Image::of_words(&geometry, words))
 }

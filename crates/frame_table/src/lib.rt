@@ -15,7 +15,7 @@ mod words;
 
 pub use block::Block;
 pub use closing::{TableFault, close_table};
-pub use opening::{GroundSeat, open_sealed, open_table, open_table_at};
+pub use opening::{GroundSeat, open_sealed, open_table, open_table_at, open_table_with};
 pub use seats::CoreSeat;
 pub use shared::SharedMoves;
 pub use table::FrameTable;

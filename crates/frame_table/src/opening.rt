@@ -1,10 +1,9 @@
 //! Opening a table, and what was held before.
 
-ghost use Rattle.std.specs.Prelude.{◌≡◌, ◌+◌, ◌-◌, ◌*◌, ◌^◌, ◌<◌, ◌≤◌, [], ◌∷◌, ℕ, Some, true, IfOk, IfErr, vec_len, vec_capacity};
+ghost use Rattle.std.specs.Prelude.{◌≡◌, ◌+◌, ◌-◌, ◌^◌, ◌<◌, ◌≤◌, [], ◌∷◌, ℕ, Some, true, IfOk, IfErr, length, vec_len, vec_capacity};
 ghost use Rattle.std.specs.List.{All};
-ghost use Rattle.frame_words.specs.Geometry.{child_frames};
 ghost use Rattle.frame_core.specs.Block.{block, IsBlock};
-ghost use Rattle.frame_core.specs.Key.{key_of};
+ghost use Rattle.frame_core.specs.Key.{key_of, sealed_key, most_ranges, AreRanges};
 ghost use Rattle.frame_core.specs.View.{idle, ground_with};
 ghost use Rattle.frame_core.specs.Fit.{Fit};
 ghost use Rattle.frame_core.specs.Steps.{next};
@@ -14,7 +13,7 @@ ghost use Rattle.frame_core.specs.Openings.{held_blocks, IsSealedOpening};
 ghost use Rattle.frame_core.specs.Without.{HasFrames};
 ghost use Rattle.frame_table.specs.Rule.{key_from, first_view};
 ghost use Rattle.frame_table.specs.Seats.{key_at, id_of, view_of, block_in, Sits, IsSeat, IsOut};
-ghost use Rattle.frame_table.specs.Openings.{unsealed_key, sealed_key, moved, IsNew, ground_view, IsGround, adopt_block};
+ghost use Rattle.frame_table.specs.Openings.{unsealed_key, moved, IsNew, ground_view, IsGround, adopt_block};
 
 use crate::block::Block;
 use crate::rule::Origin;
@@ -114,17 +113,33 @@ pub fn open_sealed(
     Ok((table, seats))
 }
 
-/// Opens a table of a memory of which no frame is held: one idle seat for each core, in order.
-/// Refused only for want of memory. A memory that ends inside a child cannot be opened so yet.
+/// Opens a table of a memory of which no frame is held but those past the end: one idle seat for
+/// each core, in order. Refused only for want of memory.
 pub fn open_table(alloc: Global, geometry: &Geometry) -> Result<(FrameTable, Vec<CoreSeat>), Fault>
-    requires whole { geometry.now.frames ≡ child_frames * geometry.now.children }
     ensures table { IfOk result (λ r. key_at r.0 ≡ key_of geometry.now) }
     ensures count { IfOk result (λ r. vec_len r.1 ≡ geometry.now.cores) }
     ensures seats { IfOk result (λ r. All (IsNew r.0) r.1.items) }
     ensures err { IfErr result (λ e. e ≡ Fault.NoMemory) }
 {
-    let image = Image::new(alloc, geometry)?;
-    open_sealed(alloc, &image, &[])
+    open_table_with(alloc, geometry, &[])
+}
+
+/// The same, and the frames of the ranges are never given out: they are held from the opening on.
+/// A range is its first frame and how many frames it has; they ascend and do not meet.
+pub fn open_table_with(
+    alloc: Global,
+    geometry: &Geometry,
+    ranges: &[(u32, u32)],
+) -> Result<(FrameTable, Vec<CoreSeat>), Fault>
+    requires ranges { AreRanges 0 geometry.now.frames ranges.now }
+    requires few { length ranges.now ≤ most_ranges }
+    ensures table { IfOk result (λ r. key_at r.0 ≡ sealed_key geometry.now ranges.now) }
+    ensures count { IfOk result (λ r. vec_len r.1 ≡ geometry.now.cores) }
+    ensures seats { IfOk result (λ r. All (IsNew r.0) r.1.items) }
+    ensures err { IfErr result (λ e. e ≡ Fault.NoMemory) }
+{
+    let image = Image::with_ranges(alloc, geometry, ranges)?;
+    open_sealed(alloc, &image, ranges)
 }
 
 // The one seat of a table with the image's words.

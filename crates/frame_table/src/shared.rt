@@ -1,6 +1,6 @@
 //! The moves of a core on the shared table, each one atomic step.
 
-ghost use Rattle.std.specs.Prelude.{◌≡◌, ◌^◌, ◌<◌, ℕ, Some, Contains};
+ghost use Rattle.std.specs.Prelude.{◌≡◌, ◌^◌, ◌<◌, ℕ, Some, false, Contains};
 ghost use Rattle.frame_core.specs.Block.{block, IsBlock};
 ghost use Rattle.frame_core.specs.Words.{run, word_count};
 ghost use Rattle.frame_core.specs.View.{holder};
@@ -11,15 +11,13 @@ ghost use Rattle.frame_table.specs.Seats.{key_at, view_of, reads_of, block_in, r
 
 use crate::block::Block;
 use crate::seats::CoreSeat;
-use crate::steps::{
-    About, add_as, and_as, cut_as, exchange_as, join_as, load, or_as, sub_as, swap_as,
-};
+use crate::steps::{About, add_as, cut_as, exchange_as, join_as, load, sub_as, swap_as};
 use crate::table::FrameTable;
 use crate::words::{
     charged, collected, dropped, given_whole, local_paid, local_refunded, refunded, reserved,
     taken_whole, tree_paid, unreserved,
 };
-use frame_core::layout::{bits_place, entry_place, local_place, tree_place};
+use frame_core::layout::{entry_place, local_place};
 use frame_core::{FrameBlock, HeldBlock, Moves, Place};
 use frame_words::{Geometry, local, local_of};
 use std::marker::Brand;
@@ -39,6 +37,7 @@ impl<'a> SharedMoves<'a> {
         requires { Sits table.now seat.old }
         ensures same_reference { result.seat.ghost_name ≡ seat.entry.ghost_name }
         ensures same { (result.seat.now ≡ seat.old) × (result.table.now ≡ table.entry.now) }
+        ensures missed { result.missed ≡ false }
     {
         SharedMoves {
             table,
@@ -58,7 +57,8 @@ impl<'a> SharedMoves<'a> {
             (holder (Some (key_at self.old.table.now)) (block held.frame held.order)) }
         ensures read { reads_of self.new.seat.now ≡ reads_of self.old.seat.now }
     {
-        join_as::<Brand>(self.table, self.seat, held.into_seat());
+        let seat = held.into_seat();
+        join_as::<Brand>(self.table, self.seat, seat);
     }
 
     /// Hands out a block that the core keeps.
@@ -73,7 +73,8 @@ impl<'a> SharedMoves<'a> {
         ensures held { (block_in result ≡ block frame order) × IsOut self.new.table.now result }
         ensures read { reads_of self.new.seat.now ≡ reads_of self.old.seat.now }
     {
-        let seat = cut_as::<Brand>(self.table, self.seat, FrameBlock { frame, order });
+        let kept = FrameBlock { frame, order };
+        let seat = cut_as::<Brand>(self.table, self.seat, kept);
         Block::of(frame, order, seat)
     }
 }
@@ -86,8 +87,8 @@ fn number_of(table: &FrameTable, place: Place) -> usize
 {
     match place {
         Place::Entry(child) => entry_place(child),
-        Place::Bits(word) => bits_place(table.geometry, word),
-        Place::Tree(tree) => tree_place(table.geometry, tree),
+        Place::Bits(word) => table.first_bits + word as usize,
+        Place::Tree(tree) => table.first_tree + tree as usize,
         Place::Local(core) => local_place(table.geometry, core),
     }
 }
@@ -133,7 +134,7 @@ impl<'a> Moves for SharedMoves<'a> {
     ghost use Rattle.std.specs.Prelude.{ℕ, None};
     ghost use Rattle.frame_core.specs.Steps.{next};
     ghost use Rattle.frame_table.specs.Seats.{key_at, id_of, view_of, reads_of, IsOut};
-    ghost use Rattle.frame_table.specs.Ties.{Tied, no_words, next_most, next_up};
+    ghost use Rattle.frame_table.specs.Ties.{Tied, no_words, table_sizes, seat_fills, next_most, next_up};
 
     type Held = Block;
 
@@ -166,6 +167,10 @@ impl<'a> Moves for SharedMoves<'a> {
     ghost outs_are_blocks = { λ m b o. o.is_block };
 
     ghost stays_alone = { λ _ a. a };
+
+    ghost sizes = { λ m. table_sizes m.table.now };
+
+    ghost fills_own = { λ m none. seat_fills m.table.now m.seat.now m.sits none };
 
     ghost counts_at_most = { next_most };
 
@@ -231,7 +236,9 @@ impl<'a> Moves for SharedMoves<'a> {
 
     fn release(&mut self, word: u32, mask: u64) {
         let place = number_of(self.table, Place::Bits(word));
-        and_as::<Brand>(self.table, self.seat, place, !mask, about_run(word, mask));
+        // Its bits are all set, so that less the mask is the word without them: one atomic step,
+        // where a mask with `fetch_and` would be a loop.
+        sub_as::<Brand>(self.table, self.seat, place, mask, about_run(word, mask));
     }
 
     fn take_huge(&mut self, child: u32, seen: u64) -> bool {
@@ -359,7 +366,7 @@ impl<'a> Moves for SharedMoves<'a> {
 
     fn fill_word(&mut self, word: u32) {
         let place = number_of(self.table, Place::Bits(word));
-        or_as::<Brand>(self.table, self.seat, place, u64::MAX, about(word));
+        swap_as::<Brand>(self.table, self.seat, place, u64::MAX, about(word));
     }
 
     fn drop_flag(&mut self, child: u32) {

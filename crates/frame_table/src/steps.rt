@@ -1,13 +1,12 @@
 //! The atomic operations, over the kind of step that each call picks.
 
-ghost use Rattle.std.specs.Prelude.{◌≡◌, ◌≢◌, ℕ, ◌+◌, ◌-◌, ◌%◌, ◌^◌, ◌<◌, [], Some, None, false, MatchBool, bit_and, bit_or};
+ghost use Rattle.std.specs.Prelude.{◌≡◌, ◌≢◌, ℕ, ◌+◌, ◌-◌, ◌%◌, ◌^◌, ◌<◌, [], Some, None, false, MatchBool};
 ghost use Rattle.frame_core.specs.Words.{word_count};
 ghost use Rattle.frame_core.specs.Steps.{place, seen_by, turned, May, effect, after_load, after_loss, next};
 ghost use Rattle.frame_core.specs.Seats.{MayCut, left_by, MayJoin, joined_by};
 ghost use Rattle.frame_core.specs.Moves.{ReadsBut};
-ghost use Rattle.frame_core.specs.View.{IsViewOf};
-ghost use Rattle.frame_table.specs.Rule.{IsFoundIn, left_eye, right_eye, both_eyes};
-ghost use Rattle.frame_table.specs.Seats.{key_at, id_of, view_of, reads_of, Sits, IsSeat};
+ghost use Rattle.frame_table.specs.Rule.{IsFoundIn, MayFind, left_eye, right_eye, both_eyes};
+ghost use Rattle.frame_table.specs.Seats.{key_at, id_of, view_of, reads_of, HasBlocksOf, Sits, IsSeat};
 
 use crate::plays::{Change, CutIn, Cutting, Exchange, Joining, Look, Stepping, TakeIn};
 use crate::seats::CoreSeat;
@@ -106,7 +105,8 @@ pub(crate) fn sub_as<P: Stepping>(
     requires may { May (key_at table.now) P.kind (view_of seat.old) }
     requires word { word ≡ place (key_at table.now) P.kind }
     requires always { seen_by P.kind ≡ None }
-    requires left { (old : ℕ) → old < 2 ^ 64 → turned P.kind old ≡ (old + (2 ^ 64 - n)) % 2 ^ 64 }
+    requires left { (old : ℕ) → old < 2 ^ 64 → MayFind (key_at table.now) P.kind (view_of seat.old) old
+        → turned P.kind old ≡ (old + (2 ^ 64 - n)) % 2 ^ 64 }
     ensures seat { Sits table.now seat.new }
     ensures view { view_of seat.new ≡ effect next P.kind result (view_of seat.old) }
     ensures found { IsFoundIn (key_at table.now) (place (key_at table.now) P.kind) result }
@@ -116,54 +116,6 @@ pub(crate) fn sub_as<P: Stepping>(
         .grid
         .shared
         .fetch_sub::<Change<P>>(&mut seat.seat, word, n)
-}
-
-/// Answers the word found.
-pub(crate) fn and_as<P: Stepping>(
-    table: &FrameTable,
-    seat: &mut CoreSeat,
-    word: usize,
-    mask: u64,
-    _about: About,
-) -> u64
-    requires seat { Sits table.now seat.old }
-    requires may { May (key_at table.now) P.kind (view_of seat.old) }
-    requires word { word ≡ place (key_at table.now) P.kind }
-    requires always { seen_by P.kind ≡ None }
-    requires left { (old : ℕ) → old < 2 ^ 64 → turned P.kind old ≡ bit_and old mask }
-    ensures seat { Sits table.now seat.new }
-    ensures view { view_of seat.new ≡ effect next P.kind result (view_of seat.old) }
-    ensures found { IsFoundIn (key_at table.now) (place (key_at table.now) P.kind) result }
-    ensures read { ReadsBut (place (key_at table.now) P.kind) (reads_of seat.old) (reads_of seat.new) }
-{
-    table
-        .grid
-        .shared
-        .fetch_and::<Change<P>>(&mut seat.seat, word, mask)
-}
-
-/// Answers the word found.
-pub(crate) fn or_as<P: Stepping>(
-    table: &FrameTable,
-    seat: &mut CoreSeat,
-    word: usize,
-    mask: u64,
-    _about: About,
-) -> u64
-    requires seat { Sits table.now seat.old }
-    requires may { May (key_at table.now) P.kind (view_of seat.old) }
-    requires word { word ≡ place (key_at table.now) P.kind }
-    requires always { seen_by P.kind ≡ None }
-    requires left { (old : ℕ) → old < 2 ^ 64 → turned P.kind old ≡ bit_or old mask }
-    ensures seat { Sits table.now seat.new }
-    ensures view { view_of seat.new ≡ effect next P.kind result (view_of seat.old) }
-    ensures found { IsFoundIn (key_at table.now) (place (key_at table.now) P.kind) result }
-    ensures read { ReadsBut (place (key_at table.now) P.kind) (reads_of seat.old) (reads_of seat.new) }
-{
-    table
-        .grid
-        .shared
-        .fetch_or::<Change<P>>(&mut seat.seat, word, mask)
 }
 
 /// Answers the word found.
@@ -197,9 +149,9 @@ pub(crate) fn cut_seat<P: Cutting>(
     _about: FrameBlock,
 ) -> Seat<(), Eye>
     requires seat { IsSeat (id_of table.now) (key_at table.now) seat.old.table_id seat.old.me }
-    requires may { IsViewOf (key_at table.now) seat.old.me.0.view
-        → MayCut (key_at table.now) P.cut seat.old.me.0.view }
-    ensures table { (seat.new.table_id ≡ id_of table.now) × (result.table_id ≡ id_of table.now) }
+    requires may { MayCut (key_at table.now) P.cut seat.old.me.0.view }
+    ensures seat { IsSeat (id_of table.now) (key_at table.now) seat.new.table_id seat.new.me }
+    ensures other { IsSeat (id_of table.now) (key_at table.now) result.table_id result.me }
     ensures left { seat.new.me ≡ (left_eye P.cut seat.old.me.0, []) }
     ensures right { result.me ≡ (right_eye P.cut seat.old.me.0, []) }
 {
@@ -213,8 +165,9 @@ pub(crate) fn join_seat<P: Joining>(
 )
     requires seat { IsSeat (id_of table.now) (key_at table.now) seat.old.table_id seat.old.me }
     requires other { (other.table_id ≡ id_of table.now) × (other.me.1 ≡ []) }
+    requires blocks { HasBlocksOf (key_at table.now) other.me.0.view }
     requires may { MayJoin P.join seat.old.me.0.view other.me.0.view }
-    ensures table { seat.new.table_id ≡ id_of table.now }
+    ensures seat { IsSeat (id_of table.now) (key_at table.now) seat.new.table_id seat.new.me }
     ensures both { seat.new.me ≡ (both_eyes P.join seat.old.me.0 other.me.0, []) }
 {
     table.grid.shared.join_seat::<TakeIn<P>>(seat, other);
@@ -227,10 +180,8 @@ pub(crate) fn cut_as<P: Cutting>(
     about: FrameBlock,
 ) -> Seat<(), Eye>
     requires seat { Sits table.now seat.old }
-    requires may { IsViewOf (key_at table.now) (view_of seat.old)
-        → MayCut (key_at table.now) P.cut (view_of seat.old) }
+    requires may { MayCut (key_at table.now) P.cut (view_of seat.old) }
     requires one { (left_by next P.cut (view_of seat.old)).share ≡ 1 }
-    requires about { (left_by next P.cut (view_of seat.old)).about ≡ (view_of seat.old).about }
     ensures seat { Sits table.now seat.new }
     ensures view { view_of seat.new ≡ left_by next P.cut (view_of seat.old) }
     ensures read { reads_of seat.new ≡ reads_of seat.old }
@@ -244,6 +195,7 @@ pub(crate) fn cut_as<P: Cutting>(
 pub(crate) fn join_as<P: Joining>(table: &FrameTable, seat: &mut CoreSeat, other: Seat<(), Eye>)
     requires seat { Sits table.now seat.old }
     requires other { (other.table_id ≡ id_of table.now) × (other.me.1 ≡ []) }
+    requires blocks { HasBlocksOf (key_at table.now) other.me.0.view }
     requires may { MayJoin P.join (view_of seat.old) other.me.0.view }
     requires one { (joined_by next P.join (view_of seat.old) other.me.0.view).share ≡ 1 }
     ensures seat { Sits table.now seat.new }

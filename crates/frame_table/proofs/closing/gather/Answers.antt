@@ -3,9 +3,10 @@ use Rattle.std.proofs.lemmas.List.{nil_from_length}
 use Rattle.atomic_table.specs.Table.{Me}
 use Rattle.frame_core.specs.declared.view.Eye.{Eye}
 use Rattle.frame_core.specs.declared.view.View.{View}
-use Rattle.frame_table.specs.Seats.{key_at, id_of}
+use Rattle.frame_core.proofs.Steps.SeatViews.{blocks_are}
+use Rattle.frame_table.specs.Seats.{key_at, view_of}
 use Rattle.frame_table.specs.Closing.{IsClosable}
-use Rattle.frame_table.proofs.Gathering.{all_front, all_last, IsGathering, gather_first, gather_more, gathered_all, joined_seat}
+use Rattle.frame_table.proofs.Gathering.{all_front, all_last, IsGathering, gather_first, gather_more, gathered_all}
 use Rattle.frame_table.proofs.closing.gather.Goals as goal
 
 pub loop-seat-init : goal.loop-seat-init
@@ -28,6 +29,13 @@ join_seat-requires-clause-may c =
     let h = all_last (IsClosable t) c.loop-seat.seats.items c.pop-in-loop-seat.new.self.items x c.in-Some-pop.ensures.items c.loop-seat.invariant.others in
     record { keeper = c.loop-seat.invariant.gathering.idle; other = h.idle }
 
+pub join_seat-requires-clause-blocks : goal.join_seat-requires-clause-blocks
+join_seat-requires-clause-blocks c =
+    let t = c.args.table.now in
+    let x = c.in-Some-pop.field-0 in
+    let h = all_last (IsClosable t) c.loop-seat.seats.items c.pop-in-loop-seat.new.self.items x c.in-Some-pop.ensures.items c.loop-seat.invariant.others in
+    blocks_are (key_at t) (view_of x) h.sits.at.is_view
+
 pub loop-seat-preserved : goal.loop-seat-preserved
 loop-seat-preserved c =
     let t = c.args.table.now in
@@ -39,7 +47,7 @@ loop-seat-preserved c =
     let inv = c.loop-seat.invariant in
     let h = all_last (IsClosable t) xs ys x e inv.others in
     let V : Me (Unit {0}) Eye → View = λ me. me.0.view in record {
-      at = joined_seat (id_of t) (key_at t) c.loop-seat.all.table_id c.join_seat.new.seat.table_id c.loop-seat.all.me c.join_seat.new.seat.me x.seat.me.0 inv.at c.join_seat.ensures.table c.join_seat.ensures.both;
+      at = c.join_seat.ensures.seat;
       gathering = subst (IsGathering all ys) (sym (ap V c.join_seat.ensures.both)) (gather_more all xs ys x (V c.loop-seat.all.me) inv.gathering e h.sits.one);
       others = all_front (IsClosable t) xs ys x e inv.others;
     }

@@ -4,9 +4,6 @@ use Rattle.frame_core.specs.declared.key.Key.{Key}
 use Rattle.frame_core.specs.declared.view.Eye.{Eye}
 use Rattle.frame_core.specs.declared.view.View.{View}
 use Rattle.frame_core.specs.View.{spent}
-use Rattle.frame_core.specs.Seats.{part_ground, right_by}
-use Rattle.frame_table.specs.Seats.{key_at, id_of}
-use Rattle.frame_table.proofs.Dealing.{fresh_seat}
 use Rattle.frame_table.proofs.opening.part_ground_off.Goals as goal
 
 pub returns-clause-held : goal.returns-clause-held
@@ -17,7 +14,7 @@ returns-clause-held c =
     let V : Me (Unit {0}) Eye → View = λ me. me.0.view in
     let is = ap V cut.ensures.right in (
       record {
-        at = fresh_seat (id_of t) (key_at t) cut.result.table_id cut.result.me (right_by part_ground v) cut.ensures.table.1 cut.ensures.right c.requires.seat.about;
+        at = cut.ensures.other;
         share = ap (λ (u : View). u.share) is;
         is_ground = ap (λ (u : View). u.is_ground) is;
       },

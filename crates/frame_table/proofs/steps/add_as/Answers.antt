@@ -25,7 +25,7 @@ fetch_add-requires g c =
       sits.table,
       omega (arith, t.words, c.requires.word, inside),
       subst At (sym c.requires.word)
-          (change_allows t.grid.shared.key slots seat.id seat.me sits.bare sits.about kind (omega (arith, c.requires.seat.one)) c.requires.may c.args.n turn c.requires.always c.requires.left),
+          (change_allows t.grid.shared.key slots seat.id seat.me sits.bare sits.about kind (omega (arith, c.requires.seat.one)) c.requires.may c.args.n turn c.requires.always (λ old h found. c.requires.left old h)),
     )
 
 after : (g : given.Over) (c : goal.After-fetch_add g)
