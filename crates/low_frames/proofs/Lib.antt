@@ -4,3 +4,10 @@ pub mod AmountLemmas
 pub mod WordsLemmas
 pub mod WideLemmas
 pub mod GiveLemmas
+pub mod AloneLemmas
+pub mod RoomLemmas
+pub mod AloneTakes
+pub mod HeldLemmas
+pub mod FlightLemmas
+pub mod GiveAlone
+pub mod WideAlone

@@ -179,7 +179,7 @@ first_lost child v u w i z enough paid own none claimed lost =
 
 -- Groups.
 
-two_or_four : (order count : ℕ) → 7 ≤ order → order ≤ 8 → 64 * count ≡ 2 ^ order → ((order ≡ 7) × (count ≡ 2)) ⊎ ((order ≡ 8) × (count ≡ 4))
+pub two_or_four : (order count : ℕ) → 7 ≤ order → order ≤ 8 → 64 * count ≡ 2 ^ order → ((order ≡ 7) × (count ≡ 2)) ⊎ ((order ≡ 8) × (count ≡ 4))
 two_or_four order count l h e =
     ⊎_elim
     (λ a. let o : order ≡ 7 = omega arith in inl (o, omega (arith, e, ap (λ k. 2 ^ k) o)))

@@ -1,3 +1,4 @@
 pub mod Takes
 pub mod Gives
 pub mod Words
+pub mod Alone

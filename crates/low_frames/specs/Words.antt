@@ -1,13 +1,15 @@
 -- Blocks that are whole bit words together.
-use Rattle.std.specs.Prelude.{◌≡◌, ℕ, ◌+◌, ◌*◌, ◌<◌, ◌≤◌, ◌⊎◌, List, Option, Some}
+use Rattle.std.specs.Prelude.{◌≡◌, ℕ, ◌+◌, ◌*◌, ◌<◌, ◌≤◌, ◌⊎◌, List, Option, Some, IfSome, slice_index}
 use Rattle.std.specs.List.{All}
 use Rattle.frame_core.specs.declared.block.FrameBlock.{FrameBlock}
 use Rattle.frame_core.specs.declared.key.Key.{Key}
 use Rattle.frame_core.specs.declared.view.View.{View}
-use Rattle.frame_core.specs.Key.{tree_of_child}
-use Rattle.frame_core.specs.Words.{bits_place}
+use Rattle.frame_core.specs.Key.{frame_count, tree_of_child}
+use Rattle.frame_core.specs.Words.{bits_place, bit_word_of}
+use Rattle.frame_core.specs.Report.{held_at}
 use Rattle.frame_core.specs.Steps.Amounts.{less}
 use Rattle.frame_core.specs.Block.{IsBlock, smalls, wholes}
+use Rattle.low_frames.specs.Alone.{Turns}
 
 -- the blocks hold each frame of so many bit words once, and no other frame
 pub record HoldsWords (key : Key) (blocks : List FrameBlock) (first count : ℕ) : Type 0 where
@@ -37,3 +39,34 @@ HasClaimedWords child n v w = w ≡ record v {
   moves = w.moves;
   lost = w.lost;
 }
+
+-- no frame of so many bit words is held
+abbrev pub AreFree : Key → List ℕ → ℕ → ℕ → Type 0
+AreFree key words first count =
+    (x : ℕ) → 64 * first ≤ x → x < 64 * (first + count) → held_at key words x ≡ 0
+
+-- the frames of so many bit words were free and are held, and every other frame is as it was
+pub record HoldsMoreWords (key : Key) (old new : List ℕ) (first count : ℕ) : Type 0 where
+  pub were_free : AreFree key old first count
+  pub are_held : (x : ℕ) → 64 * first ≤ x → x < 64 * (first + count) → held_at key new x ≡ 1
+  pub others : (x : ℕ) → x < frame_count key → (x < 64 * first) ⊎ (64 * (first + count) ≤ x)
+      → held_at key new x ≡ held_at key old x
+
+-- where the words were known, they are known, and so many bit words were taken from what was free
+abbrev pub HasTakenWords : Key → Option (List ℕ) → Option (List ℕ) → ℕ → ℕ → Type 0
+HasTakenWords key old new first count =
+    Turns (λ ws us. HoldsMoreWords key ws us first count) old new
+
+-- where the words were known, they are known, and so many bit words were put back to what is free
+abbrev pub HasGivenWords : Key → Option (List ℕ) → Option (List ℕ) → ℕ → ℕ → Type 0
+HasGivenWords key old new first count =
+    Turns (λ ws us. HoldsMoreWords key us ws first count) old new
+
+-- where the words are known, and so many bit words of them are free, this holds
+abbrev pub WhereFree : Key → Option (List ℕ) → ℕ → ℕ → Type 0 → Type 0
+WhereFree key words first count P = IfSome words (λ ws. AreFree key ws first count → P)
+
+-- the list has the bit words of the child
+abbrev pub AreWordsOf : Key → ℕ → List ℕ → List ℕ → Type 0
+AreWordsOf key child list words =
+    (i : ℕ) → i < 8 → slice_index list i ≡ bit_word_of key words (8 * child + i)

@@ -1,23 +1,11 @@
 //! Exchanges that are tried again where another core was faster.
 
-ghost use Rattle.std.specs.Prelude.{
-  ◌≡◌,
-  ℕ,
-  ◌*◌,
-  ◌/◌,
-  ◌^◌,
-  ◌<◌,
-  ◌≤◌,
-  [],
-  None,
-  IfSome,
-  IfNone,
-  MatchBool,
-};
+ghost use Rattle.std.specs.Prelude.{◌≡◌, ℕ, ◌*◌, ◌/◌, ◌^◌, ◌<◌, ◌≤◌, [], None, IfSome, IfNone, MatchBool};
 ghost use Rattle.frame_core.specs.Key.{tree_of_child};
 ghost use Rattle.frame_core.specs.View.{charged_in, paid_on};
 ghost use Rattle.frame_core.specs.Steps.Amounts.{IsRun};
 ghost use Rattle.low_frames.specs.Takes.{Counts, IsAsBefore, HasCharged, HasClaimed, HasTakenHuge};
+ghost use Rattle.low_frames.specs.Alone.{Turns, FindsOf, ChargesOf, IsClaimed, HasNoRun, IsTakenHuge, IsNotWhole};
 
 use frame_core::{Moves, Place};
 use frame_words::{entry_free, entry_huge, find_run, lane, mask};
@@ -44,6 +32,8 @@ pub(crate) fn try_charge<M: Moves>(m: &mut M, child: u32, n: u32) -> bool
         (M.has_missed m.new) (M.view m.new) }
     ensures alone { M.alone m.old → M.alone m.new }
     ensures out { (b : M.Held) → M.is_out m.old b → M.is_out m.new b }
+    ensures alone_charged { M.alone m.old →
+        ChargesOf child n (M.key m.old) result (M.words m.old) (M.words m.new) }
 {
     for _i in 0..TRIES {
         let seen = m.load(Place::Entry(child));
@@ -76,6 +66,10 @@ pub(crate) fn try_claim<M: Moves>(m: &mut M, word: u32, order: u8) -> Option<u32
         (M.has_missed m.new) (M.view m.new) }
     ensures alone { M.alone m.old → M.alone m.new }
     ensures out { (b : M.Held) → M.is_out m.old b → M.is_out m.new b }
+    ensures alone_some { M.alone m.old → IfSome result (λ bit.
+        Turns (IsClaimed (M.key m.old) word bit order) (M.words m.old) (M.words m.new)) }
+    ensures alone_none { M.alone m.old → IfNone result
+        (FindsOf (HasNoRun (M.key m.old) word order) (M.words m.old) (M.words m.new)) }
 {
     for _i in 0..TRIES {
         let seen = m.load(Place::Bits(word));
@@ -106,6 +100,9 @@ pub(crate) fn try_take_huge<M: Moves>(m: &mut M, child: u32) -> bool
         (M.has_missed m.new) (M.view m.new) }
     ensures alone { M.alone m.old → M.alone m.new }
     ensures out { (b : M.Held) → M.is_out m.old b → M.is_out m.new b }
+    ensures alone_view { M.alone m.old → MatchBool result
+        (Turns (IsTakenHuge (M.key m.old) child) (M.words m.old) (M.words m.new))
+        (FindsOf (IsNotWhole child) (M.words m.old) (M.words m.new)) }
 {
     for _i in 0..TRIES {
         let seen = m.load(Place::Entry(child));

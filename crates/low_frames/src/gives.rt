@@ -4,9 +4,10 @@ ghost use Rattle.std.specs.Prelude.{◌≡◌, ◌≢◌, ℕ, ◌+◌, ◌*◌,
 ghost use Rattle.frame_core.specs.Key.{child_of, tree_of, tree_of_child};
 ghost use Rattle.frame_core.specs.Block.{block, IsBlock};
 ghost use Rattle.frame_core.specs.View.{NoneBut};
+ghost use Rattle.low_frames.specs.Alone.{HasGiven};
 ghost use Rattle.low_frames.specs.Takes.{Counts};
 ghost use Rattle.low_frames.specs.Gives.{HasReleased, HasTakenBack};
-ghost use Rattle.low_frames.specs.Words.{HoldsWords, ReadsOutside};
+ghost use Rattle.low_frames.specs.Words.{HoldsWords, ReadsOutside, HasGivenWords};
 
 use super::orders::frames_of;
 use frame_core::{HeldBlock, Moves};
@@ -19,7 +20,6 @@ pub fn give_low<M: Moves>(m: &mut M, held: M::Held)
     requires held { M.is_out m.old held }
     requires charged { (M.view m.old).charged ≡ None }
     requires own { (M.view m.old).own ≡ [] }
-    requires filled { (M.view m.old).filled ≡ [] }
     requires paid { NoneBut (tree_of (M.Held.block_of held).frame) (M.view m.old).paid }
     ensures tie { (M.tie m.new ≡ M.tie m.old) × (M.key m.new ≡ M.key m.old) }
     ensures back { HasTakenBack (M.Held.block_of held) (M.view m.old) (M.view m.new) }
@@ -28,6 +28,8 @@ pub fn give_low<M: Moves>(m: &mut M, held: M::Held)
     ensures alone { M.alone m.old → M.alone m.new }
     ensures out { (b : M.Held) → M.Held.block_of b ≢ M.Held.block_of held
         → M.is_out m.old b → M.is_out m.new b }
+    ensures alone_given { M.alone m.old → HasGiven (M.key m.old)
+        (M.words m.old) (M.words m.new) (M.Held.block_of held) }
 {
     let (frame, order) = (held.frame(), held.order());
     m.hand_in(held);
@@ -54,6 +56,8 @@ fn release_block<M: Moves>(m: &mut M, frame: u32, order: u8)
         (M.has_missed m.new) (M.view m.new) }
     ensures alone { M.alone m.old → M.alone m.new }
     ensures out { (b : M.Held) → M.is_out m.old b → M.is_out m.new b }
+    ensures alone_given { M.alone m.old → HasGiven (M.key m.old)
+        (M.words m.old) (M.words m.new) (block frame order) }
 {
     if order <= 6 {
         m.release(frame / 64, mask(order, frame % 64));
@@ -65,7 +69,6 @@ fn release_block<M: Moves>(m: &mut M, frame: u32, order: u8)
 /// Clears some words of the child, upward, of which all frames and no others are in flight.
 #[inline]
 pub(crate) fn release_words<M: Moves>(m: &mut M, child: u32, first: u32, count: u32)
-    requires low { child < 2 ^ 23 }
     requires child { child < (M.key m.old).children }
     requires inside { first + count ≤ 8 }
     requires some { 0 < count }
@@ -81,6 +84,8 @@ pub(crate) fn release_words<M: Moves>(m: &mut M, child: u32, first: u32, count: 
         (M.has_missed m.new) (M.view m.new) }
     ensures alone { M.alone m.old → M.alone m.new }
     ensures out { (b : M.Held) → M.is_out m.old b → M.is_out m.new b }
+    ensures alone_given { M.alone m.old → HasGivenWords (M.key m.old)
+        (M.words m.old) (M.words m.new) (8 * child + first) count }
 {
     for i in 0..count {
         m.release(8 * child + first + i, u64::MAX);

@@ -7,6 +7,8 @@ mod huge;
 mod in_tree;
 mod orders;
 mod small;
+#[cfg(test)]
+mod tests;
 mod wide;
 
 pub use gives::give_low;

@@ -1,11 +1,11 @@
 //! Takes of blocks that lie in one bit word: orders 0 to 6.
 
 ghost use Rattle.std.specs.Prelude.{◌≡◌, ℕ, ◌*◌, ◌/◌, ◌^◌, ◌<◌, ◌≤◌, [], None, IfSome, IfNone};
-ghost use Rattle.frame_words.specs.Geometry.{most_children};
 ghost use Rattle.frame_core.specs.Key.{tree_of_child};
 ghost use Rattle.frame_core.specs.Block.{block};
 ghost use Rattle.frame_core.specs.View.{charged_in, paid_on};
 ghost use Rattle.low_frames.specs.Takes.{Counts, IsAsBefore, HasClaimedIn, HasHandedOut, IsBlockIn};
+ghost use Rattle.low_frames.specs.Alone.{Turns, FindsOf, HasTaken, HasNoneIn, IsClaimedIn, HasNoRunIn};
 
 use super::attempts::{try_charge, try_claim};
 use super::orders::frames_of;
@@ -14,7 +14,6 @@ use frame_core::Moves;
 /// Takes a block of `2^order` frames in the child. The counter goes down before the bits go up.
 #[inline]
 pub fn take_small<M: Moves>(m: &mut M, child: u32, order: u8) -> Option<M::Held>
-    requires few { (M.key m.old).children ≤ most_children }
     requires child { child < (M.key m.old).children }
     requires order { order ≤ 6 }
     requires share { 0 < (M.view m.old).share }
@@ -31,6 +30,10 @@ pub fn take_small<M: Moves>(m: &mut M, child: u32, order: u8) -> Option<M::Held>
         (M.has_missed m.new) (M.view m.new) }
     ensures alone { M.alone m.old → M.alone m.new }
     ensures out { (b : M.Held) → M.is_out m.old b → M.is_out m.new b }
+    ensures alone_taken { M.alone m.old → IfSome result (λ held.
+        HasTaken (M.key m.old) (M.words m.old) (M.words m.new) (M.Held.block_of held)) }
+    ensures alone_none { M.alone m.old → IfNone result
+        (FindsOf (HasNoneIn (M.key m.old) child order) (M.words m.old) (M.words m.new)) }
 {
     let n = frames_of(order);
     if !try_charge(m, child, n) {
@@ -49,7 +52,6 @@ pub fn take_small<M: Moves>(m: &mut M, child: u32, order: u8) -> Option<M::Held>
 #[inline]
 fn claim_in<M: Moves>(m: &mut M, child: u32, order: u8) -> Option<u32>
     requires child { child < (M.key m.old).children }
-    requires few { (M.key m.old).children ≤ most_children }
     requires order { order ≤ 6 }
     requires share { 0 < (M.view m.old).share }
     requires charged { 2 ^ order ≤ charged_in child (M.view m.old) }
@@ -63,6 +65,10 @@ fn claim_in<M: Moves>(m: &mut M, child: u32, order: u8) -> Option<u32>
         (M.has_missed m.new) (M.view m.new) }
     ensures alone { M.alone m.old → M.alone m.new }
     ensures out { (b : M.Held) → M.is_out m.old b → M.is_out m.new b }
+    ensures alone_some { M.alone m.old → IfSome result (λ frame.
+        Turns (IsClaimedIn (M.key m.old) frame order) (M.words m.old) (M.words m.new)) }
+    ensures alone_none { M.alone m.old → IfNone result
+        (FindsOf (HasNoRunIn (M.key m.old) child order) (M.words m.old) (M.words m.new)) }
 {
     for i in 0..8u32 {
         let word = 8 * child + i;

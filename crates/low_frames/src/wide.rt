@@ -1,30 +1,14 @@
 //! Takes of blocks of two or four bit words: orders 7 and 8.
 
-ghost use Rattle.std.specs.Prelude.{
-  ◌≡◌,
-  ℕ,
-  ◌+◌,
-  ◌*◌,
-  ◌/◌,
-  ◌%◌,
-  ◌^◌,
-  ◌<◌,
-  ◌≤◌,
-  [],
-  None,
-  Some,
-  IfSome,
-  IfNone,
-  length,
-  slice_index,
-};
-ghost use Rattle.frame_words.specs.Geometry.{most_children};
+ghost use Rattle.std.specs.Prelude.{◌≡◌, ℕ, ◌+◌, ◌*◌, ◌/◌, ◌%◌, ◌^◌, ◌<◌, ◌≤◌, [], None, Some, IfSome, IfNone, length, slice_index};
+ghost use Rattle.frame_core.specs.Block.{block};
 ghost use Rattle.frame_core.specs.Key.{tree_of_child};
 ghost use Rattle.frame_core.specs.View.{charged_in, paid_on};
 ghost use Rattle.frame_core.specs.Words.{bits_place};
 ghost use Rattle.frame_core.specs.Moves.{ReadsBut};
 ghost use Rattle.low_frames.specs.Takes.{Counts, IsAsBefore, HasClaimed, HasHandedOut, IsBlockIn};
-ghost use Rattle.low_frames.specs.Words.{HoldsWords, HasClaimedWords, WasReadClear, ReadsOutside};
+ghost use Rattle.low_frames.specs.Alone.{HasTaken, FindsOf, HasNoneIn};
+ghost use Rattle.low_frames.specs.Words.{HoldsWords, HasClaimedWords, WasReadClear, ReadsOutside, HasTakenWords, WhereFree, AreWordsOf};
 
 use super::attempts::{TRIES, try_charge};
 use super::gives::release_words;
@@ -36,7 +20,6 @@ use frame_words::find_words;
 /// Where one is lost, those that were claimed are released.
 #[inline]
 pub fn take_wide<M: Moves>(m: &mut M, child: u32, order: u8) -> Option<M::Held>
-    requires few { (M.key m.old).children ≤ most_children }
     requires child { child < (M.key m.old).children }
     requires wide { 7 ≤ order }
     requires order { order ≤ 8 }
@@ -54,6 +37,10 @@ pub fn take_wide<M: Moves>(m: &mut M, child: u32, order: u8) -> Option<M::Held>
         (M.has_missed m.new) (M.view m.new) }
     ensures alone { M.alone m.old → M.alone m.new }
     ensures out { (b : M.Held) → M.is_out m.old b → M.is_out m.new b }
+    ensures alone_taken { M.alone m.old → IfSome result (λ held.
+        HasTaken (M.key m.old) (M.words m.old) (M.words m.new) (M.Held.block_of held)) }
+    ensures alone_none { M.alone m.old → IfNone result
+        (FindsOf (HasNoneIn (M.key m.old) child order) (M.words m.old) (M.words m.new)) }
 {
     let n = frames_of(order);
     if !try_charge(m, child, n) {
@@ -72,7 +59,6 @@ pub fn take_wide<M: Moves>(m: &mut M, child: u32, order: u8) -> Option<M::Held>
 /// is clear any more.
 #[inline]
 fn claim_group<M: Moves>(m: &mut M, child: u32, order: u8, count: u32) -> Option<u32>
-    requires few { (M.key m.old).children ≤ most_children }
     requires child { child < (M.key m.old).children }
     requires wide { 7 ≤ order }
     requires order { order ≤ 8 }
@@ -90,6 +76,11 @@ fn claim_group<M: Moves>(m: &mut M, child: u32, order: u8, count: u32) -> Option
         (M.has_missed m.new) (M.view m.new) }
     ensures alone { M.alone m.old → M.alone m.new }
     ensures out { (b : M.Held) → M.is_out m.old b → M.is_out m.new b }
+    ensures alone_taken { M.alone m.old → IfSome result (λ first.
+        HasTaken (M.key m.old) (M.words m.old) (M.words m.new)
+        (block (512 * child + 64 * first) order)) }
+    ensures alone_none { M.alone m.old → IfNone result
+        (FindsOf (HasNoneIn (M.key m.old) child order) (M.words m.old) (M.words m.new)) }
 {
     let mut words = load_words(m, child);
     for _i in 0..8 / count {
@@ -107,7 +98,6 @@ fn claim_group<M: Moves>(m: &mut M, child: u32, order: u8, count: u32) -> Option
 /// Loads the words of the child.
 #[inline]
 fn load_words<M: Moves>(m: &mut M, child: u32) -> [u64; 8]
-    requires few { (M.key m.old).children ≤ most_children }
     requires child { child < (M.key m.old).children }
     requires share { 0 < (M.view m.old).share }
     ensures tie { (M.tie m.new ≡ M.tie m.old) × (M.key m.new ≡ M.key m.old) }
@@ -119,6 +109,8 @@ fn load_words<M: Moves>(m: &mut M, child: u32) -> [u64; 8]
         (M.has_missed m.new) (M.view m.new) }
     ensures alone { M.alone m.old → M.alone m.new }
     ensures out { (b : M.Held) → M.is_out m.old b → M.is_out m.new b }
+    ensures alone_loaded { M.alone m.old → FindsOf (AreWordsOf (M.key m.old) child result)
+        (M.words m.old) (M.words m.new) }
 {
     let mut words = [0; 8];
     for i in 0..8u32 {
@@ -131,7 +123,6 @@ fn load_words<M: Moves>(m: &mut M, child: u32) -> [u64; 8]
 /// were claimed here, and the answer is the word that was lost, with what was found in it.
 #[inline]
 fn claim_words<M: Moves>(m: &mut M, child: u32, first: u32, count: u32) -> Option<(u32, u64)>
-    requires few { (M.key m.old).children ≤ most_children }
     requires child { child < (M.key m.old).children }
     requires inside { first + count ≤ 8 }
     requires some { 0 < count }
@@ -152,6 +143,10 @@ fn claim_words<M: Moves>(m: &mut M, child: u32, first: u32, count: u32) -> Optio
         (M.has_missed m.new) (M.view m.new) }
     ensures alone { M.alone m.old → M.alone m.new }
     ensures out { (b : M.Held) → M.is_out m.old b → M.is_out m.new b }
+    ensures alone_claimed { M.alone m.old →
+        WhereFree (M.key m.old) (M.words m.old) (8 * child + first) count ((result ≡ None)
+        × HasTakenWords (M.key m.old) (M.words m.old) (M.words m.new)
+        (8 * child + first) count) }
 {
     for i in 0..count {
         if let Some(found) = claim_word(m, 8 * child + first + i) {
@@ -186,6 +181,9 @@ fn claim_word<M: Moves>(m: &mut M, word: u32) -> Option<u64>
         (M.has_missed m.new) (M.view m.new)) }
     ensures alone { M.alone m.old → M.alone m.new }
     ensures out { (b : M.Held) → M.is_out m.old b → M.is_out m.new b }
+    ensures alone_claimed { M.alone m.old → WhereFree (M.key m.old) (M.words m.old) word 1
+        ((result ≡ None)
+        × HasTakenWords (M.key m.old) (M.words m.old) (M.words m.new) word 1) }
 {
     for _i in 0..TRIES {
         if m.claim(word, 0, u64::MAX) {

@@ -1,5 +1,6 @@
 use Rattle.std.proofs.Common.{◌≡◌, ◌*◌}
 use Rattle.low_frames.specs.Takes.{Counts, IsAsBefore}
+use Rattle.low_frames.proofs.AloneLemmas.{IsFirstTry}
 use Rattle.low_frames.proofs.attempts.try_charge.Given as goal
 
 abbrev pub invariant-loop-i : goal.invariant-loop-i
@@ -11,5 +12,6 @@ invariant-loop-i g l =
       view : IsAsBefore (M.view l.fn.m) (M.view l.m);
       counts : Counts (2 * l._i) (M.has_missed l.fn.m) (M.view l.fn.m) (M.has_missed l.m) (M.view l.m);
       alone : M.alone l.fn.m → M.alone l.m;
+      first : M.alone l.fn.m → IsFirstTry l._i (M.words l.fn.m) (M.words l.m);
       out : (b : g.row.M-Held.Denot) → M.is_out l.fn.m b → M.is_out l.m b;
     }

@@ -5,6 +5,7 @@ use Rattle.frame_core.specs.declared.key.Key.{Key}
 use Rattle.frame_core.specs.Words.{bits_place}
 use Rattle.frame_core.specs.Moves.{ReadsBut}
 use Rattle.low_frames.proofs.WideLemmas.{reads_outside}
+use Rattle.low_frames.proofs.GiveAlone.{none_given, given_more}
 use Rattle.low_frames.proofs.gives.release_words.Goals as goal
 
 pub loop-i-init : goal.loop-i-init
@@ -20,6 +21,7 @@ loop-i-init g c =
       read = λ w out. refl;
       counts = counts_none (M.has_missed c.args.m.now) v;
       alone = λ h. h;
+      given = λ h. none_given (M.key c.args.m.now) (M.words c.args.m.now) f;
       out = λ b h. h;
     }
 
@@ -44,6 +46,8 @@ loop-i-preserved g c =
           (subst (λ (k : Key). ReadsBut (bits_place k (8 * c.args.child + c.args.first + c.loop-i.i)) (M.read c.loop-i.m) (M.read c.release.new.self)) c.loop-i.invariant.key c.release.ensures.read);
       counts = counts_step M.tick g.met.M.Moves.counts_at_most g.met.M.Moves.counts_up c.loop-i.i (M.has_missed c.args.m.now) (M.has_missed c.loop-i.m) (M.has_missed c.release.new.self) v u w c.loop-i.invariant.counts (ap (λ x. x.moves) e) (ap (λ x. x.lost) e) c.release.ensures.missed;
       alone = λ h. c.release.ensures.alone (c.loop-i.invariant.alone h);
+      given = λ h. given_more (M.key c.loop-i.m) (M.key c.args.m.now) u (M.alone c.loop-i.m) (8 * c.args.child + c.args.first) c.args.count c.loop-i.i (M.words c.args.m.now) (M.words c.loop-i.m) (M.words c.release.new.self) c.loop-i.invariant.key (omega arith) c.loop-i-test.true c.loop-i.invariant.own
+          (g.met.M.Moves.fits c.loop-i.m) (c.release.ensures.words (g.met.M.Moves.stays_alone c.loop-i.m (c.loop-i.invariant.alone h)) 0 6 refl) (c.loop-i.invariant.given h);
       out = λ b h. c.release.ensures.out b (c.loop-i.invariant.out b h);
     }
 

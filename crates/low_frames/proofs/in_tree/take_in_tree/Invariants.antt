@@ -1,5 +1,7 @@
 use Rattle.std.proofs.Common.{◌≡◌, ◌*◌}
 use Rattle.low_frames.specs.Takes.{Counts, IsAsBefore}
+use Rattle.low_frames.specs.Alone.{FindsOf}
+use Rattle.low_frames.proofs.AloneTakes.{HasNoneBelow}
 use Rattle.low_frames.proofs.in_tree.take_in_tree.Given as goal
 
 abbrev pub invariant-loop-i : goal.invariant-loop-i
@@ -11,5 +13,6 @@ invariant-loop-i g l =
       view : IsAsBefore (M.view l.fn.m) (M.view l.m);
       counts : Counts (81 * l.i) (M.has_missed l.fn.m) (M.view l.fn.m) (M.has_missed l.m) (M.view l.m);
       alone : M.alone l.fn.m → M.alone l.m;
+      none : M.alone l.fn.m → FindsOf (HasNoneBelow (M.key l.fn.m) (8 * l.fn.tree) l.i l.fn.order) (M.words l.fn.m) (M.words l.m);
       out : (b : g.row.M-Held.Denot) → M.is_out l.fn.m b → M.is_out l.m b;
     }

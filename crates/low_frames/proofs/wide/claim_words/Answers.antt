@@ -1,12 +1,13 @@
-use Rattle.std.proofs.Common.{rules, inl, inr, ⊎_elim, ℕ, ◌+◌, ◌*◌, refl, sym, subst, ◌∙◌, arith}
+use Rattle.std.proofs.Common.{rules, ◌≡◌, None, Some, inl, inr, ⊎_elim, ℕ, ◌+◌, ◌*◌, refl, sym, subst, ◌∙◌, arith}
 use Rattle.frame_core.specs.declared.key.Key.{Key}
 use Rattle.frame_core.specs.Words.{bits_place}
 use Rattle.frame_core.specs.Moves.{ReadsBut}
-use Rattle.low_frames.specs.Words.{HoldsWords, ReadsOutside}
+use Rattle.low_frames.specs.Words.{HoldsWords, ReadsOutside, HasTakenWords}
 use Rattle.low_frames.proofs.TakeLemmas.{counts_none, counts_both, counts_within}
 use Rattle.low_frames.proofs.WordsLemmas.{words_none, no_words}
 use Rattle.low_frames.proofs.GiveLemmas.{words_at}
 use Rattle.low_frames.proofs.WideLemmas.{bits_apart, reads_outside, claimed_none, charged_still, paid_still, claimed_more, words_claimed, back_as_before, charges_here, pays_here, first_lost}
+use Rattle.low_frames.proofs.WideAlone.{then_holds, none_taken, taken_more, not_lost}
 use Rattle.low_frames.proofs.wide.claim_words.Goals as goal
 
 pub loop-i-init : goal.loop-i-init
@@ -23,6 +24,7 @@ loop-i-init g c =
       read = λ w out. refl;
       counts = counts_none (M.has_missed c.args.m.now) v;
       alone = λ h. h;
+      taken = λ h. none_taken (M.key c.args.m.now) (M.words c.args.m.now) (8 * c.args.child + c.args.first) c.args.count;
       out = λ b h. h;
     }
 
@@ -106,5 +108,28 @@ loop-i-preserved g c =
       counts = counts_within (7 * c.loop-i.i + 7) (7 * (c.loop-i.i + 1)) (M.has_missed c.args.m.now) (M.has_missed c.claim_word.new.m) v w (omega arith)
           (counts_both (7 * c.loop-i.i) 7 (M.has_missed c.args.m.now) (M.has_missed c.loop-i.m) (M.has_missed c.claim_word.new.m) v u w c.loop-i.invariant.counts c.in_default.ensures.fewer);
       alone = λ h. c.claim_word.ensures.alone (c.loop-i.invariant.alone h);
+      taken = λ h.
+          then_holds (M.key c.args.m.now) (M.words c.args.m.now) f c.args.count ((None ≡ None) × HasTakenWords (M.key c.args.m.now) (M.words c.args.m.now) (M.words c.claim_word.new.m) f (c.loop-i.i + 1)) (HasTakenWords (M.key c.args.m.now) (M.words c.args.m.now) (M.words c.claim_word.new.m) f (c.loop-i.i + 1)) (λ d. d.1)
+          (taken_more (M.key c.loop-i.m) (M.key c.args.m.now) f c.args.count c.loop-i.i None (M.words c.args.m.now) (M.words c.loop-i.m) (M.words c.claim_word.new.m) c.loop-i.invariant.key (omega arith) c.loop-i-test.true (c.loop-i.invariant.taken h) (c.in_default.ensures.alone_claimed (c.loop-i.invariant.alone h)));
       out = λ b h. c.claim_word.ensures.out b (c.loop-i.invariant.out b h);
     }
+
+pub returns-then-i-eq0-clause-alone_claimed : goal.returns-then-i-eq0-clause-alone_claimed
+returns-then-i-eq0-clause-alone_claimed g c h =
+    let M = g.M.Moves in
+    let f : ℕ = 8 * c.args.child + c.args.first in
+    not_lost (M.key c.args.m.now) (M.words c.args.m.now) f c.args.count c.in-Some.found
+    (HasTakenWords (M.key c.args.m.now) (M.words c.args.m.now) (M.words c.claim_word.new.m) f (c.loop-i.i + 1)) _
+    (taken_more (M.key c.loop-i.m) (M.key c.args.m.now) f c.args.count c.loop-i.i (Some c.in-Some.found) (M.words c.args.m.now)
+    (M.words c.loop-i.m) (M.words c.claim_word.new.m) c.loop-i.invariant.key (omega arith) c.loop-i-test.true
+    (c.loop-i.invariant.taken h) (c.in-Some.ensures.alone_claimed (c.loop-i.invariant.alone h)))
+
+pub returns-in-Some-clause-alone_claimed : goal.returns-in-Some-clause-alone_claimed
+returns-in-Some-clause-alone_claimed g c h =
+    let M = g.M.Moves in
+    let f : ℕ = 8 * c.args.child + c.args.first in
+    not_lost (M.key c.args.m.now) (M.words c.args.m.now) f c.args.count c.in-Some.found
+    (HasTakenWords (M.key c.args.m.now) (M.words c.args.m.now) (M.words c.claim_word.new.m) f (c.loop-i.i + 1)) _
+    (taken_more (M.key c.loop-i.m) (M.key c.args.m.now) f c.args.count c.loop-i.i (Some c.in-Some.found) (M.words c.args.m.now)
+    (M.words c.loop-i.m) (M.words c.claim_word.new.m) c.loop-i.invariant.key (omega arith) c.loop-i-test.true
+    (c.loop-i.invariant.taken h) (c.in-Some.ensures.alone_claimed (c.loop-i.invariant.alone h)))

@@ -1,6 +1,6 @@
 use Rattle.std.proofs.Common.{◌≡◌, ◌+◌, ◌-◌, ◌*◌}
 use Rattle.low_frames.specs.Takes.{Counts}
-use Rattle.low_frames.specs.Words.{HoldsWords, HasClaimedWords, WasReadClear, ReadsOutside}
+use Rattle.low_frames.specs.Words.{HoldsWords, HasClaimedWords, WasReadClear, ReadsOutside, HasTakenWords, WhereFree}
 use Rattle.low_frames.proofs.wide.claim_words.Given as goal
 
 abbrev pub invariant-loop-i : goal.invariant-loop-i
@@ -15,5 +15,6 @@ invariant-loop-i g l =
       read : ReadsOutside (M.key l.fn.m) (8 * l.child + l.first) l.count (M.read l.fn.m) (M.read l.m);
       counts : Counts (7 * l.i) (M.has_missed l.fn.m) (M.view l.fn.m) (M.has_missed l.m) (M.view l.m);
       alone : M.alone l.fn.m → M.alone l.m;
+      taken : M.alone l.fn.m → WhereFree (M.key l.fn.m) (M.words l.fn.m) (8 * l.child + l.first) l.count (HasTakenWords (M.key l.fn.m) (M.words l.fn.m) (M.words l.m) (8 * l.child + l.first) l.i);
       out : (b : g.row.M-Held.Denot) → M.is_out l.fn.m b → M.is_out l.m b;
     }

@@ -7,6 +7,7 @@ use Rattle.frame_core.specs.Words.{bits_place}
 use Rattle.frame_core.specs.Moves.{ReadsBut}
 use Rattle.low_frames.proofs.TakeLemmas.{still_as_before, counts_step}
 use Rattle.low_frames.proofs.WideLemmas.{bits_apart}
+use Rattle.low_frames.proofs.WideAlone.{loaded_more}
 use Rattle.low_frames.proofs.wide.load_words.Goals as goal
 
 one_more : (key : Key) (child i found : ℕ) (words : List ℕ) (old new : ℕ → Option ℕ) → i < 8 → length words ≡ 8 → new (bits_place key (8 * child + i)) ≡ Some found → ReadsBut (bits_place key (8 * child + i)) old new → ((j : ℕ) → j < i → old (bits_place key (8 * child + j)) ≡ Some (slice_index words j)) → (j : ℕ) → j < i + 1 → new (bits_place key (8 * child + j)) ≡ Some (slice_index (slice_set words i found) j)
@@ -38,5 +39,7 @@ loop-i-preserved g c =
       size = search rules;
       counts = counts_step M.tick g.met.M.Moves.counts_at_most g.met.M.Moves.counts_up c.loop-i.i (M.has_missed c.args.m.now) (M.has_missed c.loop-i.m) (M.has_missed c.load.new.self) v u w c.loop-i.invariant.counts (ap (λ x. x.moves) e) (ap (λ x. x.lost) e) c.load.ensures.missed;
       alone = λ h. c.load.ensures.alone (c.loop-i.invariant.alone h);
+      loaded = λ h. loaded_more (M.key c.loop-i.m) (M.key c.args.m.now) c.args.child c.loop-i.i c.load.result c.loop-i.words (M.words c.args.m.now) (M.words c.loop-i.m) (M.words c.load.new.self) k c.loop-i-test.true c.loop-i.invariant.size
+          (c.load.ensures.words (g.met.M.Moves.stays_alone c.loop-i.m (c.loop-i.invariant.alone h))) (c.loop-i.invariant.loaded h);
       out = λ b h. c.load.ensures.out b (c.loop-i.invariant.out b h);
     }

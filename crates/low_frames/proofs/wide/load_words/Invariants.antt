@@ -2,6 +2,8 @@ use Rattle.std.proofs.Common.{◌≡◌, ℕ, ◌+◌, ◌*◌, ◌<◌, Some, l
 use Rattle.low_frames.specs.Takes.{Counts, IsAsBefore}
 use Rattle.std.specs.Prelude.{slice_index}
 use Rattle.frame_core.specs.Words.{bits_place}
+use Rattle.low_frames.specs.Alone.{FindsOf}
+use Rattle.low_frames.proofs.WideAlone.{AreFirstOf}
 use Rattle.low_frames.proofs.wide.load_words.Given as goal
 
 abbrev pub invariant-loop-i : goal.invariant-loop-i
@@ -15,5 +17,6 @@ invariant-loop-i g l =
       size : length l.words ≡ 8;
       counts : Counts (l.i) (M.has_missed l.fn.m) (M.view l.fn.m) (M.has_missed l.m) (M.view l.m);
       alone : M.alone l.fn.m → M.alone l.m;
+      loaded : M.alone l.fn.m → FindsOf (AreFirstOf (M.key l.fn.m) l.child l.i l.words) (M.words l.fn.m) (M.words l.m);
       out : (b : g.row.M-Held.Denot) → M.is_out l.fn.m b → M.is_out l.m b;
     }

@@ -1,0 +1,91 @@
+-- What takes and gives find and leave where nobody else steps.
+use Rattle.std.specs.Prelude.{◌≡◌, ◌≢◌, ◌⊎◌, ℕ, ◌/◌, ◌%◌, ◌<◌, ◌≤◌, List, Option, Some, IfSome, Bool, MatchBool, slice_index}
+use Rattle.frame_words.specs.Geometry.{child_frames}
+use Rattle.frame_words.specs.Runs.{IsClearRun, HasNoClearRun}
+use Rattle.frame_core.specs.declared.block.FrameBlock.{FrameBlock}
+use Rattle.frame_core.specs.declared.key.Key.{Key}
+use Rattle.frame_core.specs.Key.{frame_count}
+use Rattle.frame_core.specs.Block.{covers}
+use Rattle.frame_core.specs.Words.{entry_place, entry_of, free_of, huge_of, bit_word_of}
+use Rattle.frame_core.specs.Report.{held_at}
+use Rattle.frame_core.specs.Moves.{words_after}
+use Rattle.frame_core.specs.Steps.{charge, claim, take_huge}
+use Rattle.low_frames.specs.Takes.{IsBlockIn, IsBlockOfTree}
+
+-- no frame of the block is held
+abbrev pub IsFreeIn : Key → List ℕ → FrameBlock → Type 0
+IsFreeIn key words b = (x : ℕ) → covers b x ≡ 1 → held_at key words x ≡ 0
+
+-- the block was free and is held, and every other frame is as it was
+pub record HoldsMore (key : Key) (old new : List ℕ) (b : FrameBlock) : Type 0 where
+  pub was_free : IsFreeIn key old b
+  pub is_held : (x : ℕ) → covers b x ≡ 1 → held_at key new x ≡ 1
+  pub others : (x : ℕ) → x < frame_count key → covers b x ≡ 0
+      → held_at key new x ≡ held_at key old x
+
+-- where the words were known, they are known, and this holds of both
+abbrev pub Turns : (List ℕ → List ℕ → Type 0) → Option (List ℕ) → Option (List ℕ) → Type 0
+Turns R old new = IfSome old (λ ws. (us : List ℕ) × ((new ≡ Some us) × R ws us))
+
+-- where the words were known, they are as they were, and this holds of them
+abbrev pub FindsOf : (List ℕ → Type 0) → Option (List ℕ) → Option (List ℕ) → Type 0
+FindsOf P old new = IfSome old (λ ws. (new ≡ Some ws) × P ws)
+
+-- where the words were known, they are known, and the block was taken from what was free
+abbrev pub HasTaken : Key → Option (List ℕ) → Option (List ℕ) → FrameBlock → Type 0
+HasTaken key old new b = Turns (λ ws us. HoldsMore key ws us b) old new
+
+-- where the words were known, they are known, and the block was put back to what is free
+abbrev pub HasGiven : Key → Option (List ℕ) → Option (List ℕ) → FrameBlock → Type 0
+HasGiven key old new b = Turns (λ ws us. HoldsMore key us ws b) old new
+
+-- no block of the order in the child is free
+abbrev pub HasNoneIn : Key → ℕ → ℕ → List ℕ → Type 0
+HasNoneIn key child order words =
+    (b : FrameBlock) → IsBlockIn key child order b → ¬ IsFreeIn key words b
+
+-- no block of the order in the tree is free
+abbrev pub HasNoneOfTree : Key → ℕ → ℕ → List ℕ → Type 0
+HasNoneOfTree key tree order words =
+    (b : FrameBlock) → IsBlockOfTree key tree order b → ¬ IsFreeIn key words b
+
+-- n frames of the entry of the child, which shows no huge frame and so many free, are charged
+pub record IsCharged (key : Key) (child n : ℕ) (old new : List ℕ) : Type 0 where
+  pub no_flag : huge_of old child ≡ 0
+  pub enough : n ≤ free_of old child
+  pub words : new ≡ words_after key (charge child (slice_index old (entry_place child)) n) old
+
+-- the entry of the child shows a huge frame, or fewer free frames than n
+abbrev pub HasTooFew : ℕ → ℕ → List ℕ → Type 0
+HasTooFew child n words = (huge_of words child ≡ 1) ⊎ (free_of words child < n)
+
+-- what charging does where the words are known
+abbrev pub ChargesOf : ℕ → ℕ → Key → Bool → Option (List ℕ) → Option (List ℕ) → Type 0
+ChargesOf child n key made old new =
+    MatchBool made (Turns (IsCharged key child n) old new) (FindsOf (HasTooFew child n) old new)
+
+-- a run of 2 ^ order bits of the bit word, clear before, is set
+pub record IsClaimed (key : Key) (word bit order : ℕ) (old new : List ℕ) : Type 0 where
+  pub was_clear : IsClearRun (bit_word_of key old word) order bit
+  pub words : new ≡ words_after key (claim word (bit_word_of key old word) bit order) old
+
+-- a run of 2 ^ order bits, clear before, is set from the bit of this frame on
+abbrev pub IsClaimedIn : Key → ℕ → ℕ → List ℕ → List ℕ → Type 0
+IsClaimedIn key frame order old new = IsClaimed key (frame / 64) (frame % 64) order old new
+
+-- no run of 2 ^ order bits of the bit word is clear
+abbrev pub HasNoRun : Key → ℕ → ℕ → List ℕ → Type 0
+HasNoRun key word order words = HasNoClearRun (bit_word_of key words word) order
+
+-- no run of 2 ^ order bits of any bit word of the child is clear
+abbrev pub HasNoRunIn : Key → ℕ → ℕ → List ℕ → Type 0
+HasNoRunIn key child order words = (word : ℕ) → word / 8 ≡ child → HasNoRun key word order words
+
+-- the entry of the child, which showed it free as a whole, shows a huge frame
+pub record IsTakenHuge (key : Key) (child : ℕ) (old new : List ℕ) : Type 0 where
+  pub was_whole : entry_of old child ≡ child_frames
+  pub words : new ≡ words_after key (take_huge child (slice_index old (entry_place child))) old
+
+-- the entry of the child does not show it free as a whole
+abbrev pub IsNotWhole : ℕ → List ℕ → Type 0
+IsNotWhole child words = entry_of words child ≢ child_frames

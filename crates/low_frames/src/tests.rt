@@ -1,0 +1,5 @@
+//! What no clause says.
+
+mod answers;
+mod calls;
+mod counts;
