@@ -1,1 +1,2 @@
 pub mod PayLemmas
+pub mod InUse

@@ -102,7 +102,6 @@ only_paid_back b v w rests e = record {
   paid = ap (λ x. x.paid) e ∙ ap (more (tree_of b.frame) (2 ^ b.order)) rests.paid ∙ more_of_none (tree_of b.frame) (2 ^ b.order);
   charged = ap (λ x. x.charged) e ∙ rests.charged;
   own = ap (λ x. x.own) e ∙ rests.own;
-  filled = ap (λ x. x.filled) e ∙ rests.filled;
 }
 
 -- a view that paid for a block and handed it out has nothing in flight
@@ -114,5 +113,4 @@ rests_after_take tree order v u w rests paid e = record {
   charged = ap (λ x. x.charged) e ∙ ap (λ x. x.charged) paid ∙ rests.charged;
   reserving = ap (λ x. x.reserving) e ∙ ap (λ x. x.reserving) paid ∙ rests.reserving;
   own = ap (λ x. x.own) e ∙ ap (λ x. x.own) paid ∙ rests.own;
-  filled = ap (λ x. x.filled) e ∙ ap (λ x. x.filled) paid ∙ rests.filled;
 }

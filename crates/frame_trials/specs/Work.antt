@@ -12,7 +12,6 @@ pub record HasOnlyPaid (tree n : ℕ) (v : View) : Type 0 where
   pub paid : v.paid ≡ counted tree n
   pub charged : v.charged ≡ None
   pub own : v.own ≡ []
-  pub filled : v.filled ≡ []
 
 -- the view has a share and nothing in flight
 pub record IsAtRest (v : View) : Type 0 where
@@ -21,7 +20,6 @@ pub record IsAtRest (v : View) : Type 0 where
   pub charged : v.charged ≡ None
   pub reserving : v.reserving ≡ None
   pub own : v.own ≡ []
-  pub filled : v.filled ≡ []
 
 -- n frames of the tree are paid, and nothing else; all but the counts is as before
 abbrev pub PaysOnly : ℕ → ℕ → View → View → Type 0

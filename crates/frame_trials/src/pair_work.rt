@@ -1,7 +1,6 @@
 //! Pairs of a take and a give, with the frames of a block paid before and refunded behind.
 
 ghost use Rattle.std.specs.Prelude.{◌≡◌, ℕ, ◌^◌, ◌<◌, ◌≤◌, MatchBool};
-ghost use Rattle.frame_words.specs.Geometry.{most_children};
 ghost use Rattle.frame_core.specs.Key.{tree_count};
 ghost use Rattle.low_frames.specs.Takes.{IsAsBefore};
 ghost use Rattle.frame_table.specs.Seats.{key_at, view_of, Sits};
@@ -67,7 +66,6 @@ fn frames_of(order: u8) -> u32
 /// Takes a block in the tree, whose frames are paid, and gives it back, so many times. Answers how
 /// many takes found a block.
 pub fn pairs<M: Moves>(m: &mut M, tree: u32, order: u8, count: u64) -> u64
-    requires few { (M.key m.old).children ≤ most_children }
     requires tree { tree < tree_count (M.key m.old) }
     requires order { order ≤ 9 }
     requires paid { HasOnlyPaid tree (2 ^ order) (M.view m.old) }
@@ -86,7 +84,6 @@ pub fn pairs<M: Moves>(m: &mut M, tree: u32, order: u8, count: u64) -> u64
 
 #[inline]
 fn pair<M: Moves>(m: &mut M, tree: u32, order: u8) -> bool
-    requires few { (M.key m.old).children ≤ most_children }
     requires tree { tree < tree_count (M.key m.old) }
     requires order { order ≤ 9 }
     requires paid { HasOnlyPaid tree (2 ^ order) (M.view m.old) }

@@ -1,6 +1,6 @@
 //! A table with all frames free, and its seats, which workers take and bring back.
 
-ghost use Rattle.std.specs.Prelude.{◌≡◌, ◌*◌, ◌<◌, ◌↔◌, IfOk, IfErr, IfSome, vec_len};
+ghost use Rattle.std.specs.Prelude.{◌≡◌, ◌*◌, ◌<◌, ◌↔◌, [], ◌∷◌, ◌++◌, IfOk, IfErr, IfSome, IfNone, vec_len};
 ghost use Rattle.std.specs.List.{All};
 ghost use Rattle.frame_core.specs.Key.{key_of};
 ghost use Rattle.frame_table.specs.Seats.{key_at};
@@ -11,12 +11,12 @@ use frame_table::{CoreSeat, FrameTable, TableFault, close_table, open_sealed};
 use frame_words::{Fault, Geometry};
 use std::alloc::Global;
 
-/// Opens a table of whole children, all frames free. Refused only for want of memory.
+/// Opens a table, all frames free but those past the end. Refused only for want of memory.
 pub fn open(alloc: Global, geometry: &Geometry) -> Result<(FrameTable, Vec<CoreSeat>), Fault>
-    requires whole { geometry.now.frames ≡ 512 * geometry.now.children }
     ensures table { IfOk result (λ r. key_at r.0 ≡ key_of geometry.now) }
     ensures count { IfOk result (λ r. vec_len r.1 ≡ geometry.now.cores) }
     ensures seats { IfOk result (λ r. All (IsReady r.0) r.1.items) }
+    ensures err { IfErr result (λ e. e ≡ Fault.NoMemory) }
 {
     let image = Image::new(alloc, geometry)?;
     open_sealed(alloc, &image, &[])
@@ -26,6 +26,8 @@ pub fn open(alloc: Global, geometry: &Geometry) -> Result<(FrameTable, Vec<CoreS
 pub fn next_seat(table: &FrameTable, seats: &mut Vec<CoreSeat>) -> Option<CoreSeat>
     requires ready { All (IsReady table.now) seats.old.items }
     ensures seat { IfSome result (IsReady table.now) }
+    ensures taken { IfSome result (λ core. seats.old.items ≡ seats.new.items ++ core ∷ []) }
+    ensures none { IfNone result (seats.old.items ≡ []) }
     ensures left { All (IsReady table.now) seats.new.items }
 {
     let _ = table;
@@ -40,7 +42,9 @@ pub fn bring_back(
 ) -> Result<Vec<CoreSeat>, Fault>
     requires seat { IsReady table.now core }
     requires ready { All (IsReady table.now) seats.items }
-    ensures { IfOk result (λ all. All (IsReady table.entry.now) all.items) }
+    ensures back { IfOk result (λ all. all.items ≡ seats.items ++ core ∷ []) }
+    ensures ready { IfOk result (λ all. All (IsReady table.entry.now) all.items) }
+    ensures err { IfErr result (λ e. e ≡ Fault.NoMemory) }
 {
     let _ = table;
     let Ok(()) = seats.push(core) else {

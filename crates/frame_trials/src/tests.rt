@@ -1,2 +1,4 @@
 mod closing;
 mod crossing;
+mod ranges;
+mod reopening;

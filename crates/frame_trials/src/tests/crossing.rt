@@ -17,12 +17,12 @@ use std::thread::{Threads, join};
 
 /// What a core is to do in tree 0.
 #[derive(Clone, Copy)]
-struct Task {
-    order: u8,
+pub(super) struct Task {
+    pub(super) order: u8,
     // Pairs for which was paid once, and then tries that pay each for itself.
-    pairs: u64,
-    tries: u64,
-    ghost lawful: { order ≤ 9 },
+    pub(super) pairs: u64,
+    pub(super) tries: u64,
+    pub(super) ghost lawful: { order ≤ 9 },
 }
 
 fn run(table: &FrameTable, mut core: CoreSeat, task: Task) -> CoreSeat
@@ -50,7 +50,7 @@ fn run_and_take(table: &FrameTable, core: CoreSeat, task: Task) -> (CoreSeat, Op
     (core, block)
 }
 
-fn give_and_run(
+pub(super) fn give_and_run(
     table: &FrameTable,
     mut core: CoreSeat,
     block: Option<Block>,
@@ -93,7 +93,7 @@ fn both<R: Threads + Sync>(
 }
 
 // The words of the table, once both cores are back.
-fn closed(
+pub(super) fn closed(
     alloc: Global,
     table: FrameTable,
     seats: Vec<CoreSeat>,

@@ -1,0 +1,14 @@
+use Rattle.std.proofs.Common.{vec_len}
+use Rattle.std.specs.List.{All}
+use Rattle.frame_table.specs.Seats.{IsOut}
+use Rattle.frame_trials.specs.Work.{IsReady}
+use Rattle.frame_trials.proofs.tests.ranges.give_all.Given as goal
+
+abbrev pub invariant-loop-block : goal.invariant-loop-block
+invariant-loop-block l = record {
+  ready : IsReady l.table l.core;
+  out : All (IsOut l.table) l.blocks.items;
+}
+
+abbrev pub decreases-loop-block : goal.decreases-loop-block
+decreases-loop-block l = vec_len l.blocks
