@@ -3,20 +3,23 @@
 # same atomic steps. It needs rustc, and a built crates/llfree_bench/out/llfree_bench. The two
 # programs run in turn, RUNS times, each time with ROUNDS rounds of PAIRS pairs a thread; each
 # figure is the least of all rounds.
+# UNDER stands before both programs: with UNDER='chrt -f 10' threads stand on processors of their own from
+# the start, and other work on the machine does not slow them.
 set -eu
 here=$(cd "$(dirname "$0")" && pwd)
 program=$here/../crates/llfree_bench/out/llfree_bench
 pairs=${PAIRS:-100000}
 rounds=${ROUNDS:-20}
 runs=${RUNS:-5}
+under=${UNDER:-}
 folder=$(mktemp -d)
 trap 'rm -rf "$folder"' EXIT
 [ -x "$program" ] || { echo 'run rt run in crates/llfree_bench once: it builds the program' >&2; exit 1; }
 rustc --edition 2021 -O -o "$folder/reference" "$here/reference/pairs.rs"
 
 for _ in $(seq "$runs"); do
-    "$program" "$pairs" "$rounds" >>"$folder/ours"
-    "$folder/reference" "$pairs" "$rounds" >>"$folder/theirs"
+    $under "$program" "$pairs" "$rounds" >>"$folder/ours"
+    $under "$folder/reference" "$pairs" "$rounds" >>"$folder/theirs"
 done
 
 printf '%-10s %7s %5s %12s %12s %6s %14s\n' \

@@ -1,66 +1,190 @@
 #!/usr/bin/env python3
-"""Writes docs/DEFINITIONS.md: each definition of the specs in one sentence, the one that stands above it.
+"""Writes what has to be believed: docs/DEFINITIONS.md, each definition of the specs in the sentence that
+stands above it, and docs/believe/, for each kind of promise just the definitions that it rests on.
 
-Run it at the top of the repository. It ends with status 1 where a definition has no sentence.
+Run it at the top of the repository. It ends with status 1 where a definition has no sentence or a contract
+that is named here is missing; with `--strict` also where two definitions of the specs have one name.
 """
-import pathlib
-import re
 import sys
+import textwrap
+from collections import defaultdict
 
-TOP = pathlib.Path(__file__).resolve().parent.parent
-DEFINITION = re.compile(r"^(?:abbrev pub|unfoldable pub|pub record|pub data) (\S+)")
-INTRODUCTION = """# Definitions
+sys.dont_write_bytecode = True
+
+from spec_files import TOP, Definition, Specs, contract, said_of  # noqa: E402
+
+MOST_FIELDS = 12
+DEFINITIONS = """# Definitions
 
 What the contracts of this repository are about, word by word. Each definition stands in a file of
 `specs/`, below the sentence that is repeated here; this page is written from those files by
-`tools/definitions.py`. Whoever believes a theorem of this repository has to believe these.
+`tools/definitions.py`. What one promise rests on is told in [`docs/believe/`](believe).
 """
 
+# Each page: its file, its title, and its promises. A promise is a line and the contracts that carry it, as
+# docs/PROOFS.md names them: a function, `Type::function`, `trait Name` or `struct Name`.
+PAGES = [
+    ("program", "The program", [
+        ("what a run writes, and what it refuses", ["run_over", "run_program", "read_all"]),
+        ("what a run on one core answers", ["run_one"]),
+        ("what a trace says", ["parse_trace"]),
+        ("what an image says, rebuilt and reported", ["image_of", "image_text", "rebuild", "report"]),
+    ]),
+    ("one-thread", "The allocator for one thread", [
+        ("a take answers a free block, and is refused only where there is none", ["PlainAllocator::take"]),
+        ("a give, a block that is kept, a split", [
+            "PlainAllocator::give", "PlainAllocator::keep", "PlainAllocator::split"]),
+        ("opening and closing", ["PlainAllocator::open", "PlainAllocator::close"]),
+    ]),
+    ("tree", "Takes and gives in a tree", [
+        ("a take", ["take_small", "take_wide", "take_huge", "take_in_tree"]),
+        ("a give", ["give_low"]),
+    ]),
+    ("allocator", "The allocator that threads share", [
+        ("a take, and why it is refused", ["Allocator::take"]),
+        ("a give, a block that is kept or recalled, a split", [
+            "Allocator::give", "Allocator::keep", "Allocator::recall", "Allocator::split"]),
+        ("opening and closing", ["Allocator::open", "Allocator::open_with", "Allocator::close"]),
+        ("what survived", ["Allocator::open_at", "Survivors::adopt"]),
+    ]),
+    ("threads", "Threads", [
+        ("what words and views that agree say of blocks and counters", ["every_fit_is_safe"]),
+        ("what the counters say at the end", ["every_closing_adds_up"]),
+        ("whatever happens, words and views agree", ["every_run_fits", "every_run_from_an_opening_fits"]),
+        ("whatever stops, known blocks are held", ["every_stop_is_survived"]),
+        ("what a move is", ["trait Moves"]),
+        ("a table is opened and closed, and who owns a block", [
+            "open_table", "open_table_with", "open_table_at", "GroundSeat::part",
+            "close_table", "struct Block"]),
+    ]),
+]
 
-def crates():
-    """The crates in the order of crates.txt, lowest first."""
-    for line in (TOP / "crates.txt").read_text().splitlines():
-        line = line.split("#")[0].strip()
-        if line:
-            yield line.split(":")[0].split()[0]
+
+def wrapped(text, first, then):
+    return textwrap.fill(text, 100, initial_indent=first, subsequent_indent=then,
+                         break_long_words=False, break_on_hyphens=False)
 
 
-def definitions(path):
-    """The head of a file, and each definition with the comment above it."""
-    head, comment, found, begun = [], [], [], False
-    for line in path.read_text().splitlines():
-        if line.startswith("--"):
-            comment.append(line[2:].strip())
+def whole_list(specs):
+    """The page of all definitions."""
+    out, last = [DEFINITIONS], None
+    for (crate, name), module in specs.modules.items():
+        if not module.definitions:
             continue
-        match = DEFINITION.match(line)
-        if match:
-            found.append((match.group(1), " ".join(comment)))
-        if line.startswith("use ") and not begun:
-            head, begun = comment, True
-        comment = []
-    return " ".join(head), found
+        if crate != last:
+            out.append(f"## {crate}\n")
+            last = crate
+        rows = [f"| `{d.name}` | {d.sentence.replace('|', chr(92) + '|')} |" for d in module.definitions]
+        out.append(f"### {name}\n\n{module.head}\n\n| Word | Meaning |\n|---|---|\n" + "\n".join(rows) + "\n")
+    return "\n".join(out)
 
 
-def main():
-    out, bare = [INTRODUCTION], []
-    for crate in crates():
-        specs = TOP / "crates" / crate / "specs"
-        files = sorted(path for path in specs.rglob("*.antt") if path.name != "Lib.antt")
-        sections = []
-        for path in files:
-            head, found = definitions(path)
-            if not found:
-                continue
-            name = path.relative_to(specs).with_suffix("")
-            rows = [f"| `{word}` | {sentence.replace('|', chr(92) + '|')} |" for word, sentence in found]
-            bare += [f"{crate}/specs/{name}: {word}" for word, sentence in found if not sentence]
-            sections.append(f"### {name}\n\n{head}\n\n| Word | Meaning |\n|---|---|\n" + "\n".join(rows) + "\n")
-        if sections:
-            out.append(f"## {crate}\n\n" + "\n".join(sections))
-    (TOP / "docs" / "DEFINITIONS.md").write_text("\n".join(out))
-    for line in bare:
-        print("no sentence:", line, file=sys.stderr)
-    return 1 if bare else 0
+def roots_of(specs, names, missing):
+    """The words that these contracts speak of."""
+    words = []
+    for name in names:
+        found = contract(name)
+        if not found:
+            missing.append(name)
+            continue
+        clauses, scope, arguments = found
+        for clause in clauses:
+            words += specs.words(clause, scope, arguments)
+    return words
 
 
-sys.exit(main())
+def lines_of(definitions):
+    return sum(len(d.text) for d in definitions)
+
+
+def told(d):
+    """The lines of one definition, a record with its fields."""
+    out = [wrapped(f"`{d.name}`: {d.sentence}", "- ", "  ")]
+    fields = d.fields()
+    if len(fields) <= MOST_FIELDS:
+        out += [wrapped(f"`{name}`: {sentence or '`' + kind + '`'}", "  - ", "    ")
+                for name, sentence, kind in fields]
+    return out
+
+
+def page(specs, title, promises, missing):
+    """The page of some promises: for each what it needs beside those before it, in an order in which
+    every definition stands behind those that it uses."""
+    rows, parts, known, others = [], [], [], []
+    for line, contracts in promises:
+        seen, beside = specs.closure(roots_of(specs, contracts, missing))
+        new = [d for d in seen if d not in known]
+        known += new
+        others += beside
+        names = ", ".join(f"`{name}`" for name in contracts)
+        rows.append(f"| {line} | {names} | {len(seen)} | {len(new)} |")
+        parts += part(specs, line, new)
+    head = (f"{len(known)} definitions, in {lines_of(known)} lines of `specs/`, each behind those that it uses."
+            " Whoever believes that they say what is meant, and the checker, has the promises below. For the"
+            " first promise read its part, for another one also what stands before it, as far as it is used."
+            " The page is written by `tools/definitions.py` from the contracts and from `specs/`.")
+    out = [f"# What to believe: {title[0].lower() + title[1:]}", "", wrapped(head, "", ""), "",
+           "| Promise | Contracts | Definitions | not needed before |", "|---|---|---|---|", *rows, ""]
+    return "\n".join(out + parts + other_words(others))
+
+
+def part(specs, line, definitions):
+    """The definitions that a promise brings, module by module."""
+    if not definitions:
+        return []
+    out = [f"## {line[0].upper() + line[1:]}", ""]
+    for module in specs.in_order():
+        here = [d for d in module.definitions if d in definitions]
+        if here:
+            path = f"../../crates/{module.crate}/specs/{module.name}.antt"
+            out += [f"### [{module.crate}: {module.name}]({path})", ""]
+            for d in here:
+                out += told(d)
+            out.append("")
+    return out
+
+
+def other_words(others):
+    """Types and constants of the code, and words of libraries."""
+    code = sorted({(crate, name) for kind, crate, name in others if kind == "code"})
+    out = ["## Types and constants of the code", ""]
+    for crate, name in code:
+        said, path = said_of(crate, name)
+        link = f"[`{name}`](../../{path})" if path else f"`{name}`"
+        out.append(wrapped(f"{link}, {crate}: {said}" if said else f"{link}, {crate}", "- ", "  "))
+    library = defaultdict(set)
+    for kind, crate, name in others:
+        if kind == "library" and name[:1].isalpha():
+            library[crate].add(name)
+    out += ["", "## Words of libraries", ""]
+    for crate in sorted(library):
+        names = ", ".join(f"`{name}`" for name in sorted(library[crate], key=str.lower))
+        out.append(wrapped(f"`{crate}`: {names}", "- ", "  "))
+    return out + [""]
+
+
+def twice(specs):
+    """The names that stand for two definitions."""
+    places = defaultdict(list)
+    for d in specs.found.values():
+        places[d.name].append(f"{d.crate}/specs/{d.module}")
+    return [f"{name}: {', '.join(where)}" for name, where in sorted(places.items()) if len(where) > 1]
+
+
+def main(words):
+    specs, missing = Specs(), []
+    docs = TOP / "docs"
+    (docs / "believe").mkdir(exist_ok=True)
+    (docs / "DEFINITIONS.md").write_text(whole_list(specs))
+    for name, title, promises in PAGES:
+        (docs / "believe" / f"{name}.md").write_text(page(specs, title, promises, missing))
+    bare = [f"{d.crate}/specs/{d.module}: {d.name}" for d in specs.found.values() if not d.sentence]
+    double = twice(specs)
+    for kind, lines in [("no sentence", bare), ("no contract", missing), ("two definitions", double)]:
+        for line in lines:
+            print(f"{kind}: {line}", file=sys.stderr)
+    return 1 if bare or missing or (double and "--strict" in words) else 0
+
+
+if __name__ == "__main__":
+    sys.exit(main(sys.argv[1:]))

@@ -1,8 +1,10 @@
 //! Pairs of a take and a give inside a tree, over Rust's std atomics: the atomic steps are those of
 //! `low_frames` over a shared table, one by one, and the words stand in the same places. One line a
 //! measurement, as `llfree_bench` prints it.
+mod halves;
+
+use halves::in_halves;
 use std::sync::atomic::{AtomicU64, Ordering::SeqCst};
-use std::thread;
 use std::time::Instant;
 
 const CHILDREN: usize = 512;
@@ -24,6 +26,8 @@ struct Block {
     order: u32,
 }
 
+// Aligned, so that it shares no cache line with what a thread writes on its stack.
+#[repr(align(128))]
 struct Table {
     words: Vec<AtomicU64>,
     first_tree: usize,
@@ -238,16 +242,11 @@ fn find_run(word: u64, order: u32) -> Option<u32> {
 fn measure(is_shared: bool, order: u32, threads: usize, count: u64) -> (u128, u64) {
     let table = Table::new(threads);
     let start = Instant::now();
-    let taken = thread::scope(|scope| {
-        let workers: Vec<_> = (0..threads)
-            .map(|k| {
-                let tree = if is_shared { 0 } else { k * TREES / threads };
-                let table = &table;
-                scope.spawn(move || table.pairs(tree, order, count))
-            })
-            .collect();
-        workers.into_iter().map(|worker| worker.join().unwrap()).sum()
+    let taken = in_halves((0..threads).collect(), &|k| {
+        let tree = if is_shared { 0 } else { k * TREES / threads };
+        table.pairs(tree, order, count)
     });
+    let taken = taken.into_iter().sum();
     let spent = start.elapsed().as_nanos();
     assert!(table.is_all_free());
     (spent, taken)

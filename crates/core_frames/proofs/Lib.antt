@@ -1,15 +1,16 @@
-pub mod LabelLemmas
-pub mod ChainSteps
-pub mod ChainLists
-pub mod TableLemmas
 pub mod PlainBytes
-pub mod PlainFit
-pub mod PlainHolding
-pub mod PlainMarks
+pub mod PlainCalls
+pub mod PlainHeld
+pub mod PlainKeys
 pub mod PlainPermutations
-pub mod PlainSearch
-pub mod PlainSteps
 pub mod PlainSums
-pub mod Slots
-pub mod StoreLemmas
-pub mod Outcomes
+pub mod Carried
+pub mod KeptFrames
+pub mod Exhausted
+pub mod AloneSearch
+pub mod SearchSteps
+pub mod SplitLemmas
+pub mod SplitAlone
+pub mod RangeLemmas
+mod CoreLemmas
+mod LeftLemmas

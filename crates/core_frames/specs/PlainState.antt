@@ -1,27 +1,31 @@
 -- What a contract sees of an allocator for one thread, and what the image says that it leaves.
 use Rattle.std.specs.Prelude.{◌≡◌, ℕ, ◌<◌, List, ◌++◌}
 use Rattle.frame_words.specs.declared.geometry.Geometry.{Geometry}
-use Rattle.frame_core.specs.declared.block.FrameBlock.{FrameBlock}
-use Rattle.frame_core.specs.declared.key.Key.{Key}
-use Rattle.frame_core.specs.Key.{key_of, frame_count}
+use Rattle.frame_model.specs.declared.block.FrameBlock.{FrameBlock}
+use Rattle.frame_model.specs.declared.key.Key.{Key}
+use Rattle.frame_core.specs.Key.{sealed_key, frame_count}
+use Rattle.frame_core.specs.View.{boot_blocks}
 use Rattle.frame_core.specs.Block.{smalls, wholes}
 use Rattle.frame_core.specs.Holding.{holders}
 use Rattle.frame_core.specs.Report.{held_at}
 use Rattle.frame_core.specs.Words.{bit_of, huge_of}
 
--- the memory, the blocks that were taken and neither given nor kept, and those that were kept
+-- the memory and the ranges that its opening held back, the blocks that were taken and neither given
+-- nor kept, and those that were kept
 pub record PlainState : Type 0 where
   pub geometry : Geometry
+  pub ranges : List (ℕ × ℕ)
   pub out : List FrameBlock
   pub kept : List FrameBlock
 
 -- the key of the allocator's memory
 abbrev pub key_by : PlainState → Key
-key_by state = key_of state.geometry
+key_by state = sealed_key state.geometry state.ranges
 
--- the blocks that are held: those that are out, and those that were kept
+-- the blocks that are held: those that are out, those that were kept, and the frames that nobody is
+-- ever given, past the end and in the ranges
 abbrev pub held_by : PlainState → List FrameBlock
-held_by state = state.out ++ state.kept
+held_by state = (state.out ++ state.kept) ++ boot_blocks (key_by state)
 
 -- the words hold exactly the frames of these blocks: those of order 9 by the flag of their child,
 -- the others by the bits of their frames

@@ -1,21 +1,35 @@
-//! Blocks that a core holds: their labels, and the list of them, oldest first; and an allocator for
-//! one thread.
+//! An allocator for one thread, and the list of the blocks that a core holds.
 #![tactic(auto)]
 
-mod block_store;
-mod compaction;
-mod frame_places;
-mod label;
-mod label_chains;
-mod labelled_block;
-mod labelled_blocks;
-mod lookups;
+mod allocator;
+mod attempts;
+mod closing;
+mod drain;
+mod gives;
+mod habit;
+mod keeping;
+mod left_frames;
+mod opening;
+mod orders;
+mod own_tree;
 mod plain;
-mod removals;
+mod ranges;
+mod reopening;
+mod splits;
+mod splitting;
+mod survivors;
+mod takes;
 #[cfg(test)]
 mod tests;
+mod trees;
+mod using;
 
-pub use label::Label;
-pub use labelled_block::LabelledBlock;
-pub use labelled_blocks::LabelledBlocks;
+pub use allocator::{Allocator, Core};
+pub use closing::CloseFault;
+pub use gives::give_by;
+pub use habit::Habit;
+pub use held_blocks::{Label, LabelledBlock, LabelledBlocks};
 pub use plain::PlainAllocator;
+pub use splits::split_by;
+pub use survivors::Survivors;
+pub use takes::take_by;

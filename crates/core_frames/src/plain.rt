@@ -1,69 +1,113 @@
-//! An allocator for one thread: the words of an image, and a byte a frame for the block that begins
-//! there.
+//! An allocator for one thread: the moves over its words, which nobody else steps, and a byte a frame
+//! for the block that begins there.
 
-ghost use Rattle.std.specs.Prelude.{◌≡◌, ◌<◌, [], ◌∷◌, OnOk, OnErr, IfOk, IfErr};
+ghost use Rattle.std.specs.Prelude.{◌≡◌, ◌⊎◌, ◌↔◌, ◌<◌, [], ◌∷◌, OnOk, OnErr, IfOk, IfErr};
 ghost use Rattle.std.specs.List.{Contains};
 ghost use Rattle.std.specs.List.Sorted.{IsPermutation};
 ghost use Rattle.frame_core.specs.Holding.{IsHolding};
+ghost use Rattle.frame_core.specs.Key.{AreRanges, sealed_key};
+ghost use Rattle.frame_core.specs.Laws.{AddsUp};
+ghost use Rattle.frame_core.specs.Openings.{IsSealedOpening};
+ghost use Rattle.frame_core.specs.Plain.{Begins};
+ghost use Rattle.frame_core.specs.PlainState.{words_by, IsByItself};
 ghost use Rattle.frame_core.specs.QuietTake.{QuietTake};
+ghost use Rattle.frame_core.specs.Stops.{unsealed};
+ghost use Rattle.core_frames.specs.PlainAgree.{AreOfCores};
+ghost use Rattle.core_frames.specs.Ranges.{MayHoldBack, IsUnopenedFor};
+ghost use Rattle.core_frames.specs.Splits.{AreHalves};
 ghost use Rattle.core_frames.specs.PlainState.{key_by, held_by, HoldsExactly};
 
-mod marks;
-mod search;
 mod starts;
 
-use frame_core::{HeldBlock, Image, PlainBlock};
-use frame_words::{Fault, Geometry, TakeFault, tree_of};
-use marks::{hold_block, release_block};
-use search::{find_block, first_with_room};
+use super::drain::drain;
+use super::gives::give_by;
+use super::habit::Habit;
+use super::orders::MOST_ORDER;
+use super::ranges::may_hold_back;
+use super::splits::split_by;
+use super::takes::take_by;
+use frame_core::{HeldBlock, Image, Moves, PlainBlock, PlainMoves};
+use frame_words::{Fault, Geometry, TakeFault};
 use starts::{NONE, kept_byte, out_byte};
 use std::alloc::Global;
 use std::marker::Model;
 
-const MOST_ORDER: u8 = 9;
-
 const CHILD_FRAMES: u32 = 512;
 
-/// The frames of a memory, taken and given by one thread. Where several blocks are free, which one
-/// a take answers is not said.
-#[derive(Debug, Drop)]
+/// Above every order: no take was refused since the last give.
+const NO_ORDER: u8 = MOST_ORDER + 1;
+
+/// The frames of a memory, taken and given by one thread for each of its cores. Where several
+/// blocks are free, which one a take answers is not said.
+#[derive(Drop)]
 pub struct PlainAllocator {
-    image: Image,
+    moves: PlainMoves,
+    // What the opening held back besides the frames past the end.
+    ranges: Vec<(u32, u32)>,
     starts: Vec<u8>,
-    // The trees below have no free frame.
-    lowest: u32,
+    habits: Vec<Habit>,
+    // No block of this order or of one above is free: until a give, such a take is refused without a
+    // search.
+    refused: u8,
 }
 
 impl Model for PlainAllocator {
     ghost use Rattle.core_frames.specs.PlainBytes.{out_of, kept_of};
-    ghost use Rattle.core_frames.specs.PlainFit.{Agree};
+    ghost use Rattle.core_frames.specs.PlainAgree.{AgreeWith};
     ghost use Rattle.core_frames.specs.PlainState.{PlainState};
+    ghost use Rattle.frame_core.specs.Key.{sealed_key};
 
     ghost Value = { PlainState };
 
     ghost view = { λ a. record {
-      geometry = a.image.geometry;
+      geometry = a.moves.geometry;
+      ranges = a.ranges.items;
       out = out_of a.starts.items;
       kept = kept_of a.starts.items;
     } };
 
-    ghost invariant = { λ a. Agree a.image a.starts.items a.lowest };
+    ghost invariant = { λ a. AgreeWith (sealed_key a.moves.geometry a.ranges.items)
+        (⟦<PlainMoves as Moves>⟧.at a.moves) a.moves.words.items a.starts.items a.habits.items
+        a.refused };
 }
 
 impl PlainAllocator {
-    /// All frames are free.
+    /// All frames are free but those past the end.
     pub fn open(alloc: Global, geometry: Geometry) -> Result<PlainAllocator, Fault>
-        ensures geometry { IfOk result (λ a. a.geometry ≡ geometry) }
+        ensures geometry { IfOk result (λ a. (a.geometry ≡ geometry) × (a.ranges ≡ [])) }
         ensures nothing { IfOk result (λ a. (a.out ≡ []) × (a.kept ≡ [])) }
         ensures fault { IfErr result (λ e. e ≡ Fault.NoMemory) }
     {
+        PlainAllocator::open_with(alloc, geometry, &[])
+    }
+
+    /// The same, and nobody is ever given a frame of the ranges; a range is its first frame and how
+    /// many frames it has. `BadRange` exactly where they may not be held back, and before memory
+    /// is asked for.
+    pub fn open_with(
+        alloc: Global,
+        geometry: Geometry,
+        ranges: &[(u32, u32)],
+    ) -> Result<PlainAllocator, Fault>
+        ensures geometry { IfOk result (λ a. (a.geometry ≡ geometry) × (a.ranges ≡ ranges.now)) }
+        ensures nothing { IfOk result (λ a. (a.out ≡ []) × (a.kept ≡ [])) }
+        ensures lawful { IfOk result (λ a. MayHoldBack geometry ranges.now) }
+        ensures refused { IfErr result (IsUnopenedFor geometry ranges.now) }
+    {
+        if !may_hold_back(&geometry, ranges) {
+            return Err(Fault::BadRange);
+        }
         let frames = (CHILD_FRAMES * geometry.children()) as usize;
         let starts = vec![in alloc; NONE; frames]?;
-        let image = Image::all_free(alloc, &geometry)?;
+        let habits = habits_of(alloc, geometry)?;
+        let moves = moves_with(alloc, &geometry, ranges)?;
+        let ranges = ranges.to_vec(alloc)?;
         Ok(PlainAllocator {
-            image,
+            moves,
+            ranges,
             starts,
-            lowest: 0,
+            habits,
+            refused: NO_ORDER,
         })
     }
 
@@ -75,19 +119,23 @@ impl PlainAllocator {
         ensures out { IfOk result (λ b. IsPermutation (b ∷ self.old.out) self.new.out) }
         ensures kept { self.new.kept ≡ self.old.kept }
         ensures refused { OnErr result (self.new ≡ self.old) }
-        ensures geometry { self.new.geometry ≡ self.old.geometry }
+        ensures geometry { (self.new.geometry ≡ self.old.geometry) × (self.new.ranges ≡ self.old.ranges) }
         ensures lawful { OnOk result (IsHolding (key_by self.new) (held_by self.new)) }
     {
-        if order > MOST_ORDER {
-            return Err(TakeFault::BadOrder);
-        }
-        self.lowest = first_with_room(&self.image, self.lowest);
-        let Some(frame) = find_block(&self.image, self.lowest, order) else {
+        if order >= self.refused && order <= MOST_ORDER {
+            drain(&mut self.moves);
             return Err(TakeFault::NoBlock);
+        }
+        let mut habit = self.habits[core as usize];
+        let block = match take_by(&mut self.moves, &mut habit, order) {
+            Ok(block) => block,
+            Err(fault) => {
+                self.refused = self.refused.min(order);
+                return Err(fault);
+            }
         };
-        hold_block(&mut self.image, frame, order);
-        self.starts[frame as usize] = out_byte(order);
-        Ok(PlainBlock::of(frame, order))
+        self.starts[block.frame() as usize] = out_byte(order);
+        Ok(block)
     }
 
     /// Takes back a block that is out.
@@ -96,12 +144,14 @@ impl PlainAllocator {
         requires out { Contains self.old.out block }
         ensures out { IsPermutation (block ∷ self.new.out) self.old.out }
         ensures kept { self.new.kept ≡ self.old.kept }
-        ensures geometry { self.new.geometry ≡ self.old.geometry }
+        ensures geometry { (self.new.geometry ≡ self.old.geometry) × (self.new.ranges ≡ self.old.ranges) }
     {
         let frame = block.frame();
-        release_block(&mut self.image, frame, block.order());
+        let mut habit = self.habits[core as usize];
+        give_by(&mut self.moves, &mut habit, block);
+        self.habits[core as usize] = habit;
         self.starts[frame as usize] = NONE;
-        self.lowest = self.lowest.min(tree_of(frame));
+        self.refused = NO_ORDER;
     }
 
     /// Keeps a block that is out: it stays held, without a value that stands for it. The answer is
@@ -113,7 +163,7 @@ impl PlainAllocator {
         ensures out { IsPermutation (block ∷ self.new.out) self.old.out }
         ensures kept { IsPermutation (block ∷ self.old.kept) self.new.kept }
         ensures held { IsPermutation (held_by self.old) (held_by self.new) }
-        ensures geometry { self.new.geometry ≡ self.old.geometry }
+        ensures geometry { (self.new.geometry ≡ self.old.geometry) × (self.new.ranges ≡ self.old.ranges) }
     {
         let frame = block.frame();
         let order = block.order();
@@ -122,13 +172,75 @@ impl PlainAllocator {
         (frame, order)
     }
 
-    /// The image of the memory. Blocks that are still out count as held.
+    /// Splits a block that is out into its halves, the lower first, which are out in its place. A
+    /// block of order 0 has none, and is handed back.
+    pub fn split(
+        &mut self,
+        core: u32,
+        block: PlainBlock,
+    ) -> Result<(PlainBlock, PlainBlock), PlainBlock>
+        requires core { core < self.old.geometry.cores }
+        requires out { Contains self.old.out block }
+        ensures halves { IfOk result (λ r. AreHalves block r.0 r.1) }
+        ensures out { IfOk result (λ r.
+            IsPermutation (block ∷ self.new.out) (r.0 ∷ r.1 ∷ self.old.out)) }
+        ensures kept { self.new.kept ≡ self.old.kept }
+        ensures whole { IfErr result (λ same. (same ≡ block) × (block.order ≡ 0)) }
+        ensures unchanged { OnErr result (self.new ≡ self.old) }
+        ensures geometry { (self.new.geometry ≡ self.old.geometry) × (self.new.ranges ≡ self.old.ranges) }
+        ensures lawful { OnOk result (IsHolding (key_by self.new) (held_by self.new)) }
+    {
+        let (lower, upper) = match split_by(&mut self.moves, block) {
+            Ok(halves) => halves,
+            Err(block) => return Err(block),
+        };
+        let byte = out_byte(lower.order());
+        self.starts[lower.frame() as usize] = byte;
+        self.starts[upper.frame() as usize] = byte;
+        Ok((lower, upper))
+    }
+
+    /// The image of the memory. Blocks that are still out count as held, and what rests with a core
+    /// rests there still.
     pub fn close(self, alloc: Global) -> Result<Image, PlainAllocator>
         ensures geometry { IfOk result (λ i. i.geometry ≡ self.geometry) }
         ensures exact { IfOk result (λ i. HoldsExactly (key_by self) i.words (held_by self)) }
+        ensures counters { IfOk result (λ i. AddsUp (key_by self) i.words) }
         ensures unchanged { IfErr result (λ back. back ≡ self) }
     {
-        let PlainAllocator { image, .. } = self;
-        Ok(image)
+        match self.moves.image(alloc) {
+            Ok(image) => Ok(image),
+            Err(_) => Err(self),
+        }
     }
+}
+
+// The moves over the words of a memory that holds just what lies past the end and in the ranges.
+fn moves_with(
+    alloc: Global,
+    geometry: &Geometry,
+    ranges: &[(u32, u32)],
+) -> Result<PlainMoves, Fault>
+    requires { AreRanges 0 geometry.now.frames ranges.now }
+    ensures opens { IfOk result (λ m. IsSealedOpening (sealed_key geometry.now ranges.now)
+        (words_by m)) }
+    ensures begins { IfOk result (λ m. Begins (unsealed (sealed_key geometry.now ranges.now))
+        (words_by m) (⟦<PlainMoves as Moves>⟧.at m)) }
+    ensures company { IfOk result IsByItself }
+    ensures fault { IfErr result (λ e. e ≡ Fault.NoMemory) }
+{
+    let image = Image::with_ranges(alloc, geometry, ranges)?;
+    PlainMoves::new_at(alloc, &image)
+}
+
+// A record of gives for each core, all of them empty.
+fn habits_of(alloc: Global, geometry: Geometry) -> Result<Vec<Habit>, Fault>
+    ensures cores { IfOk result (λ habits. AreOfCores geometry.cores habits.items) }
+    ensures fault { IfErr result (λ e. e ≡ Fault.NoMemory) }
+{
+    let mut habits = Vec::new(alloc);
+    for core in 0..geometry.cores() {
+        habits.push(Habit::of(geometry, core))?;
+    }
+    Ok(habits)
 }

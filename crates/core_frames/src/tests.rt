@@ -1,5 +1,5 @@
 //! What no clause says.
 
-mod labels;
-mod lists;
+mod moves;
 mod plain;
+mod shared;

@@ -1,83 +1,54 @@
 -- What the first moves on a memory of one child ask.
-use Rattle.std.proofs.Common.{◌≡◌, ℕ, ◌+◌, ◌<◌, ◌≤◌, ◌%◌, ◌^◌, List, [], ◌∷◌, None, Some, Option, Bool, true, false}
+use Rattle.std.proofs.Common.{◌≡◌, ℕ, ◌+◌, ◌<◌, ◌≤◌, ◌^◌, List, [], ◌∷◌, None, Some, Option, Bool, true, false}
 use Rattle.std.proofs.Common.{refl, ap, sym, subst, ◌∙◌, arith}
-use Rattle.std.specs.Prelude.{MatchBool, bit_and}
+use Rattle.std.specs.Prelude.{MatchBool}
 use Rattle.std.proofs.lemmas.Bool.Decides.{nat_tests}
 use Rattle.std.proofs.lemmas.List.Elements.{All-cons, All-nil}
 use Rattle.frame_words.specs.Words.{free_in, flag_in, lane_in, lane_shift, local_word, rest_in}
 use Rattle.frame_words.proofs.WordLemmas.{rest_in-local_word}
-use Rattle.frame_core.specs.declared.block.FrameBlock.{FrameBlock}
-use Rattle.frame_core.specs.declared.key.Key.{Key}
-use Rattle.frame_core.specs.declared.view.Amount.{Amount}
-use Rattle.frame_core.specs.declared.view.View.{View}
-use Rattle.frame_core.specs.View.{count_in, counted, idle, names, LiesIn}
-use Rattle.frame_core.specs.Steps.Amounts.{more, less, more_of, less_of, rest_amount, rest_tree, Leaves}
-use Rattle.frame_core.specs.Steps.Conditions.{CanTreePay, CanCharge, CanTakeHuge, CanReserve, CanUnreserve}
-use Rattle.frame_core.specs.Steps.Conditions.{CanTreeRefund, CanSwapLocal, CanLocalPay, CanLocalRefund, CanCollect}
-use Rattle.frame_core.specs.Steps.Conditions.{CanDropFlag, CanGiveHuge}
-use Rattle.frame_core.specs.Seats.{CanHandOut}
-use Rattle.frame_core.specs.Moves.{MayOfRun, after}
-use Rattle.frame_core.specs.Steps.{claim, reserve, swap_local, local_pay, local_refund, collect, tree_refund, effect, after_load}
-use Rattle.frame_core.specs.Without.{without}
-use Rattle.frame_core.specs.Block.{block, IsBlock, smalls, wholes}
-use Rattle.frame_core.proofs.Amounts.{count_none, count_here, count_else, names_none}
-use Rattle.frame_core.proofs.Blocks.{smalls_none, wholes_none, wholes_cons, whole_here, child_is_block}
-use Rattle.frame_core.proofs.Without.{without_leaves}
+use Rattle.frame_model.specs.declared.block.FrameBlock.{FrameBlock}
+use Rattle.frame_model.specs.declared.key.Key.{Key}
+use Rattle.frame_model.specs.declared.view.Amount.{Amount}
+use Rattle.frame_model.specs.declared.view.View.{View}
+use Rattle.frame_model.specs.View.{count_in, counted, idle, names}
+use Rattle.frame_model.specs.Steps.Amounts.{more, less, more_of, less_of, rest_amount, rest_tree, Leaves}
+use Rattle.frame_model.specs.Steps.Conditions.{CanTreePay, CanTakeHuge, CanReserve, CanUnreserve}
+use Rattle.frame_model.specs.Steps.Conditions.{CanTreeRefund, CanSwapLocal, CanLocalPay, CanLocalRefund, CanCollect}
+use Rattle.frame_model.specs.Steps.Conditions.{CanDropFlag}
+use Rattle.frame_core.specs.Moves.{after}
+use Rattle.frame_model.specs.Steps.{reserve, swap_local, local_pay, local_refund, collect, tree_refund, effect, after_load}
+use Rattle.frame_model.specs.Without.{without}
+use Rattle.frame_model.specs.Block.{block, IsBlock, smalls, wholes}
+use Rattle.frame_model.proofs.Amounts.{count_none, count_here, count_else}
+use Rattle.frame_model.proofs.Blocks.{smalls_none, wholes_none, wholes_cons, whole_here, child_is_block}
+use Rattle.frame_model.proofs.Without.{without_leaves}
 
 pub made : (b : Bool) (A B : Type 0) → b ≡ true → MatchBool b A B → A
 made true A B e h = h
 made false A B e h = absurd (cc)
+
+-- what is said of an exchange that was lost
+pub lost : (b : Bool) (A B : Type 0) → b ≡ false → MatchBool b A B → B
+lost false A B e h = h
+lost true A B e h = absurd (cc)
 
 -- one frame of an amount that was none
 pub one : (a : Option Amount) → a ≡ None → 1 ≤ count_in 0 (more 0 1 a)
 unfolding count_in more counted
 one a e = subst (λ (x : Option Amount). 1 ≤ count_in 0 (more 0 1 x)) (sym e) (omega arith)
 
-pub may_pay : (key : Key) (v : View) (n k : ℕ) → 1 ≤ key.children → v.paid ≡ None → n ≡ 512
-    → k ≤ 512 → CanTreePay key v 0 n k
+pub may_pay_of : (key : Key) (v : View) (n e k : ℕ) → 1 ≤ key.children → v.paid ≡ None → n ≡ e
+    → k ≤ e → e < 32768 → CanTreePay key v 0 n k
 unfolding free_in
-may_pay key v n k some none e few = record {
+may_pay_of key v n e k some none is few low = record {
   inside = omega (arith, some);
-  enough = omega (arith, e, few);
+  enough = omega (arith, is, few, low);
   paid = λ other ne. ap (count_in other) none ∙ count_none other;
 }
 
-pub may_charge : (key : Key) (v : View) (n : ℕ) → 1 ≤ key.children → v.charged ≡ None → v.own ≡ []
-    → n ≡ 512 → CanCharge key v 0 n 1
-unfolding free_in flag_in lane_in lane_shift
-may_charge key v n some none own e = record {
-  inside = omega (arith, some);
-  no_flag = subst (λ (k : ℕ). flag_in (lane_in k 0) ≡ 0) (sym e) refl;
-  enough = subst (λ (k : ℕ). 1 ≤ free_in (lane_in k 0)) (sym e) (omega arith);
-  one_child = record {
-    charged = λ other ne. ap (count_in other) none ∙ count_none other;
-    smalls = λ x ne. ap (smalls x) own ∙ smalls_none x;
-    wholes = λ c ne. ap (wholes c) own ∙ wholes_none c;
-  };
-}
-
-pub may_claim : (key : Key) (v : View) (n : ℕ) → 1 ≤ key.children → 1 ≤ count_in 0 v.charged
-    → 1 ≤ count_in 0 v.paid → n ≡ 0 → MayOfRun key 1 (claim 0 n) v
-may_claim key v n some charged paid e = (
-  0,
-  (
-    0,
-    (
-      refl,
-      record {
-        is_run = record {
-          inside = omega (arith, some);
-          small = omega arith;
-          aligned = refl;
-          fits = omega arith;
-        };
-        clear = subst (λ (k : ℕ). bit_and k 1 ≡ 0) (sym e) refl;
-        charged = charged;
-        paid = paid;
-      },
-    ),
-  ),
-)
+pub may_pay : (key : Key) (v : View) (n k : ℕ) → 1 ≤ key.children → v.paid ≡ None → n ≡ 512
+    → k ≤ 512 → CanTreePay key v 0 n k
+may_pay key v n k some none e few = may_pay_of key v n 512 k some none e few (omega arith)
 
 -- a child's frames as an amount that was none
 pub whole : (a : Option Amount) → a ≡ None → 512 ≤ count_in 0 (more 0 512 a)
@@ -108,15 +79,6 @@ may_reserve key v n some paid reserving e = record {
   reserving = reserving;
 }
 
-pub may_unreserve : (key : Key) (v : View) (n : ℕ) → 1 ≤ key.children → v.reserving ≡ Some 0
-    → v.paid ≡ counted 0 (free_in n) → n ≡ 512 → CanUnreserve key v 0 512
-unfolding free_in
-may_unreserve key v n some reserving paid e = record {
-  inside = omega (arith, some);
-  reserving = reserving;
-  paid = omega (arith, ap (count_in 0) paid, count_here 0 (n % 32768), e);
-}
-
 -- Tree 0 is paid from and reserved, and nothing else is in flight.
 
 -- the view pays p, is reserving r, and has nothing else in flight
@@ -141,23 +103,10 @@ all_free : free_in 512 ≡ 512
 unfolding free_in
 all_free = refl
 
--- beside the flag stand 512 free frames
-pub free_beside : (seen : ℕ) → seen ≡ 33280 → free_in seen ≡ 512
-unfolding free_in
-free_beside seen e = omega (arith, e)
-
 -- what was none is none again
 pub none_again : (n : ℕ) → less 0 n (more 0 n None) ≡ None
 unfolding more less counted
 none_again n = grind (arith, nat_tests)
-
-pub all_again : less 0 512 (counted 0 512) ≡ None
-unfolding less counted
-all_again = grind (arith, nat_tests)
-
-pub all_more : more 0 512 None ≡ counted 0 512
-unfolding more
-all_more = refl
 
 pub more_none : (n : ℕ) → count_in 0 (more 0 n None) ≡ n
 unfolding more
@@ -310,29 +259,4 @@ may_drop key v some own filled = record {
   inside = omega (arith, some);
   leaves = whole_leaves key v.own some own;
   filled = λ w e. filled w (omega arith);
-}
-
-pub may_hand_out : (key : Key) (v : View) → 1 ≤ key.children → 0 < v.share → v.own ≡ block 0 9 ∷ [] → v.filled ≡ []
-    → CanHandOut key v (block 0 9) (without (block 0 9) v.own)
-may_hand_out key v some share own filled = record {
-  share = share;
-  is_block = child_is_block key 0 (omega (arith, some));
-  leaves = whole_leaves key v.own some own;
-  unfilled = λ top w e. ap (names w) filled ∙ names_none w;
-}
-
-pub may_give_huge : (key : Key) (v : View) → 1 ≤ key.children → v.paid ≡ None → v.own ≡ block 0 9 ∷ [] → v.filled ≡ []
-    → CanGiveHuge key v 0 (without (block 0 9) v.own)
-may_give_huge key v some paid own filled = record {
-  inside = omega (arith, some);
-  leaves = whole_leaves key v.own some own;
-  unfilled = λ w e. ap (names w) filled ∙ names_none w;
-  paid = λ other ne. ap (count_in other) paid ∙ count_none other;
-}
-
-pub nothing_lies : (v : View) (child : ℕ) → v.charged ≡ None → v.own ≡ [] → LiesIn v child
-nothing_lies v child charged own = record {
-  charged = λ other ne. ap (count_in other) charged ∙ count_none other;
-  smalls = λ x ne. ap (smalls x) own ∙ smalls_none x;
-  wholes = λ c ne. ap (wholes c) own ∙ wholes_none c;
 }

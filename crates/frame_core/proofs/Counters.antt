@@ -1,24 +1,26 @@
 -- Counters that are made from the bits: one entry and one tree after another, and what they say at the end.
-use Rattle.std.proofs.Common.{◌≡◌, ⊎_elim, ℕ, ◌+◌, ◌*◌, ◌/◌, ◌%◌, ◌^◌, ◌<◌, ◌≤◌, List, [], true, refl, ap, sym, ◌∙◌, arith}
+use Rattle.std.proofs.Common.{◌≡◌, ⊎_elim, ℕ, ◌+◌, ◌*◌, ◌/◌, ◌%◌, ◌^◌, ◌<◌, ◌≤◌, List, [], true, refl, ap, sym, subst, ◌∙◌, arith}
 use Rattle.std.specs.Prelude.{if◌then◌else◌, ◌||◌, nat_le}
 use Rattle.std.specs.List.{sum_by, list_any}
+use Rattle.std.specs.Option.{ForSome}
 use Rattle.std.specs.Int.{bit_at}
 use Rattle.std.proofs.lemmas.Bool.{cases_eq}
 use Rattle.std.proofs.lemmas.Bool.Decides.{nat_tests}
 use Rattle.std.proofs.lemmas.Nat.Bits.{bit_at-zero}
 use Rattle.frame_words.specs.Words.{entry_word, free_in, flag_in}
 use Rattle.frame_words.proofs.WordLemmas.{free_in-entry_word, flag_in-entry_word, entry_word-lt}
-use Rattle.frame_core.specs.declared.key.Key.{Key}
-use Rattle.frame_core.specs.Key.{frame_count, tree_count, children_in, children_of, size_of, is_in_range, is_boot_frame}
-use Rattle.frame_core.specs.Words.{tree_place, local_place, bits_place, word_count, free_of, huge_of, tree_word_of, tree_free_of, reserved_of, local_word_of, rest_of, bit_of, bit_word_of, set_of, with_entry, with_tree, with_bits, AreInRange}
-use Rattle.frame_core.specs.Image.{IsImage, IsAllFree, IsCountedBelow, HasSameBits}
-use Rattle.frame_core.specs.Rebuilt.{rebuilt_free, rebuilt_in_tree, rebuilt_bits, IsRebuilt}
-use Rattle.frame_core.specs.Openings.{IsSealedOpening}
-use Rattle.frame_core.proofs.Sums.{range_same}
-use Rattle.frame_core.proofs.Words.{entry_written, tree_written, bits_written}
-use Rattle.frame_core.proofs.ImageLemmas.{rest_of-with_entry, rest_of-with_tree, rest_of-with_bits, IsImage-with_entry, IsImage-with_tree}
-use Rattle.frame_core.proofs.Opening.{range_all}
-use Rattle.frame_core.proofs.Sets.{set_none, word_none}
+use Rattle.frame_model.specs.declared.key.Key.{Key}
+use Rattle.frame_model.specs.Key.{frame_count, tree_count, children_in, children_of, size_of, is_in_range, is_boot_frame}
+use Rattle.frame_model.specs.Words.{tree_place, local_place, bits_place, word_count, free_of, huge_of, tree_word_of, tree_free_of, reserved_of, local_word_of, rest_of, bit_of, bit_word_of, set_of, with_entry, with_tree, with_bits, AreInRange}
+use Rattle.frame_core.specs.Image.{FitsTree, IsImage, IsAllFree, IsUncounted, IsCountedBelow, HasSameBits}
+use Rattle.frame_model.specs.Rebuilt.{rebuilt_free, rebuilt_in_tree, rebuilt_bits, IsRebuilt}
+use Rattle.frame_model.specs.Openings.{IsSealedOpening}
+use Rattle.frame_model.proofs.Sums.{range_same}
+use Rattle.frame_model.proofs.Words.{entry_written, tree_written, bits_written}
+use Rattle.frame_model.proofs.OtherWords.{rest_of-with_entry, rest_of-with_tree, rest_of-with_bits}
+use Rattle.frame_core.proofs.ImageLemmas.{IsImage-with_entry, IsImage-with_tree}
+use Rattle.frame_model.proofs.Opening.{range_all}
+use Rattle.frame_model.proofs.Sets.{set_none, word_none}
 
 -- one more child
 pub record ChildCounted (key : Key) (ws : List ℕ) (c : ℕ) (new : List ℕ) : Type 0 where
@@ -36,7 +38,7 @@ child_counted key ws c n image f h all =
     let huge : flag_in e ≡ 0 = flag_in-entry_word n 0 (omega arith) in
     let w = entry_written key ws c e image.in_range h small in
     record {
-      image = IsImage-with_entry key ws image c e h small (omega arith) (omega arith);
+      image = IsImage-with_entry key ws image c e h small (omega arith) (omega arith) (λ p. huge);
       bits = w.bits;
       counted = record {
         free = λ d q. ⊎_elim
@@ -90,19 +92,40 @@ tree_counted key ws t n image f h sum few =
     }
 
 -- a bit word, before anything was counted
-pub uncounted_bits : (key : Key) (ws : List ℕ) (w n : ℕ) → AreInRange key ws → IsCountedBelow key ws 0 0
-    → w < 8 * key.children → IsCountedBelow key (with_bits key ws w n) 0 0
-uncounted_bits key ws w n r f h =
-    let b = bits_written key ws w n r h in
+pub uncounted_bits : (key : Key) (ws : List ℕ) (w n : ℕ) → IsUncounted key ws → w < 8 * key.children → n < 2 ^ 64
+    → IsUncounted key (with_bits key ws w n)
+uncounted_bits key ws w n f h fits =
+    let b = bits_written key ws w n f.in_range h in
     record {
-      free = λ d q. omega arith;
+      in_range = b.in_range fits;
       huge = λ d q. b.huge d q ∙ f.huge d q;
-      trees = λ u q. omega arith;
+      trees = λ u q. b.tree_free u q ∙ f.trees u q;
       unreserved = λ u q. b.reserved u q ∙ f.unreserved u q;
       resting = λ k q. rest_of-with_bits key ws w n k q ∙ f.resting k q;
     }
 
+-- words that are not counted yet count nothing below the first child, and are an image where the frames past the end are set
+pub uncounted_below : (key : Key) (ws : List ℕ) → IsUncounted key ws → IsCountedBelow key ws 0 0
+uncounted_below key ws f = record {
+  free = λ d q. absurd (omega arith);
+  huge = f.huge;
+  trees = λ u q. absurd (omega arith);
+  unreserved = f.unreserved;
+  resting = f.resting;
+}
+
+pub uncounted_image : (key : Key) (ws : List ℕ) → IsUncounted key ws
+    → ((x : ℕ) → key.frames ≤ x → x < frame_count key → bit_of key ws x ≡ 1) → IsImage key ws
+uncounted_image key ws f past = record {
+  in_range = f.in_range;
+  trees = λ t q. omega (arith, f.trees t q);
+  rests = λ k q. subst (λ r. ForSome r (FitsTree key)) (sym (f.resting k q)) (λ rest none. cc);
+  past_end = past;
+  cut = λ c q p. f.huge c q;
+}
+
 -- Where all children and trees are counted.
+
 module _ (key : Key) (ws : List ℕ) (r : AreInRange key ws) (f : IsCountedBelow key ws key.children (tree_count key)) where
   free_left : (c : ℕ) → c < key.children → rebuilt_free key ws c ≡ free_of ws c
   unfolding rebuilt_free

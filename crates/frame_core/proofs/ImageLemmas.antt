@@ -1,66 +1,32 @@
--- What the readers of an image say after each write, beside what the words' own lemmas say, and that an image stays one.
-use Rattle.std.proofs.Common.{◌≡◌, ◌≢◌, ⊎_elim, ℕ, zero, suc, ◌+◌, ◌*◌, ◌/◌, ◌^◌, ◌<◌, ◌≤◌, List, [], ◌∷◌, ◌++◌, length, get_or, set, refl, ap, sym, subst, ◌∙◌, arith, get_or-set_other, Option, None, Some}
+-- That an image stays one under each write, and what its readers say after a list of words was written.
+use Rattle.std.proofs.Common.{◌≡◌, ◌≢◌, ⊎_elim, ℕ, zero, suc, ◌+◌, ◌*◌, ◌/◌, ◌%◌, ◌^◌, ◌<◌, ◌≤◌, List, [], ◌∷◌, ◌++◌, length, get_or, set, refl, ap, sym, subst, ◌∙◌, arith, Option, None, Some}
 use Rattle.std.specs.Option.{ForSome}
 use Rattle.std.proofs.lemmas.Bool.{cases_eq, cases_lt}
 use Rattle.frame_words.specs.Words.{free_in, flag_in, lane_put, rest_in, local_word}
 use Rattle.frame_words.specs.declared.geometry.Geometry.{Geometry}
-use Rattle.frame_core.specs.declared.key.Key.{Key}
-use Rattle.frame_core.specs.Key.{key_of, tree_count, size_of}
-use Rattle.frame_core.specs.Words.{entry_word_count, entry_place, tree_place, local_place, bits_place, word_count, free_of, huge_of, tree_free_of, reserved_of, local_word_of, rest_of, bit_word_of, with_entry, with_tree, with_local, with_bits, IsRest}
-use Rattle.frame_core.specs.Image.{FitsTree, IsImage, with_bit_list, with_child}
-use Rattle.frame_core.proofs.Words.{entry-lt-local, entry-lt-bits, tree-lt-local, tree-lt-bits, local-lt-bits, child-has-lane, entry_written, tree_written, local_written, bits_written}
-
--- Readers of other places than the one that was written.
-
-module _ (key : Key) (ws : List ℕ) where
-  pub rest_of-with_entry : (c e k : ℕ) → c < key.children → rest_of key (with_entry ws c e) k ≡ rest_of key ws k
-  unfolding rest_of local_word_of with_entry
-  rest_of-with_entry c e k h =
-      let lane : c < 4 * entry_word_count key = child-has-lane key c h in
-      let ne : local_place key k ≢ entry_place c = (λ q. omega (arith, entry-lt-local key c k lane)) in
-      ap rest_in (rw get_or-set_other refl)
-
-  pub bit_word_of-with_entry : (c e w : ℕ) → c < key.children → bit_word_of key (with_entry ws c e) w ≡ bit_word_of key ws w
-  unfolding bit_word_of with_entry
-  bit_word_of-with_entry c e w h =
-      let lane : c < 4 * entry_word_count key = child-has-lane key c h in
-      let ne : bits_place key w ≢ entry_place c = (λ q. omega (arith, entry-lt-bits key c w lane)) in
-      rw get_or-set_other refl
-
-  pub rest_of-with_tree : (t n k : ℕ) → t < tree_count key → rest_of key (with_tree key ws t n) k ≡ rest_of key ws k
-  unfolding rest_of local_word_of with_tree
-  rest_of-with_tree t n k h =
-      let ne : local_place key k ≢ tree_place key t = (λ q. omega (arith, tree-lt-local key t k h)) in
-      ap rest_in (rw get_or-set_other refl)
-
-  pub bit_word_of-with_tree : (t n w : ℕ) → t < tree_count key → bit_word_of key (with_tree key ws t n) w ≡ bit_word_of key ws w
-  unfolding bit_word_of with_tree
-  bit_word_of-with_tree t n w h =
-      let ne : bits_place key w ≢ tree_place key t = (λ q. omega (arith, tree-lt-bits key t w h)) in
-      rw get_or-set_other refl
-
-  pub bit_word_of-with_local : (k n w : ℕ) → k < key.cores → bit_word_of key (with_local key ws k n) w ≡ bit_word_of key ws w
-  unfolding bit_word_of with_local
-  bit_word_of-with_local k n w h =
-      let ne : bits_place key w ≢ local_place key k = (λ q. omega (arith, local-lt-bits key k w h)) in
-      rw get_or-set_other refl
-
-  pub rest_of-with_bits : (w n k : ℕ) → k < key.cores → rest_of key (with_bits key ws w n) k ≡ rest_of key ws k
-  unfolding rest_of local_word_of with_bits
-  rest_of-with_bits w n k h =
-      let ne : local_place key k ≢ bits_place key w = (λ q. omega (arith, local-lt-bits key k w h)) in
-      ap rest_in (rw get_or-set_other refl)
+use Rattle.frame_model.specs.declared.key.Key.{Key}
+use Rattle.frame_model.specs.Key.{key_of, tree_count, size_of}
+use Rattle.frame_model.specs.Words.{entry_place, tree_place, local_place, bits_place, word_count, free_of, huge_of, tree_free_of, reserved_of, rest_of, bit_word_of, with_entry, with_tree, with_local, with_bits, IsRest}
+use Rattle.frame_core.specs.Image.{FitsTree, SetsPastEnd, IsImage, with_bit_list, with_child}
+use Rattle.frame_model.proofs.Words.{entry_written, tree_written, local_written, bits_written}
+use Rattle.frame_model.proofs.OtherWords.{rest_of-with_entry, bit_word_of-with_entry, rest_of-with_tree, rest_of-with_bits}
 
 -- An image stays one.
 
 module _ (key : Key) (ws : List ℕ) (i : IsImage key ws) where
-  pub IsImage-with_entry : (c e : ℕ) → c < key.children → e < 2 ^ 16 → free_in e ≤ 512 → flag_in e ≤ 1 → IsImage key (with_entry ws c e)
-  IsImage-with_entry c e h small few one =
+  pub IsImage-with_entry : (c e : ℕ) → c < key.children → e < 2 ^ 16 → free_in e ≤ 512 → flag_in e ≤ 1
+      → (key.frames < 512 * (c + 1) → flag_in e ≡ 0) → IsImage key (with_entry ws c e)
+  IsImage-with_entry c e h small few one part =
       let w = entry_written key ws c e i.in_range h small in
       record {
         in_range = w.in_range few one;
         trees = λ t q. omega (arith, w.tree_free t, i.trees t q);
         rests = λ k q. subst (λ r. ForSome r (FitsTree key)) (sym (rest_of-with_entry key ws c e k h)) (i.rests k q);
+        past_end = λ x p q. w.bits x ∙ i.past_end x p q;
+        cut = λ d q p. ⊎_elim
+            (λ s. ap (huge_of (with_entry ws c e)) s ∙ w.huge_here ∙ part (omega (arith, p, s)))
+            (λ ne. w.huge_else d ne ∙ i.cut d q p)
+            (cases_eq d c);
       }
 
   pub IsImage-with_tree : (t n : ℕ) → t < tree_count key → free_in n ≤ size_of key t → flag_in n ≤ 1 → IsImage key (with_tree key ws t n)
@@ -70,15 +36,23 @@ module _ (key : Key) (ws : List ℕ) (i : IsImage key ws) where
         in_range = w.in_range (omega arith) one;
         trees = λ u q. ⊎_elim (λ s. omega (arith, w.free_here, ap (tree_free_of key (with_tree key ws t n)) s, ap (size_of key) s)) (λ ne. omega (arith, w.free_else u ne, i.trees u q)) (cases_eq u t);
         rests = λ k q. subst (λ r. ForSome r (FitsTree key)) (sym (rest_of-with_tree key ws t n k h)) (i.rests k q);
+        past_end = λ x p q. w.bits x ∙ i.past_end x p q;
+        cut = λ d q p. w.huge d q ∙ i.cut d q p;
       }
 
-  pub IsImage-with_bits : (w n : ℕ) → w < 8 * key.children → n < 2 ^ 64 → IsImage key (with_bits key ws w n)
-  IsImage-with_bits w n h fits =
+  pub IsImage-with_bits : (w n : ℕ) → w < 8 * key.children → n < 2 ^ 64 → SetsPastEnd key w n
+      → IsImage key (with_bits key ws w n)
+  IsImage-with_bits w n h fits past =
       let b = bits_written key ws w n i.in_range h in
       record {
         in_range = b.in_range fits;
         trees = λ t q. omega (arith, b.tree_free t q, i.trees t q);
         rests = λ k q. subst (λ r. ForSome r (FitsTree key)) (sym (rest_of-with_bits key ws w n k q)) (i.rests k q);
+        past_end = λ x p q. ⊎_elim
+            (λ s. b.bits_here x s ∙ past (x % 64) (omega arith) (omega (arith, p, s)))
+            (λ ne. b.bits_else x ne ∙ i.past_end x p q)
+            (cases_eq (x / 64) w);
+        cut = λ d q p. b.huge d q ∙ i.cut d q p;
       }
 
   pub IsImage-with_local : (k n : ℕ) → k < key.cores → n ≡ local_word (rest_in n) → ForSome (rest_in n) (FitsTree key) → IsImage key (with_local key ws k n)
@@ -88,6 +62,8 @@ module _ (key : Key) (ws : List ℕ) (i : IsImage key ws) where
         in_range = l.in_range layout (is_rest (rest_in n) fits);
         trees = λ t q. omega (arith, l.tree_free t q, i.trees t q);
         rests = λ j q. ⊎_elim (λ s. subst (λ r. ForSome r (FitsTree key)) (sym (ap (rest_of key (with_local key ws k n)) s ∙ l.rest_here)) fits) (λ ne. subst (λ r. ForSome r (FitsTree key)) (sym (l.rest_else j ne)) (i.rests j q)) (cases_eq j k);
+        past_end = λ x p q. l.bits x ∙ i.past_end x p q;
+        cut = λ d q p. l.huge d q ∙ i.cut d q p;
       }
     where
       is_rest : (r : Option (ℕ × ℕ)) → ForSome r (FitsTree key) → IsRest key r
@@ -156,9 +132,10 @@ here_more : (key : Key) (new : List ℕ) (w x : ℕ) (xs : List ℕ) → bit_wor
 here_more key new w x xs first others zero h = ap (bit_word_of key new) (omega arith) ∙ first
 here_more key new w x xs first others (suc j) h = ap (bit_word_of key new) (omega arith) ∙ others j (omega arith)
 
-pub bit_list_written : (key : Key) (ws : List ℕ) (w : ℕ) (xs : List ℕ) → IsImage key ws → w + length xs ≤ 8 * key.children → ((i : ℕ) → i < length xs → get_or xs i 0 < 2 ^ 64) → BitListWritten key ws w xs (with_bit_list key ws w xs)
+pub bit_list_written : (key : Key) (ws : List ℕ) (w : ℕ) (xs : List ℕ) → IsImage key ws → w + length xs ≤ 8 * key.children → ((i : ℕ) → i < length xs → get_or xs i 0 < 2 ^ 64)
+    → ((i : ℕ) → i < length xs → SetsPastEnd key (w + i) (get_or xs i 0)) → BitListWritten key ws w xs (with_bit_list key ws w xs)
 unfolding with_bit_list
-bit_list_written key ws w [] i room fits = record {
+bit_list_written key ws w [] i room fits past = record {
   image = i;
   here = λ j q. omega arith;
   below = λ v q. refl;
@@ -169,11 +146,12 @@ bit_list_written key ws w [] i room fits = record {
   reserved = λ t q. refl;
   rests = λ k q. refl;
 }
-bit_list_written key ws w (x ∷ xs) i room fits =
+bit_list_written key ws w (x ∷ xs) i room fits past =
     let small : x < 2 ^ 64 = fits 0 (omega arith) in
     let h : w < 8 * key.children = omega arith in
     let b = bits_written key ws w x i.in_range h in
-    let l = bit_list_written key (with_bits key ws w x) (w + 1) xs (IsImage-with_bits key ws i w x h small) (omega arith) (λ j q. fits (suc j) (omega arith)) in
+    let l = bit_list_written key (with_bits key ws w x) (w + 1) xs (IsImage-with_bits key ws i w x h small (λ j q p. past 0 (omega arith) j q (omega (arith, p)))) (omega arith) (λ j q. fits (suc j) (omega arith))
+    (λ j q k l p. past (suc j) (omega arith) k l (omega (arith, p))) in
     record {
       image = l.image;
       here = here_more key (with_bit_list key (with_bits key ws w x) (w + 1) xs) w x xs (l.below w (omega arith) ∙ b.word_here) l.here;
@@ -199,10 +177,11 @@ pub record ChildWritten (key : Key) (ws : List ℕ) (c e : ℕ) (xs new : List �
   pub reserved : (t : ℕ) → t < tree_count key → reserved_of key new t ≡ reserved_of key ws t
   pub rests : (k : ℕ) → k < key.cores → rest_of key new k ≡ rest_of key ws k
 
-pub child_written : (key : Key) (ws : List ℕ) (c e : ℕ) (xs : List ℕ) → IsImage key ws → c < key.children → e < 2 ^ 16 → free_in e ≤ 512 → flag_in e ≤ 1 → length xs ≡ 8 → ((i : ℕ) → i < 8 → get_or xs i 0 < 2 ^ 64) → ChildWritten key ws c e xs (with_child key ws c e xs)
-child_written key ws c e xs i h small few one len fits =
+pub child_written : (key : Key) (ws : List ℕ) (c e : ℕ) (xs : List ℕ) → IsImage key ws → c < key.children → e < 2 ^ 16 → free_in e ≤ 512 → flag_in e ≤ 1 → (key.frames < 512 * (c + 1) → flag_in e ≡ 0) → length xs ≡ 8 → ((i : ℕ) → i < 8 → get_or xs i 0 < 2 ^ 64)
+    → ((i : ℕ) → i < 8 → SetsPastEnd key (8 * c + i) (get_or xs i 0)) → ChildWritten key ws c e xs (with_child key ws c e xs)
+child_written key ws c e xs i h small few one part len fits past =
     let w = entry_written key ws c e i.in_range h small in
-    let l = bit_list_written key (with_entry ws c e) (8 * c) xs (IsImage-with_entry key ws i c e h small few one) (omega arith) (λ j q. fits j (omega arith)) in
+    let l = bit_list_written key (with_entry ws c e) (8 * c) xs (IsImage-with_entry key ws i c e h small few one part) (omega arith) (λ j q. fits j (omega arith)) (λ j q. past j (omega arith)) in
     record {
       image = l.image;
       free_here = l.free c h ∙ w.free_here;

@@ -8,10 +8,10 @@ use Rattle.std.proofs.lemmas.List.{drop_more, take_all, length-append, length-dr
 use Rattle.std.proofs.lemmas.List.Folds.{length-flat_map-take}
 use Rattle.std.proofs.lemmas.List.Elements.{All-head, All-tail}
 use Rattle.std.proofs.lemmas.List.Concat.{flat_map-cons}
-use Rattle.frame_core.specs.declared.block.FrameBlock.{FrameBlock}
-use Rattle.frame_core.specs.Block.{block, covers}
-use Rattle.frame_core.specs.Without.{is_same, less_one, is_apart, is_inside, remains}
-use Rattle.frame_core.proofs.Without.{less_here, less_else, true_or_false}
+use Rattle.frame_model.specs.declared.block.FrameBlock.{FrameBlock}
+use Rattle.frame_model.specs.Block.{block, covers}
+use Rattle.frame_model.specs.Without.{is_same, less_one, is_apart, is_inside, remains}
+use Rattle.frame_model.proofs.Without.{less_here, less_else, true_or_false}
 
 pub remains_apart : (b : FrameBlock) (order frame : ℕ) → is_apart b (block frame order) ≡ true
     → remains b order frame ≡ block frame order ∷ []

@@ -7,13 +7,15 @@ use Rattle.std.proofs.Math.Logic.{∥∥₁_elim}
 use Rattle.std.proofs.Math.Bridge.{le_prop}
 use Rattle.std.proofs.lemmas.Bool.Decides.{nat_tests}
 use Rattle.std.proofs.lemmas.Map.Steps.{length-le_from_distinct_below}
-use Rattle.frame_core.specs.declared.key.Key.{Key}
-use Rattle.frame_core.specs.declared.view.View.{View}
-use Rattle.frame_core.specs.View.{IsViewOf}
-use Rattle.frame_core.specs.Steps.Amounts.{put_in}
-use Rattle.frame_core.specs.Plain.{AreApart, Agrees}
-use Rattle.frame_core.proofs.Amounts.{names_any}
-use Rattle.frame_core.proofs.Steps.Shared.{view_of}
+use Rattle.frame_model.specs.declared.key.Key.{Key}
+use Rattle.frame_model.specs.declared.view.View.{View}
+use Rattle.frame_core.specs.declared.plain.party.Company.{Company}
+use Rattle.frame_model.specs.View.{IsViewOf}
+use Rattle.frame_model.specs.Steps.Amounts.{put_in}
+use Rattle.frame_core.specs.Apart.{AreApart}
+use Rattle.frame_core.specs.Plain.{Agrees}
+use Rattle.frame_model.proofs.Amounts.{names_any}
+use Rattle.frame_model.proofs.Steps.Shared.{view_of}
 
 same_test : (m n : ℕ) → nat_eq m n ≡ nat_eq n m
 same_test m n = grind (arith, nat_tests)
@@ -45,14 +47,15 @@ distinct_put n ns apart = by (list_any (λ m. nat_eq m n) ns) refl
     by true h = rw h apart
     by false h = rw h (more h)
 
-few_at : (key : Key) (words bytes : List ℕ) (v : View) → Agrees key words bytes v → AreApart v.filled → length v.filled ≤ 8 * key.children
-few_at key words bytes v a d =
-    let i : IsViewOf key v = view_of key key.cores words (v ∷ a.0) 0 v a.1.0 refl in
+few_at : {them : Company} (key : Key) (words bytes : List ℕ) (v : View) → Agrees key them words bytes v → AreApart v.filled
+    → length v.filled ≤ 8 * key.children
+few_at {them = them} key words bytes v a d =
+    let i : IsViewOf key v = view_of key a.shares words (v ∷ a.others) 0 v a.fit refl in
     length-le_from_distinct_below v.filled (8 * key.children) (IsDistinct-from_apart nat_eq v.filled d)
     (λ q e. (i.filled q (omega (arith, names_any q v.filled (any_turned q v.filled ∙ e)))).inside)
 
 -- at most all bit words are filled
-pub few_filled : (key : Key) (words bytes : List ℕ) (v : View) → ∥ Agrees key words bytes v ∥₁
+pub few_filled : {them : Company} (key : Key) (words bytes : List ℕ) (v : View) → ∥ Agrees key them words bytes v ∥₁
     → ∥ AreApart v.filled ∥₁ → length v.filled ≤ 8 * key.children
-few_filled key words bytes v agrees distinct =
-    ∥∥₁_elim agrees le_prop (λ (a : Agrees key words bytes v). ∥∥₁_elim distinct le_prop (few_at key words bytes v a))
+few_filled {them = them} key words bytes v agrees distinct =
+    ∥∥₁_elim agrees le_prop (λ (a : Agrees key them words bytes v). ∥∥₁_elim distinct le_prop (few_at key words bytes v a))

@@ -1,29 +1,30 @@
 -- The words of plain moves are those of an image, sealed or not.
-use Rattle.std.proofs.Common.{◌≡◌, ℕ, ◌<◌, ◌≤◌, List, Some, Bool, get_or, refl, ap, sym, subst, ◌∙◌, arith}
+use Rattle.std.proofs.Common.{◌≡◌, ℕ, ◌<◌, ◌≤◌, List, ◌∷◌, Some, Bool, get_or, refl, ap, sym, subst, ◌∙◌, arith}
 use Rattle.std.specs.Option.{ForSome}
 use Rattle.std.proofs.Math.Logic.{∥∥₁_elim}
 use Rattle.std.proofs.Math.Bridge.{le_prop}
 use Rattle.std.proofs.Math.Nat.{ℕ_set}
 use Rattle.frame_words.specs.declared.geometry.Geometry.{Geometry}
 use Rattle.frame_words.specs.Words.{rest_in}
-use Rattle.frame_core.specs.declared.key.Key.{Key}
-use Rattle.frame_core.specs.declared.view.View.{View}
-use Rattle.frame_core.specs.Key.{tree_count, size_of}
-use Rattle.frame_core.specs.Words.{entry_place, tree_place, local_place, bits_place, word_count}
-use Rattle.frame_core.specs.Words.{entry_of, free_of, huge_of, tree_word_of, tree_free_of}
-use Rattle.frame_core.specs.Words.{reserved_of, local_word_of, rest_of, bit_word_of}
-use Rattle.frame_core.specs.Words.{count_on, IsRest, AreInRange}
+use Rattle.frame_model.specs.declared.key.Key.{Key}
+use Rattle.frame_model.specs.declared.view.View.{View}
+use Rattle.frame_core.specs.declared.plain.party.Company.{Company}
+use Rattle.frame_model.specs.Key.{tree_count, size_of}
+use Rattle.frame_model.specs.Words.{entry_place, tree_place, local_place, bits_place, word_count}
+use Rattle.frame_model.specs.Words.{entry_of, free_of, huge_of, tree_word_of, tree_free_of}
+use Rattle.frame_model.specs.Words.{reserved_of, local_word_of, rest_of, bit_word_of, bit_of}
+use Rattle.frame_model.specs.Words.{count_on, IsRest, AreInRange}
 use Rattle.frame_core.specs.Image.{FitsTree, IsImage}
 use Rattle.frame_core.specs.Plain.{plain_key, Agrees}
 use Rattle.frame_core.proofs.PlainSteps.{paid_at, paid_bound, rest_known}
-use Rattle.frame_core.proofs.Steps.Shared.{rest_of_is}
-use Rattle.frame_core.proofs.Steps.Locals.{rest-le-resting}
-use Rattle.frame_core.proofs.Amounts.{count_on_here}
+use Rattle.frame_model.proofs.Steps.Shared.{rest_of_is, past_set, part_unflagged}
+use Rattle.frame_model.proofs.Steps.Locals.{rest-le-resting}
+use Rattle.frame_model.proofs.Amounts.{count_on_here}
 
-module _ (key : Key) (words bytes : List ℕ) (v : View)
-    (agrees : ∥ Agrees key words bytes v ∥₁) where
-  range : Agrees key words bytes v → AreInRange key words
-  range a = a.1.0.words_in_range
+module _ {them : Company} (key : Key) (words bytes : List ℕ) (v : View)
+    (agrees : ∥ Agrees key them words bytes v ∥₁) where
+  range : Agrees key them words bytes v → AreInRange key words
+  range a = a.fit.words_in_range
 
   rest_is : (k : ℕ) → k < key.cores → IsRest key (rest_of key words k)
   rest_is k h =
@@ -51,7 +52,7 @@ module _ (key : Key) (words bytes : List ℕ) (v : View)
   tree_fits t h = omega (arith, paid_bound key words bytes v t agrees h)
 
   rest_fits_by : (k : ℕ) → k < key.cores → (x : ℕ × ℕ) → rest_of key words k ≡ Some x
-      → x.0 < tree_count key → Agrees key words bytes v → x.1 ≤ size_of key x.0
+      → x.0 < tree_count key → Agrees key them words bytes v → x.1 ≤ size_of key x.0
   rest_fits_by k h x e inside a =
       omega (
         arith,
@@ -66,7 +67,15 @@ module _ (key : Key) (words bytes : List ℕ) (v : View)
       (is.0, ∥∥₁_elim agrees le_prop (rest_fits_by k h x e is.0))
 
   pub image_known : IsImage key words
-  image_known = record { in_range = ranges_known; trees = tree_fits; rests = rest_fits }
+  image_known = record {
+    in_range = ranges_known;
+    trees = tree_fits;
+    rests = rest_fits;
+    past_end = λ x p h. ∥∥₁_elim agrees (ℕ_set _ _)
+        (λ (a : Agrees key them words bytes v). past_set key a.shares words (v ∷ a.others) a.fit x p h);
+    cut = λ c h p. ∥∥₁_elim agrees (ℕ_set _ _)
+        (λ (a : Agrees key them words bytes v). part_unflagged key a.shares words (v ∷ a.others) a.fit c h p);
+  }
 
 -- No word depends on the seal.
 
@@ -92,9 +101,12 @@ range_resealed geometry a b words r = record {
 
 pub image_resealed : (geometry : Geometry) (a b : Bool) (words : List ℕ)
     → IsImage (plain_key geometry a) words → IsImage (plain_key geometry b) words
-unfolding tree_place local_place tree_word_of tree_free_of local_word_of rest_of
+unfolding tree_place local_place bits_place entry_place tree_word_of tree_free_of local_word_of rest_of bit_word_of
+    bit_of entry_of huge_of
 image_resealed geometry a b words i = record {
   in_range = range_resealed geometry a b words i.in_range;
   trees = i.trees;
   rests = i.rests;
+  past_end = i.past_end;
+  cut = i.cut;
 }

@@ -12,23 +12,23 @@ use mir.Syntax.{Width}
 use mir.Val.{bits}
 use Rattle.std.specs.Int.Count.{ones, count_trailing_zeros}
 use Rattle.std.proofs.lemmas.Nat.Bits.{bit_at-trailing_zeros}
-use Rattle.frame_core.proofs.Bits.{ones_zero, ones_run, bit_at_run_inside, bit_at_run_below}
+use Rattle.frame_model.proofs.Bits.{ones_zero, ones_run, bit_at_run_inside, bit_at_run_below}
 use Rattle.std.proofs.lemmas.List.Sums.{sum_by-cons}
 use Rattle.std.proofs.lemmas.List.Elements.{All-head, All-tail}
-use Rattle.frame_core.specs.declared.block.FrameBlock.{FrameBlock}
-use Rattle.frame_core.specs.declared.key.Key.{Key}
-use Rattle.frame_core.specs.declared.view.View.{View}
-use Rattle.frame_core.specs.Key.{child_of}
-use Rattle.frame_core.specs.Block.{IsBlock, small_at, whole_at, smalls, wholes}
-use Rattle.frame_core.specs.Words.{run, entry_place, bits_place, huge_of}
-use Rattle.frame_words.specs.Words.{lane_in, flag_in}
-use Rattle.frame_core.specs.View.{small_in, whole_in, LiesIn, IsViewOf}
-use Rattle.frame_core.specs.Fit.{Fit}
+use Rattle.frame_model.specs.declared.block.FrameBlock.{FrameBlock}
+use Rattle.frame_model.specs.declared.key.Key.{Key}
+use Rattle.frame_model.specs.declared.view.View.{View}
+use Rattle.frame_core.specs.declared.plain.party.Company.{Company}
+use Rattle.frame_model.specs.Key.{child_of}
+use Rattle.frame_model.specs.Block.{IsBlock, small_at, whole_at, smalls, wholes}
+use Rattle.frame_model.specs.Words.{run, bits_place, huge_of}
+use Rattle.frame_model.specs.View.{small_in, whole_in, LiesIn, IsViewOf}
+use Rattle.frame_model.specs.Fit.{Fit}
 use Rattle.frame_core.specs.Plain.{IsLow, Agrees}
-use Rattle.frame_core.proofs.Sums.{sum_plus, range_same, range_at}
-use Rattle.frame_core.proofs.Opening.{range_all}
-use Rattle.frame_core.proofs.Blocks.{smalls_cons, wholes_cons, in_block}
-use Rattle.frame_core.proofs.Steps.Shared.{view_of, at-le-total, entry_of_is, huge_of_is, free_is, flag_is, bit_word_is}
+use Rattle.frame_model.proofs.Sums.{sum_plus, range_same, range_at}
+use Rattle.frame_model.proofs.Opening.{range_all}
+use Rattle.frame_model.proofs.Blocks.{smalls_cons, wholes_cons, in_block}
+use Rattle.frame_model.proofs.Steps.Shared.{view_of, at-le-total, bit_word_is}
 
 pub whole_of : (key : Key) (d : FrameBlock) → IsBlock key d → 9 ≤ d.order → whole_at (child_of d.frame) d ≡ 1
 unfolding whole_at
@@ -105,10 +105,11 @@ module _ (key : Key) (c a n : ℕ) (begins : a ≡ 512 * c) (ends : n ≡ 512) w
       let here = lies d b (λ x ne. omega (arith, small x ne, smalls_cons x d ds)) (λ e ne. omega (arith, whole e ne, wholes_cons e d ds)) in
       inr (omega (arith, here, b.inside, pow_pos d.order))
 
-  few_in : (words bytes : List ℕ) (v : View) (s : 0 < v.share) (g : Agrees key words bytes v) → LiesIn v c → length v.own ≤ 512
-  few_in words bytes v share g l =
-      let fit : Fit key key.cores words (v ∷ g.0) = g.1.0 in
-      let i : IsViewOf key v = view_of key key.cores words (v ∷ g.0) 0 v fit refl in
+  few_in : {them : Company} (words bytes : List ℕ) (v : View) (s : 0 < v.share) (g : Agrees key them words bytes v) → LiesIn v c
+      → length v.own ≤ 512
+  few_in {them = them} words bytes v share g l =
+      let fit : Fit key g.shares words (v ∷ g.others) = g.fit in
+      let i : IsViewOf key v = view_of key g.shares words (v ∷ g.others) 0 v fit refl in
       let all = few v.own i.own l.smalls l.wholes in
       ⊎_elim
       (λ none. omega (arith, none))
@@ -116,10 +117,10 @@ module _ (key : Key) (c a n : ℕ) (begins : a ≡ 512 * c) (ends : n ≡ 512) w
       let apart : (x : ℕ) → a ≤ x → x < a + n → smalls x v.own + huge_of words c ≤ 1 = (λ x low high.
       let e : child_of x ≡ c = omega (arith, begins, ends, low, high) in
       let f = fit.apart x (omega (arith, inside, begins, ends, high)) in
-      let p = at-le-total key key.cores words (v ∷ g.0) 0 v fit refl (small_in x) in
+      let p = at-le-total key g.shares words (v ∷ g.others) 0 v fit refl (small_in x) in
       omega (arith, f, p, ap (huge_of words) e)) in
       let whole : wholes c v.own ≤ huge_of words c =
-      omega (arith, fit.wholes c inside, at-le-total key key.cores words (v ∷ g.0) 0 v fit refl (whole_in c)) in
+      omega (arith, fit.wholes c inside, at-le-total key g.shares words (v ∷ g.others) 0 v fit refl (whole_in c)) in
       ⊎_elim
       (λ none.
       let most = range_few (λ x. smalls x v.own) a n (λ x low high. omega (arith, apart x low high)) in
@@ -131,47 +132,29 @@ module _ (key : Key) (c a n : ℕ) (begins : a ≡ 512 * c) (ends : n ≡ 512) w
       (inside_or_none v.own i.own l.smalls l.wholes)
 
 -- what a view has in flight is at most 512 blocks
-few_at : (key : Key) (words bytes : List ℕ) (v : View) → 0 < v.share → Agrees key words bytes v → length v.own ≤ 512
-few_at key words bytes v share g =
-    let i : IsViewOf key v = view_of key key.cores words (v ∷ g.0) 0 v g.1.0 refl in
+few_at : {them : Company} (key : Key) (words bytes : List ℕ) (v : View) → 0 < v.share → Agrees key them words bytes v → length v.own ≤ 512
+few_at {them = them} key words bytes v share g =
+    let i : IsViewOf key v = view_of key g.shares words (v ∷ g.others) 0 v g.fit refl in
     few_in key (i.one_child share).0 (512 * (i.one_child share).0) 512 refl refl words bytes v share g (i.one_child share).1
 
-pub few_own : (key : Key) (words bytes : List ℕ) (v : View) → ∥ Agrees key words bytes v ∥₁ → 0 < v.share → length v.own ≤ 512
-few_own key words bytes v agrees share = ∥∥₁_elim agrees le_prop (few_at key words bytes v share)
+pub few_own : {them : Company} (key : Key) (words bytes : List ℕ) (v : View) → ∥ Agrees key them words bytes v ∥₁ → 0 < v.share
+    → length v.own ≤ 512
+few_own {them = them} key words bytes v agrees share = ∥∥₁_elim agrees le_prop (few_at key words bytes v share)
 
-low_at : (key : Key) (words bytes : List ℕ) (v : View) → key.children ≤ 4096 → Agrees key words bytes v → All IsLow v.own
-low_at key words bytes v small a = λ k d h.
-    let i : IsViewOf key v = view_of key key.cores words (v ∷ a.0) 0 v a.1.0 refl in
+low_at : {them : Company} (key : Key) (words bytes : List ℕ) (v : View) → key.children ≤ 4096 → Agrees key them words bytes v
+    → All IsLow v.own
+low_at {them = them} key words bytes v small a = λ k d h.
+    let i : IsViewOf key v = view_of key a.shares words (v ∷ a.others) 0 v a.fit refl in
     let b = i.own k d h in
     (b.order, omega (arith, b.inside, small))
 
 -- each block in flight lies low
-pub low_own : (key : Key) (words bytes : List ℕ) (v : View) → key.children ≤ 4096 → ∥ Agrees key words bytes v ∥₁ → All IsLow v.own
-low_own key words bytes v small agrees = λ k d h. (
-  ∥∥₁_elim agrees le_prop (λ (a : Agrees key words bytes v). (low_at key words bytes v small a k d h).0),
-  ∥∥₁_elim agrees le_prop (λ (a : Agrees key words bytes v). (low_at key words bytes v small a k d h).1),
+pub low_own : {them : Company} (key : Key) (words bytes : List ℕ) (v : View) → key.children ≤ 4096
+    → ∥ Agrees key them words bytes v ∥₁ → All IsLow v.own
+low_own {them = them} key words bytes v small agrees = λ k d h. (
+  ∥∥₁_elim agrees le_prop (λ (a : Agrees key them words bytes v). (low_at key words bytes v small a k d h).0),
+  ∥∥₁_elim agrees le_prop (λ (a : Agrees key them words bytes v). (low_at key words bytes v small a k d h).1),
 )
-
--- the entry of a huge frame in flight has its flag
-huge_at : (key : Key) (words bytes : List ℕ) (v : View) (c : ℕ) → c < key.children → 0 < wholes c v.own
-    → Agrees key words bytes v → 32768 ≤ lane_in (get_or words (entry_place c) 0) c
-huge_at key words bytes v c inside some a =
-    let e = entry_of_is words c in
-    let n = lane_in (get_or words (entry_place c) 0) c in
-    omega (
-      arith,
-      a.1.0.wholes c inside,
-      at-le-total key key.cores words (v ∷ a.0) 0 v a.1.0 refl (whole_in c),
-      some,
-      huge_of_is words c,
-      ap flag_in e,
-      free_is n,
-      flag_is n,
-    )
-
-pub huge_entry : (key : Key) (words bytes : List ℕ) (v : View) (c : ℕ) → ∥ Agrees key words bytes v ∥₁
-    → c < key.children → 0 < wholes c v.own → 32768 ≤ lane_in (get_or words (entry_place c) 0) c
-huge_entry key words bytes v c agrees inside some = ∥∥₁_elim agrees le_prop (huge_at key words bytes v c inside some)
 
 -- The bits of a run tell which run it is.
 
@@ -207,10 +190,10 @@ run_order mask from order low e =
     (ap (λ n. bit_at n order) is ∙ bit_at_run_inside order 1 order (omega arith) (omega arith))
     (λ i h. ap (λ n. bit_at n i) is ∙ bit_at_run_below order 1 i h)
 
-word_at : (key : Key) (words bytes : List ℕ) (v : View) (w : ℕ) → w < 8 * key.children → Agrees key words bytes v
+word_at : {them : Company} (key : Key) (words bytes : List ℕ) (v : View) (w : ℕ) → w < 8 * key.children → Agrees key them words bytes v
     → get_or words (bits_place key w) 0 < 2 ^ 64
-word_at key words bytes v w inside a = omega (arith, a.1.0.words_in_range.bits w inside, bit_word_is key words w)
+word_at {them = them} key words bytes v w inside a = omega (arith, a.fit.words_in_range.bits w inside, bit_word_is key words w)
 
-pub word_low : (key : Key) (words bytes : List ℕ) (v : View) (w : ℕ) → ∥ Agrees key words bytes v ∥₁
+pub word_low : {them : Company} (key : Key) (words bytes : List ℕ) (v : View) (w : ℕ) → ∥ Agrees key them words bytes v ∥₁
     → w < 8 * key.children → get_or words (bits_place key w) 0 < 2 ^ 64
-word_low key words bytes v w agrees inside = ∥∥₁_elim agrees le_prop (word_at key words bytes v w inside)
+word_low {them = them} key words bytes v w agrees inside = ∥∥₁_elim agrees le_prop (word_at key words bytes v w inside)

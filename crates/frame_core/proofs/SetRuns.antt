@@ -8,13 +8,13 @@ use Rattle.std.proofs.lemmas.Bool.{cases_eq, cases_lt}
 use Rattle.std.proofs.lemmas.Bool.Decides.{nat_tests}
 use Rattle.std.proofs.lemmas.Nat.Bits.{bit_at_or, bit_at-lt}
 use Rattle.std.proofs.lemmas.List.Folds.{list_any_more}
-use Rattle.frame_core.specs.declared.key.Key.{Key}
-use Rattle.frame_core.specs.Key.{frame_count, is_in_range, is_boot_frame, AreRanges}
-use Rattle.frame_core.specs.Words.{bits_place, run, bit_of, bit_word_of, with_bits, AreInRange}
+use Rattle.frame_model.specs.declared.key.Key.{Key}
+use Rattle.frame_model.specs.Key.{frame_count, is_in_range, is_boot_frame, AreRanges}
+use Rattle.frame_model.specs.Words.{bits_place, run, bit_of, bit_word_of, with_bits, AreInRange}
 use Rattle.frame_core.specs.Image.{SetsRun, SetsRanges}
-use Rattle.frame_core.proofs.Bits.{bit_at_run_inside, bit_at_run_below, bit_at_run_above}
-use Rattle.frame_core.proofs.Words.{bits_written}
-use Rattle.frame_core.proofs.Steps.Shared.{bit_is}
+use Rattle.frame_model.proofs.Bits.{bit_at_run_inside, bit_at_run_below, bit_at_run_above}
+use Rattle.frame_model.proofs.Words.{bits_written}
+use Rattle.frame_model.proofs.Steps.Shared.{bit_is}
 
 -- a run of ones set in one bit word: the frames of the run are set, and each other is as before
 pub run_set : (key : Key) (ws : List ℕ) (w low high : ℕ) → AreInRange key ws → w < 8 * key.children
@@ -148,3 +148,12 @@ boot_set key ranges from end ws mid new first last clear run more x h =
     (λ (lt : x < from). more x ∙ ap P (run.below x lt ∙ clear x) ∙ no_boot_frame key.frames x any (omega arith))
     (λ (ge : from ≤ x). more x ∙ ap P (run.inside x ge (omega arith)) ∙ boot_frame key.frames x any (omega arith))
     (cases_lt x from)
+
+-- a frame that was set stays set
+pub range_stays : (key : Key) (ranges : List (ℕ × ℕ)) (ws new : List ℕ) → SetsRanges key ranges ws new → (x : ℕ)
+    → bit_of key ws x ≡ 1 → bit_of key new x ≡ 1
+range_stays key ranges ws new more x set = more x ∙ by (list_any (is_in_range x) ranges)
+  where
+    by : (b : Bool) → (if b then 1 else bit_of key ws x) ≡ 1
+    by true = refl
+    by false = set

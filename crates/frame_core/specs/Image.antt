@@ -1,12 +1,14 @@
 -- What an image holds: a geometry, and the words of a table of it in one list.
-use Rattle.std.specs.Prelude.{◌≡◌, ℕ, ◌+◌, ◌*◌, ◌<◌, ◌≤◌, List, [], ◌∷◌, None, if◌then◌else◌}
-use Rattle.std.specs.List.{sum_by, list_any}
+use Rattle.std.specs.Prelude.{◌≡◌, ℕ, ◌+◌, ◌-◌, ◌*◌, ◌<◌, ◌≤◌, List, [], ◌∷◌, ◌++◌, map, min, replicate, None, if◌then◌else◌}
+use Rattle.std.specs.List.{sum_by, list_any, range_with_len}
+use Rattle.std.specs.Int.{bit_at}
 use Rattle.std.specs.Option.{ForSome}
 use Rattle.frame_words.specs.declared.geometry.Geometry.{Geometry}
-use Rattle.frame_core.specs.declared.key.Key.{Key}
-use Rattle.frame_core.specs.Key.{key_of, tree_count, children_of, size_of, is_in_range}
-use Rattle.frame_core.specs.Words.{free_of, huge_of, tree_free_of, reserved_of, rest_of}
-use Rattle.frame_core.specs.Words.{bit_word_of, bit_of, set_of, with_entry, with_bits, AreInRange}
+use Rattle.frame_model.specs.declared.key.Key.{Key}
+use Rattle.frame_model.specs.Key.{key_of, frame_count, tree_count, children_of, size_of, is_in_range}
+use Rattle.frame_model.specs.Words.{free_of, huge_of, tree_free_of, reserved_of, rest_of}
+use Rattle.frame_model.specs.Words.{bit_word_of, bit_of, set_of, with_entry, with_bits, AreInRange}
+use Rattle.frame_model.specs.Words.{run, bits_place}
 
 -- an image as a value
 pub record Contents : Type 0 where
@@ -21,11 +23,28 @@ key_in image = key_of image.geometry
 abbrev pub FitsTree : Key → ℕ × ℕ → Type 0
 FitsTree key rest = (rest.0 < tree_count key) × (rest.1 ≤ size_of key rest.0)
 
--- the words are those of a table, and no counter exceeds its tree
+-- the bits of a bit word that lie past the end, as ones
+unfoldable pub bits_past : Key → ℕ → ℕ
+bits_past key word = run (min 64 (key.frames - 64 * word)) (64 - min 64 (key.frames - 64 * word))
+
+-- the words of an image of which no part is known yet: all are 0, but the bits past the end are set
+unfoldable pub blank_words : Key → List ℕ
+blank_words key =
+    replicate (bits_place key 0) 0 ++ map (bits_past key) (range_with_len 0 (8 * key.children))
+
+-- the bits of a bit word that lie past the end are set in this one
+abbrev pub SetsPastEnd : Key → ℕ → ℕ → Type 0
+SetsPastEnd key word bits = (i : ℕ) → i < 64 → key.frames ≤ 64 * word + i → bit_at bits i ≡ 1
+
+-- the words are those of a table, no counter exceeds its tree, and nothing past the end is free
 pub record IsImage (key : Key) (words : List ℕ) : Type 0 where
   pub in_range : AreInRange key words
   pub trees : (t : ℕ) → t < tree_count key → tree_free_of key words t ≤ size_of key t
   pub rests : (k : ℕ) → k < key.cores → ForSome (rest_of key words k) (FitsTree key)
+  -- the frames past the end are set
+  pub past_end : (x : ℕ) → key.frames ≤ x → x < frame_count key → bit_of key words x ≡ 1
+  -- a child that is not whole has no flag
+  pub cut : (c : ℕ) → c < key.children → key.frames < 512 * (c + 1) → huge_of words c ≡ 0
 
 -- no frame is held, nothing is reserved, and every counter says so
 pub record IsAllFree (key : Key) (words : List ℕ) : Type 0 where
@@ -33,6 +52,14 @@ pub record IsAllFree (key : Key) (words : List ℕ) : Type 0 where
   pub huge : (c : ℕ) → c < key.children → huge_of words c ≡ 0
   pub bits : (w : ℕ) → w < 8 * key.children → bit_word_of key words w ≡ 0
   pub trees : (t : ℕ) → t < tree_count key → tree_free_of key words t ≡ size_of key t
+  pub unreserved : (t : ℕ) → t < tree_count key → reserved_of key words t ≡ 0
+  pub resting : (k : ℕ) → k < key.cores → rest_of key words k ≡ None
+
+-- nothing is counted, whole or reserved yet: bits alone may be set
+pub record IsUncounted (key : Key) (words : List ℕ) : Type 0 where
+  pub in_range : AreInRange key words
+  pub huge : (c : ℕ) → c < key.children → huge_of words c ≡ 0
+  pub trees : (t : ℕ) → t < tree_count key → tree_free_of key words t ≡ 0
   pub unreserved : (t : ℕ) → t < tree_count key → reserved_of key words t ≡ 0
   pub resting : (k : ℕ) → k < key.cores → rest_of key words k ≡ None
 

@@ -4,12 +4,12 @@ use Rattle.std.proofs.Common.{refl, arith, eq-eqb}
 use Rattle.std.proofs.Math.Logic.{∥∥₁_elim}
 use Rattle.std.proofs.Math.Bridge.{le_prop}
 use Rattle.frame_words.specs.declared.geometry.Geometry.{Geometry}
-use Rattle.frame_core.specs.declared.block.FrameBlock.{FrameBlock}
-use Rattle.frame_core.specs.declared.key.Key.{Key}
-use Rattle.frame_core.specs.declared.view.View.{View}
-use Rattle.frame_core.specs.Key.{AreSizes}
-use Rattle.frame_core.specs.Block.{wholes}
-use Rattle.frame_core.specs.View.{names, IsViewOf}
+use Rattle.frame_model.specs.declared.block.FrameBlock.{FrameBlock}
+use Rattle.frame_model.specs.declared.key.Key.{Key}
+use Rattle.frame_model.specs.declared.view.View.{View}
+use Rattle.frame_model.specs.Key.{AreSizes}
+use Rattle.frame_model.specs.Block.{wholes}
+use Rattle.frame_model.specs.View.{names, IsViewOf}
 use Rattle.frame_core.specs.Moves.{HasSizes}
 
 -- a key of the sizes of a geometry has lawful sizes

@@ -2,18 +2,18 @@
 use Rattle.std.specs.Prelude.{◌≡◌, ◌≢◌, ℕ, ◌+◌, ◌*◌, ◌^◌, ◌<◌, ◌≤◌, List, Option, Some, IfSome, Bool, MatchBool, slice_index, slice_set}
 use Rattle.frame_words.specs.declared.geometry.Geometry.{Geometry}
 use Rattle.frame_words.specs.Words.{free_in, flag_in, lane_in, rest_in}
-use Rattle.frame_core.specs.declared.block.FrameBlock.{FrameBlock}
-use Rattle.frame_core.specs.declared.key.Key.{Key}
-use Rattle.frame_core.specs.declared.place.Place.{Place}
-use Rattle.frame_core.specs.declared.place.Place.TheVariants.{Entry, Bits, Tree, Local}
-use Rattle.frame_core.specs.declared.view.View.{View}
-use Rattle.frame_core.specs.Key.{tree_count}
-use Rattle.frame_core.specs.Block.{block}
-use Rattle.frame_core.specs.Words.{run, entry_place, tree_place, local_place, bits_place, IsRest}
-use Rattle.frame_core.specs.View.{IsIdle}
-use Rattle.frame_core.specs.Steps.{Kind, release, give_huge, drop_flag, place, turned, effect, May}
-use Rattle.frame_core.specs.Seats.{Cut, hand_out}
-use Rattle.frame_core.specs.Without.{without}
+use Rattle.frame_model.specs.declared.block.FrameBlock.{FrameBlock}
+use Rattle.frame_model.specs.declared.key.Key.{Key}
+use Rattle.frame_model.specs.declared.place.Place.{Place}
+use Rattle.frame_model.specs.declared.place.Place.TheVariants.{Entry, Bits, Tree, Local}
+use Rattle.frame_model.specs.declared.view.View.{View}
+use Rattle.frame_model.specs.Key.{tree_count}
+use Rattle.frame_model.specs.Block.{block}
+use Rattle.frame_model.specs.Words.{run, entry_place, tree_place, local_place, bits_place, IsRest}
+use Rattle.frame_model.specs.View.{IsIdle}
+use Rattle.frame_model.specs.Steps.{Kind, release, give_huge, drop_flag, place, turned, effect}
+use Rattle.frame_model.specs.Seats.{Cut, hand_out}
+use Rattle.frame_model.specs.Without.{without}
 
 -- the sizes that the key names
 abbrev pub HasSizes : Key → Geometry → Type 0
@@ -68,10 +68,9 @@ hand_out_block b = hand_out b (without b)
 abbrev pub after : (ℕ → ℕ) → Kind → View → View
 after t kind v = effect t kind 0 v
 
--- the step of some run with these bits may be made
-abbrev pub MayOfRun : Key → ℕ → (ℕ → ℕ → Kind) → View → Type 0
-MayOfRun key mask kind v =
-    (from : ℕ) × ((order : ℕ) × ((mask ≡ run from (2 ^ order)) × May key (kind from order) v))
+-- this holds of some run with these bits
+abbrev pub OfSomeRun : ℕ → (ℕ → ℕ → Type 0) → Type 0
+OfSomeRun mask P = (from : ℕ) × ((order : ℕ) × ((mask ≡ run from (2 ^ order)) × P from order))
 
 -- this holds of the run with these bits
 abbrev pub OfRun : ℕ → (ℕ → ℕ → Type 0) → Type 0

@@ -1,26 +1,21 @@
--- The state of moves that one thread makes alone. No public clause cites this module.
-use Rattle.std.specs.Prelude.{◌≡◌, ℕ, pos, ◌+◌, ◌^◌, ◌<◌, ◌≤◌, List, [], ◌∷◌, length, Option, Some, Bool, false, min, slice_index, slice_index_or, nat_eq, if◌then◌else◌}
+-- The state of plain moves: the own view, those who do not step now, and words that fit with all.
+use Rattle.std.specs.Prelude.{◌≡◌, ◌≢◌, ◌⊎◌, ℕ, pos, ◌+◌, ◌*◌, ◌/◌, ◌^◌, ◌<◌, ◌≤◌, List, [], ◌∷◌, length, Option, Some, None, Bool, false, min, slice_get, slice_index, nat_eq, if◌then◌else◌}
 use Rattle.std.specs.List.{sum_by, All}
-use Rattle.std.proofs.Common.{zero, suc, refl, subst, arith}
-use Rattle.std.proofs.Math.Logic.{∥∥₁_elim, ∥∥₁_map}
-use Rattle.std.proofs.Math.Bridge.{le_prop}
-use Rattle.std.proofs.Math.Nat.{ℕ_set}
-use Rattle.std.proofs.lemmas.List.Elements.{All-head, All-tail, All-cons, All-nil}
-use Rattle.std.proofs.lemmas.List.Sums.{sum_by-cons}
+use Rattle.std.specs.VecDeque.{deque_capacity}
 use lib.ListN.{get_elem?}
 use mathlib.Core.Option.{some}
 use Rattle.frame_words.specs.declared.geometry.Geometry.{Geometry}
-use Rattle.frame_core.specs.declared.block.FrameBlock.{FrameBlock}
-use Rattle.frame_core.specs.declared.key.Key.{Key}
-use Rattle.frame_core.specs.declared.view.Amount.{Amount}
-use Rattle.frame_core.specs.declared.view.View.{View}
-use Rattle.frame_core.specs.Key.{key_of, AreSizes}
-use Rattle.frame_core.specs.Block.{IsBlock}
-use Rattle.frame_core.specs.View.{idle, holder, ground_with, fixed_ground, IsViewOf}
-use Rattle.frame_core.specs.Fit.{total, Fit}
-use Rattle.frame_core.specs.Openings.{held_blocks}
-use Rattle.frame_core.specs.Moves.{IsAtRest}
-use Rattle.frame_core.specs.Movers.{sizes_of, fills_none}
+use Rattle.frame_model.specs.declared.block.FrameBlock.{FrameBlock}
+use Rattle.frame_model.specs.declared.key.Key.{Key}
+use Rattle.frame_model.specs.declared.view.Amount.{Amount}
+use Rattle.frame_model.specs.declared.view.View.{View}
+use Rattle.frame_core.specs.declared.plain.party.Party.{Party}
+use Rattle.frame_core.specs.declared.plain.party.Company.{Company}
+use Rattle.frame_model.specs.Key.{key_of, child_of}
+use Rattle.frame_model.specs.View.{idle, holder, ground_with}
+use Rattle.frame_model.specs.Fit.{Fit}
+use Rattle.frame_model.specs.Openings.{held_blocks}
+use Rattle.frame_core.specs.Mover.{Mover}
 
 -- the block lies below frame 2 ^ 21, as each block of any memory does
 abbrev pub IsLow : FrameBlock → Type 0
@@ -46,15 +41,44 @@ out_count bytes = sum_by is_out_byte bytes
 abbrev pub IsOutIn : List ℕ → FrameBlock → Type 0
 IsOutIn bytes b = (b.frame < length bytes) × (slice_index bytes b.frame ≡ b.order + 1)
 
--- no number stands in the list twice
-abbrev pub AreApart : List ℕ → Type 0
-AreApart ns = (i j d : ℕ) → i < j → j < length ns
-    → nat_eq (slice_index_or ns i d) (slice_index_or ns j d) ≡ false
+-- the block begins in the child
+abbrev pub BeginsIn : ℕ → FrameBlock → Type 0
+BeginsIn child b = child_of b.frame ≡ child
+
+-- some block begins elsewhere
+abbrev pub SomeBeginsElse : ℕ → List FrameBlock → Type 0
+SomeBeginsElse child bs =
+    (b : FrameBlock) × (((k : ℕ) × (slice_get bs k ≡ Some b)) × (child_of b.frame ≢ child))
+
+-- the bit word is none of the child
+abbrev pub IsOutside : ℕ → ℕ → Type 0
+IsOutside child word = word / 8 ≢ child
+
+-- the view has no share
+abbrev pub HasNoShare : View → Type 0
+HasNoShare u = u.share ≡ 0
+
+-- the party has room for a word of each child that it may fill
+abbrev pub HasRoom : ℕ → Party → Type 0
+HasRoom children p = 8 * children < deque_capacity p.filled
+
+-- the party has nothing in flight
+pub record IsIdleParty (p : Party) : Type 0 where
+  pub paid : p.paid ≡ None
+  pub charged : p.charged ≡ None
+  pub reserving : p.reserving ≡ None
+  pub own : p.own.items ≡ []
+
+-- the party is new: one share, nothing in flight and nothing filled
+pub record IsFresh (p : Party) : Type 0 where
+  pub share : p.share ≡ 1
+  pub idle : IsIdleParty p
+  pub filled : p.filled.items ≡ []
 
 -- the own view
-abbrev pub plain_view : Key → List ℕ → Option Amount → Option Amount → Option ℕ
-    → List FrameBlock → List ℕ → ℕ → View
-plain_view key bytes paid charged reserving own filled moves = record (idle key key.cores) {
+abbrev pub plain_view : Key → ℕ → List ℕ → Option Amount → Option Amount → Option ℕ
+    → List FrameBlock → List ℕ → ℕ → ℕ → View
+plain_view key share bytes paid charged reserving own filled moves lost = record (idle key share) {
   lent = pos (out_count bytes);
   paid = paid;
   charged = charged;
@@ -62,13 +86,72 @@ plain_view key bytes paid charged reserving own filled moves = record (idle key 
   own = own;
   filled = filled;
   moves = moves;
+  lost = lost;
 }
 
--- the words fit with the own view and others, among which each block that is out has its holder
-abbrev pub Agrees : Key → List ℕ → List ℕ → View → Type 0
-Agrees key words bytes v =
-    (others : List View) × (Fit key key.cores words (v ∷ others) × ((b : FrameBlock) → IsOutIn bytes b
-    → (i : ℕ) × (get_elem? others i ≡ some (holder (Some key) b))))
+-- a count stops at 2 ^ 64 - 1
+abbrev pub is_plain_exact : ℕ → Type 0
+is_plain_exact n = n < 18446744073709551615
+
+-- what a mover over such words has, beside those who do not step now
+abbrev pub plain_mover : Key → Company → List ℕ → List ℕ → View → Mover Company FrameBlock
+plain_mover key them words bytes v = record {
+  tie = them;
+  key = key;
+  view = v;
+  read = λ i. slice_get words i;
+  words = Some words;
+  missed = false;
+  is_undisturbed = Unit {0};
+  is_alone = All IsIdleParty them.parties.items;
+  loses_at_will = ⊥;
+  is_out = λ b. IsOutIn bytes b;
+}
+
+-- no step was made: the own view is idle and has all shares, the words are known and these, and
+-- nobody else steps
+pub record Begins {T H : Type 0} (memory : Key) (ws : List ℕ) (m : Mover T H) : Type 0 where
+  pub key : m.key ≡ memory
+  pub view : m.view ≡ idle memory memory.cores
+  pub words : m.words ≡ Some ws
+  pub alone : m.is_alone
+
+-- the view is what the party has in flight; what it lent, made and lost may be anything
+pub record IsOf (key : Key) (p : Party) (u : View) : Type 0 where
+  pub named : u.about ≡ Some key
+  pub share : u.share ≡ p.share
+  pub not_ground : u.is_ground ≡ false
+  pub paid : u.paid ≡ p.paid
+  pub charged : u.charged ≡ p.charged
+  pub reserving : u.reserving ≡ p.reserving
+  pub own : u.own ≡ p.own.items
+  pub kept : u.kept ≡ []
+  pub filled : u.filled ≡ p.filled.items
+
+-- the first views are those of the parties, in order, and no other has a share
+unfoldable pub AreOf : Key → List Party → List View → Type 0
+AreOf key [] us = All HasNoShare us
+AreOf key (p ∷ ps) [] = ⊥
+AreOf key (p ∷ ps) (u ∷ us) = IsOf key p u × AreOf key ps us
+
+-- each block that is out by these bytes has its holder among the views
+abbrev pub AreHeld : Key → List ℕ → List View → Type 0
+AreHeld key bytes us = (b : FrameBlock) → IsOutIn bytes b
+    → (i : ℕ) × (get_elem? us i ≡ some (holder (Some key) b))
+
+-- no block begins at one frame by both of these bytes
+abbrev pub AreNotBoth : List ℕ → List ℕ → Type 0
+AreNotBoth bytes others = (x : ℕ) → (slice_index bytes x ≡ 0) ⊎ (slice_index others x ≡ 0)
+
+-- the words fit with the own view and others: those of the company, and the holders of blocks
+pub record Agrees (key : Key) (them : Company) (words bytes : List ℕ) (v : View) : Type 0 where
+  pub others : List View
+  pub shares : ℕ
+  pub fit : Fit key shares words (v ∷ others)
+  pub outs : AreHeld key bytes others
+  pub their_outs : AreHeld key them.outs.items others
+  pub not_both : AreNotBoth bytes them.outs.items
+  pub parties : AreOf key them.parties.items others
 
 -- the words fit with an own view that has all shares and nothing in flight, and with others
 abbrev pub FitsIdle : Key → List ℕ → Type 0
@@ -79,70 +162,3 @@ abbrev pub FitsReopened : Key → List ℕ → Type 0
 FitsReopened key words =
     Fit key key.cores words
     (idle key key.cores ∷ ground_with key (held_blocks key words) ∷ [])
-
-pub plain_tick_most : (n : ℕ) → plain_tick n ≤ n + 1
-plain_tick_most n = omega arith
-
-pub plain_tick_up : (n : ℕ) → n < 2 ^ 63 → plain_tick n ≡ n + 1
-plain_tick_up n h = omega arith
-
-All-of : {X : Type 0} (P : X → Type 0) (xs : List X) (i : ℕ) (x : X) → All P xs → get_elem? xs i ≡ some x → P x
-All-of P [] i x all e = absurd (cc)
-All-of P (y ∷ ys) zero x all e = let h : y ≡ x = cc in subst P h (All-head P y ys all)
-All-of P (y ∷ ys) (suc i) x all e = All-of P ys i x (All-tail P y ys all) e
-
-pub out_block : (key : Key) (words bytes : List ℕ) (v : View) (b : FrameBlock)
-    → Agrees key words bytes v → IsOutIn bytes b → IsBlock key b
-out_block key words bytes v b agrees out =
-    let at = agrees.1.1 b out in
-    let all = All-tail (IsViewOf key) v agrees.0 agrees.1.0.each in
-    All-head (IsBlock key) b [] (All-of (IsViewOf key) agrees.0 at.0 (holder (Some key) b) all at.1).own
-
--- a block that is out is one of the key
-pub plain_outs : (key : Key) (words bytes : List ℕ) (v : View) (b : FrameBlock)
-    → ∥ Agrees key words bytes v ∥₁ → IsOutIn bytes b → IsBlock key b
-plain_outs key words bytes v b agrees out = record {
-  order = ∥∥₁_elim agrees le_prop (λ (a : Agrees key words bytes v). (out_block key words bytes v b a out).order);
-  aligned = ∥∥₁_elim agrees (ℕ_set _ _) (λ (a : Agrees key words bytes v). (out_block key words bytes v b a out).aligned);
-  inside = ∥∥₁_elim agrees le_prop (λ (a : Agrees key words bytes v). (out_block key words bytes v b a out).inside);
-}
-
--- the own view is one of the memory
-own_is : (key : Key) (words bytes : List ℕ) (v : View) → ∥ Agrees key words bytes v ∥₁ → ∥ IsViewOf key v ∥₁
-own_is key words bytes v agrees =
-    ∥∥₁_map agrees (λ (a : Agrees key words bytes v). All-head (IsViewOf key) v a.0 a.1.0.each)
-
--- and with no block in flight it has filled no word
-pub plain_fills : (key : Key) (words bytes : List ℕ) (v : View)
-    → ∥ Agrees key words bytes v ∥₁ → v.own ≡ [] → v.filled ≡ []
-plain_fills key words bytes v agrees own = fills_none key v (own_is key words bytes v agrees) own
-
--- the sizes are those of the geometry
-pub plain_sizes : (geometry : Geometry) (sealed : Bool) → AreSizes (plain_key geometry sealed)
-plain_sizes geometry sealed = sizes_of (plain_key geometry sealed) geometry (refl, refl, refl)
-
-none_share : (xs : List View) → sum_by (λ u. u.share) xs ≡ 0 → All IsAtRest xs
-none_share [] e = All-nil IsAtRest
-none_share (u ∷ us) e =
-    let s = sum_by-cons (λ (w : View). w.share) u us in
-    All-cons IsAtRest u us (λ some. absurd (omega (arith, s, e, some))) (none_share us (omega (arith, s, e)))
-
-others_rest : (key : Key) (words : List ℕ) (v : View) (others : List View)
-    → v.share ≡ key.cores → Fit key key.cores words (v ∷ others) → All IsAtRest others
-unfolding total
-others_rest key words v others all fit =
-    let count : View → ℕ = λ w. w.share in
-    let a = sum_by-cons count (fixed_ground key) (v ∷ others) in
-    let b = sum_by-cons count v others in
-    none_share others (omega (arith, a, b, all, fit.shares_add_up))
-
--- all words fit with the own view and others, and each other one with a share has nothing in flight
-pub plain_fits : (key : Key) (words bytes : List ℕ) (v : View) (ws : List ℕ)
-    → v.share ≡ key.cores → ∥ Agrees key words bytes v ∥₁
-    → ◌≡◌ {A = Option (List ℕ)} (Some words) (Some ws)
-    → ∥ ((shares : ℕ) × ((others : List View) × (Fit key shares ws (v ∷ others) × (Unit {0} → All IsAtRest others)))) ∥₁
-plain_fits key words bytes v ws all agrees e =
-    let same : words ≡ ws = cc in
-    ∥∥₁_map agrees (λ (a : Agrees key words bytes v).
-    let fit : Fit key key.cores ws (v ∷ a.0) = subst (λ (l : List ℕ). Fit key key.cores l (v ∷ a.0)) same a.1.0 in
-    (key.cores, (a.0, (fit, (λ u. others_rest key ws v a.0 all fit)))))

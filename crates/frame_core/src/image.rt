@@ -1,13 +1,13 @@
 //! An image: the words of a table as plain data, with its geometry.
 
-ghost use Rattle.std.specs.Prelude.{◌≡◌, ◌+◌, ◌*◌, ◌<◌, ◌≤◌, slice_index, slice_set};
+ghost use Rattle.std.specs.Prelude.{◌≡◌, ℕ, ◌+◌, ◌*◌, ◌<◌, ◌≤◌, true, length, slice_index, slice_set};
 ghost use Rattle.std.specs.Option.{ForSome};
 ghost use Rattle.frame_words.specs.Words.{flag, entry_word, local_word};
-ghost use Rattle.frame_core.specs.Key.{key_of, tree_count, size_of};
-ghost use Rattle.frame_core.specs.Words.{free_of, huge_of, tree_free_of, reserved_of, rest_of};
-ghost use Rattle.frame_core.specs.Words.{bit_word_of, word_count};
-ghost use Rattle.frame_core.specs.Words.{with_entry, with_tree, with_local, with_bits};
-ghost use Rattle.frame_core.specs.Image.{key_in, FitsTree, IsImage, with_child};
+ghost use Rattle.frame_model.specs.Key.{key_of, tree_count, size_of};
+ghost use Rattle.frame_model.specs.Words.{free_of, huge_of, tree_free_of, reserved_of, rest_of};
+ghost use Rattle.frame_model.specs.Words.{bit_word_of, word_count};
+ghost use Rattle.frame_model.specs.Words.{with_entry, with_tree, with_local, with_bits};
+ghost use Rattle.frame_core.specs.Image.{key_in, FitsTree, SetsPastEnd, IsImage, with_child};
 
 mod fresh;
 
@@ -26,7 +26,7 @@ pub struct Image {
 }
 
 impl Model for Image {
-    ghost use Rattle.frame_core.specs.Key.{key_of};
+    ghost use Rattle.frame_model.specs.Key.{key_of};
     ghost use Rattle.frame_core.specs.Image.{Contents, IsImage};
 
     ghost Value = { Contents };
@@ -55,6 +55,16 @@ impl Image {
         }
     }
 
+    // The image of these words, in place of the one that it was.
+    pub(crate) fn copy_from(&mut self, geometry: &Geometry, words: &[u64])
+        requires image { IsImage (key_of geometry.now) words.now }
+        requires length { length self.old.words ≡ length words.now }
+        ensures { self.new ≡ record { geometry = geometry.now; words = words.now } }
+    {
+        self.geometry = *geometry;
+        self.words.as_mut_slice().copy_from_slice(words);
+    }
+
     /// All words, in the order of a table's.
     pub fn words(&self) -> &[u64]
         ensures { result.now ≡ self.now.words }
@@ -64,7 +74,7 @@ impl Image {
 
     /// The free frames that the entry of the child counts.
     #[inline]
-    #[tactic(auto, unfolding(crate::specs::Words::free_of, crate::specs::Words::entry_of))]
+    #[tactic(auto, unfolding(frame_model::specs::Words::free_of, frame_model::specs::Words::entry_of))]
     pub fn free(&self, child: u32) -> u32
         requires { child < self.now.geometry.children }
         ensures value { result ≡ free_of self.now.words child }
@@ -75,7 +85,7 @@ impl Image {
 
     /// Is the child taken whole, as a huge frame?
     #[inline]
-    #[tactic(auto, unfolding(crate::specs::Words::huge_of, crate::specs::Words::entry_of))]
+    #[tactic(auto, unfolding(frame_model::specs::Words::huge_of, frame_model::specs::Words::entry_of))]
     pub fn huge(&self, child: u32) -> bool
         requires { child < self.now.geometry.children }
         ensures { flag result ≡ huge_of self.now.words child }
@@ -85,7 +95,7 @@ impl Image {
 
     /// One of the child's eight bit words. A bit is set where its frame is not free.
     #[inline]
-    #[tactic(auto, unfolding(crate::specs::Words::bit_word_of))]
+    #[tactic(auto, unfolding(frame_model::specs::Words::bit_word_of))]
     pub fn word(&self, child: u32, word: u32) -> u64
         requires child { child < self.now.geometry.children }
         requires word { word < 8 }
@@ -96,7 +106,7 @@ impl Image {
 
     /// The free frames that the word of the tree counts.
     #[inline]
-    #[tactic(auto, unfolding(crate::specs::Words::tree_free_of, crate::specs::Words::tree_word_of))]
+    #[tactic(auto, unfolding(frame_model::specs::Words::tree_free_of, frame_model::specs::Words::tree_word_of))]
     pub fn tree_free(&self, tree: u32) -> u32
         requires { tree < tree_count (key_in self.now) }
         ensures value { result ≡ tree_free_of (key_in self.now) self.now.words tree }
@@ -107,7 +117,7 @@ impl Image {
 
     /// Has a core reserved the tree?
     #[inline]
-    #[tactic(auto, unfolding(crate::specs::Words::reserved_of, crate::specs::Words::tree_word_of))]
+    #[tactic(auto, unfolding(frame_model::specs::Words::reserved_of, frame_model::specs::Words::tree_word_of))]
     pub fn tree_reserved(&self, tree: u32) -> bool
         requires { tree < tree_count (key_in self.now) }
         ensures { flag result ≡ reserved_of (key_in self.now) self.now.words tree }
@@ -117,7 +127,7 @@ impl Image {
 
     /// The tree that the core has reserved and the frames that rest on it, or none.
     #[inline]
-    #[tactic(auto, unfolding(crate::specs::Words::rest_of, crate::specs::Words::local_word_of))]
+    #[tactic(auto, unfolding(frame_model::specs::Words::rest_of, frame_model::specs::Words::local_word_of))]
     pub fn local_at(&self, core: u32) -> Option<(u32, u32)>
         requires { core < self.now.geometry.cores }
         ensures { result ≡ rest_of (key_in self.now) self.now.words core }
@@ -125,11 +135,12 @@ impl Image {
         local_of(self.word_at(local_place(self.geometry(), core)))
     }
 
-    /// Writes what the entry of the child says.
+    /// Writes what the entry of the child says. Only a whole child can be a huge frame.
     #[inline]
     pub fn set_entry(&mut self, child: u32, free: u32, huge: bool)
         requires child { child < self.old.geometry.children }
         requires free { free ≤ 512 }
+        requires whole { huge ≡ true → 512 * (child + 1) ≤ self.old.geometry.frames }
         ensures { self.new ≡ record self.old {
           words = with_entry self.old.words child (entry_word free (flag huge));
         } }
@@ -139,11 +150,12 @@ impl Image {
         self.put(place, word);
     }
 
-    /// Writes one of the child's eight bit words.
+    /// Writes one of the child's eight bit words. The bits of frames past the end stay set.
     #[inline]
     pub fn set_word(&mut self, child: u32, word: u32, bits: u64)
         requires child { child < self.old.geometry.children }
         requires word { word < 8 }
+        requires past_end { SetsPastEnd (key_in self.old) (8 * child + word) bits }
         ensures { self.new ≡ record self.old {
           words = with_bits (key_in self.old) self.old.words (8 * child + word) bits;
         } }
@@ -152,10 +164,14 @@ impl Image {
         self.put(place, bits);
     }
 
-    /// Writes all that is said of the child: its entry and its eight bit words.
+    /// Writes all that is said of the child: its entry and its eight bit words. Only a whole child
+    /// can be a huge frame, and the bits of frames past the end stay set.
     pub fn set_child(&mut self, child: u32, free: u32, huge: bool, bits: [u64; 8])
         requires child { child < self.old.geometry.children }
         requires free { free ≤ 512 }
+        requires whole { huge ≡ true → 512 * (child + 1) ≤ self.old.geometry.frames }
+        requires past_end { (w : ℕ) → w < 8
+            → SetsPastEnd (key_in self.old) (8 * child + w) (slice_index bits w) }
         ensures { self.new ≡ record self.old {
           words = with_child (key_in self.old) self.old.words child
               (entry_word free (flag huge)) bits;

@@ -1,10 +1,10 @@
 //! Where each word of a table stands in its list. Word 0 is the anchor, which nothing writes.
 
 ghost use Rattle.std.specs.Prelude.{◌≡◌, ◌+◌, ◌*◌, ◌<◌};
-ghost use Rattle.frame_core.specs.declared.key.Key.{Key};
-ghost use Rattle.frame_core.specs.Key.{key_of, tree_count};
-ghost use Rattle.frame_core.specs.Words.{entry_word_count, entry_place, tree_place, local_place};
-ghost use Rattle.frame_core.specs.Words.{bits_place, word_count};
+ghost use Rattle.frame_model.specs.declared.key.Key.{Key};
+ghost use Rattle.frame_model.specs.Key.{key_of, tree_count};
+ghost use Rattle.frame_model.specs.Words.{entry_word_count, entry_place, tree_place, local_place};
+ghost use Rattle.frame_model.specs.Words.{bits_place, word_count};
 
 use frame_words::Geometry;
 
@@ -17,7 +17,7 @@ const CHILD_WORDS: usize = 8;
 
 /// The place of the word that the entry of this child stands in, beside three others.
 #[inline]
-#[tactic(auto, unfolding(crate::specs::Words::entry_place, crate::specs::Words::word_count))]
+#[tactic(auto, unfolding(frame_model::specs::Words::entry_place, frame_model::specs::Words::word_count))]
 pub fn entry_place(child: u32) -> usize
     ensures value { result ≡ entry_place child }
     ensures inside { (key : Key) → child < key.children → result < word_count key }
@@ -27,7 +27,7 @@ pub fn entry_place(child: u32) -> usize
 
 /// The place of the word of this tree.
 #[inline]
-#[tactic(auto, unfolding(crate::specs::Words::tree_place, crate::specs::Words::word_count))]
+#[tactic(auto, unfolding(frame_model::specs::Words::tree_place, frame_model::specs::Words::word_count))]
 pub fn tree_place(geometry: Geometry, tree: u32) -> usize
     ensures value { result ≡ tree_place (key_of geometry) tree }
     ensures inside { tree < tree_count (key_of geometry) → result < word_count (key_of geometry) }
@@ -37,7 +37,7 @@ pub fn tree_place(geometry: Geometry, tree: u32) -> usize
 
 /// The place of the local word of this core. The seven words behind it are not used.
 #[inline]
-#[tactic(auto, unfolding(crate::specs::Words::local_place, crate::specs::Words::word_count))]
+#[tactic(auto, unfolding(frame_model::specs::Words::local_place, frame_model::specs::Words::word_count))]
 pub fn local_place(geometry: Geometry, core: u32) -> usize
     ensures value { result ≡ local_place (key_of geometry) core }
     ensures inside { core < geometry.cores → result < word_count (key_of geometry) }
@@ -47,7 +47,7 @@ pub fn local_place(geometry: Geometry, core: u32) -> usize
 
 /// The place of a bit word; those of the child `c` are `8 * c` to `8 * c + 7`.
 #[inline]
-#[tactic(auto, unfolding(crate::specs::Words::bits_place, crate::specs::Words::word_count))]
+#[tactic(auto, unfolding(frame_model::specs::Words::bits_place, frame_model::specs::Words::word_count))]
 pub fn bits_place(geometry: Geometry, word: u32) -> usize
     ensures value { result ≡ bits_place (key_of geometry) word }
     ensures inside { word < 8 * geometry.children → result < word_count (key_of geometry) }
@@ -57,7 +57,7 @@ pub fn bits_place(geometry: Geometry, word: u32) -> usize
 
 /// How many words a table has.
 #[inline]
-#[tactic(auto, unfolding(crate::specs::Words::word_count))]
+#[tactic(auto, unfolding(frame_model::specs::Words::word_count))]
 pub fn word_count(geometry: Geometry) -> usize
     ensures { result ≡ word_count (key_of geometry) }
 {

@@ -1,46 +1,9 @@
 //! The moves of one seat: the atomic steps that takes and gives are made of.
 
-ghost use Rattle.std.specs.Prelude.{
-  ◌≡◌,
-  ◌≢◌,
-  ◌⊎◌,
-  ℕ,
-  ◌+◌,
-  ◌*◌,
-  ◌^◌,
-  ◌<◌,
-  ◌≤◌,
-  List,
-  [],
-  ◌∷◌,
-  Option,
-  Some,
-  None,
-  IfSome,
-  MatchBool,
-  Bool,
-  true,
-  false,
-  not,
-  ◌||◌,
-  slice_index,
-};
-ghost use Rattle.std.specs.List.{All};
-ghost use Rattle.frame_words.specs.Words.{rest_in};
-ghost use Rattle.frame_core.specs.declared.key.Key.{Key};
-ghost use Rattle.frame_core.specs.declared.view.View.{View};
-ghost use Rattle.frame_core.specs.Key.{child_of, AreSizes};
-ghost use Rattle.frame_core.specs.Block.{block, IsBlock};
-ghost use Rattle.frame_core.specs.Words.{
-  entry_place,
-  tree_place,
-  local_place,
-  bits_place,
-  IsRest,
-};
-ghost use Rattle.frame_core.specs.View.{LiesIn, holder};
-ghost use Rattle.frame_core.specs.Fit.{Fit};
-ghost use Rattle.frame_core.specs.Steps.{
+ghost use Rattle.std.specs.Prelude.{◌≡◌, ℕ, List, [], Some, Option};
+ghost use Rattle.frame_model.specs.Key.{AreSizes};
+ghost use Rattle.frame_model.specs.Block.{block, IsBlock};
+ghost use Rattle.frame_model.specs.Steps.{
   charge,
   refund,
   claim,
@@ -54,32 +17,27 @@ ghost use Rattle.frame_core.specs.Steps.{
   local_refund,
   collect,
   fill_word,
-  May,
-  effect,
-  after_load,
-  after_loss,
 };
-ghost use Rattle.frame_core.specs.Seats.{hand_in, MayCut, left_by, joined_by};
-ghost use Rattle.frame_core.specs.Moves.{
-  HasSizes,
-  release_run,
-  give_whole,
-  drop_whole,
-  hand_out_block,
-  place_of,
-  IsPlace,
-  HasLayout,
-  ReadsBut,
-  after,
-  MayOfRun,
-  OfRun,
-  Changes,
-  Exchanges,
-  IsAtRest,
+ghost use Rattle.frame_core.specs.Moves.{HasSizes, release_run, give_whole, drop_whole, OfRun, OfSomeRun};
+ghost use Rattle.frame_core.specs.Mover.{
+  Mover,
+  Clears,
+  MayLoad,
+  Loads,
+  MayTry,
+  Tries,
+  MayMake,
+  Makes,
+  Swaps,
+  MayHandOut,
+  HandsOut,
+  MayHandIn,
+  HandsIn,
+  FitsOthers,
+  Ticks,
 };
 
-use super::block::HeldBlock;
-use super::place::Place;
+use frame_model::{HeldBlock, Place};
 use frame_words::Geometry;
 
 /// What one seat may do: one atomic step on one word, or handing a block out or taking it in.
@@ -93,393 +51,142 @@ pub trait Moves {
     /// A block that was handed out.
     type Held: HeldBlock;
 
-    // What ties a mover to the seat that it steps through. No move changes it.
+    // What ties a mover to the seat that it steps through.
     ghost Tie: { Type 0 };
 
-    ghost tie: { Self → Tie };
-
-    // The key of the memory. No move changes it.
-    ghost key: { Self → Key };
-
-    // What the seat has in flight.
-    ghost view: { Self → View };
-
-    // For the number of each word, what the seat knows that it last was.
-    ghost read: { Self → ℕ → Option ℕ };
-
-    // All words, where they are known between two moves.
-    ghost words: { Self → Option (List ℕ) };
-
-    // Nobody else steps before the next move has been made, and it is not lost at will.
-    ghost undisturbed: { Self → Type 0 };
-
-    // Nobody else steps any more, and every other view with a share has nothing in flight.
-    ghost alone: { Self → Type 0 };
-
-    // The next exchange is lost although its word is as it was seen.
-    ghost loses_at_will: { Self → Type 0 };
-
-    // An exchange was lost since this was last cleared.
-    ghost has_missed: { Self → Bool };
-
-    // The block was handed out and can be taken in here.
-    ghost is_out: { Self → Self.Held → Type 0 };
+    // What it has.
+    ghost at: { Self → Mover Tie Self.Held };
 
     // How counts of moves go up by one.
     ghost tick: { ℕ → ℕ };
 
+    // Counts up to this one are exact.
+    ghost is_exact: { ℕ → Type 0 };
+
     /// The sizes of the memory.
     fn geometry(&self) -> Geometry
-        ensures { HasSizes (key self.now) result };
+        ensures { HasSizes (at self.now).key result };
 
     /// Was an exchange lost since the last `clear_missed` or, without one, since this was made?
     fn missed(&self) -> bool
-        ensures { result ≡ has_missed self.now };
+        ensures { result ≡ (at self.now).missed };
 
     fn clear_missed(&mut self)
-        ensures tie { (tie self.new ≡ tie self.old) × (key self.new ≡ key self.old) }
-        ensures missed { has_missed self.new ≡ false }
-        ensures view { view self.new ≡ view self.old }
-        ensures read { read self.new ≡ read self.old }
-        ensures words { words self.new ≡ words self.old }
-        ensures alone { alone self.old → alone self.new }
-        ensures out { (b : Self.Held) → is_out self.old b → is_out self.new b };
+        ensures { Clears (at self.old) (at self.new) };
 
     /// The word as it stands.
     fn load(&mut self, place: Place) -> u64
-        requires place { IsPlace (key self.old) place }
-        requires share { 0 < (view self.old).share }
-        ensures tie { (tie self.new ≡ tie self.old) × (key self.new ≡ key self.old) }
-        ensures missed { has_missed self.new ≡ has_missed self.old }
-        ensures view { view self.new ≡ after_load tick (view self.old) }
-        ensures layout { HasLayout (key self.old) place result }
-        ensures found { read self.new (place_of (key self.old) place) ≡ Some result }
-        ensures read { ReadsBut (place_of (key self.old) place) (read self.old) (read self.new) }
-        ensures words { undisturbed self.old → IfSome (words self.old) (λ ws.
-            (slice_index ws (place_of (key self.old) place) ≡ result)
-            × (words self.new ≡ Some ws)) }
-        ensures alone { alone self.old → alone self.new }
-        ensures out { (b : Self.Held) → is_out self.old b → is_out self.new b };
+        requires { MayLoad place (at self.old) }
+        ensures { Loads tick place result (at self.old) (at self.new) };
 
     /// Takes `n` frames off the entry of the child.
     fn charge(&mut self, child: u32, seen: u64, n: u32) -> bool
-        requires share { 0 < (view self.old).share }
-        requires seen { read self.old (entry_place child) ≡ Some seen }
-        requires may { May (key self.old) (charge child seen n) (view self.old) }
-        ensures tie { (tie self.new ≡ tie self.old) × (key self.new ≡ key self.old) }
-        ensures missed { has_missed self.new ≡ (has_missed self.old || not result) }
-        ensures view { MatchBool result
-            (view self.new ≡ after tick (charge child seen n) (view self.old))
-            (view self.new ≡ after_loss tick (view self.old)) }
-        ensures lost { result ≡ false → loses_at_will self.old
-            ⊎ (read self.new (entry_place child) ≢ Some seen) }
-        ensures read { ReadsBut (entry_place child) (read self.old) (read self.new) }
-        ensures words { undisturbed self.old →
-            Exchanges (key self.old) (charge child seen n) seen result
-            (words self.old) (words self.new) }
-        ensures alone { alone self.old → alone self.new }
-        ensures out { (b : Self.Held) → is_out self.old b → is_out self.new b };
+        requires { MayTry (charge child seen n) seen (at self.old) }
+        ensures { Tries tick (charge child seen n) seen result (at self.old) (at self.new) };
 
     /// Puts `n` charged frames back into the entry of the child.
     fn refund(&mut self, child: u32, n: u32)
-        requires share { 0 < (view self.old).share }
-        requires may { May (key self.old) (refund child n) (view self.old) }
-        ensures tie { (tie self.new ≡ tie self.old) × (key self.new ≡ key self.old) }
-        ensures missed { has_missed self.new ≡ has_missed self.old }
-        ensures view { view self.new ≡ after tick (refund child n) (view self.old) }
-        ensures read { ReadsBut (entry_place child) (read self.old) (read self.new) }
-        ensures words { undisturbed self.old →
-            Changes (key self.old) (refund child n)
-            (words self.old) (words self.new) }
-        ensures alone { alone self.old → alone self.new }
-        ensures out { (b : Self.Held) → is_out self.old b → is_out self.new b };
+        requires { MayMake (refund child n) (at self.old) }
+        ensures { Makes tick (refund child n) (at self.old) (at self.new) };
 
     /// Sets the bits of a run in a bit word: its frames, charged and paid before, are in flight.
     fn claim(&mut self, word: u32, seen: u64, mask: u64) -> bool
-        requires share { 0 < (view self.old).share }
-        requires seen { read self.old (bits_place (key self.old) word) ≡ Some seen }
-        requires may { MayOfRun (key self.old) mask (claim word seen) (view self.old) }
-        ensures tie { (tie self.new ≡ tie self.old) × (key self.new ≡ key self.old) }
-        ensures missed { has_missed self.new ≡ (has_missed self.old || not result) }
-        ensures view { MatchBool result
-            (OfRun mask (λ from order.
-            view self.new ≡ after tick (claim word seen from order) (view self.old)))
-            (view self.new ≡ after_loss tick (view self.old)) }
-        ensures lost { result ≡ false → loses_at_will self.old
-            ⊎ (read self.new (bits_place (key self.old) word) ≢ Some seen) }
-        ensures read { ReadsBut (bits_place (key self.old) word) (read self.old) (read self.new) }
-        ensures words { undisturbed self.old → OfRun mask (λ from order.
-            Exchanges (key self.old) (claim word seen from order) seen result
-            (words self.old) (words self.new)) }
-        ensures alone { alone self.old → alone self.new }
-        ensures out { (b : Self.Held) → is_out self.old b → is_out self.new b };
+        requires { OfSomeRun mask (λ from order.
+            MayTry (claim word seen from order) seen (at self.old)) }
+        ensures { OfRun mask (λ from order.
+            Tries tick (claim word seen from order) seen result (at self.old) (at self.new)) };
 
     /// Clears the bits of a run in a bit word: its frames, in flight before, are charged and paid.
     fn release(&mut self, word: u32, mask: u64)
-        requires share { 0 < (view self.old).share }
-        requires may { MayOfRun (key self.old) mask
-            (λ from order. release_run word from order)
-            (view self.old) }
-        ensures tie { (tie self.new ≡ tie self.old) × (key self.new ≡ key self.old) }
-        ensures missed { has_missed self.new ≡ has_missed self.old }
-        ensures view { OfRun mask (λ from order.
-            view self.new
-            ≡ after tick (release_run word from order) (view self.old)) }
-        ensures read { ReadsBut (bits_place (key self.old) word) (read self.old) (read self.new) }
-        ensures words { undisturbed self.old → OfRun mask (λ from order.
-            Changes (key self.old) (release_run word from order)
-            (words self.old) (words self.new)) }
-        ensures alone { alone self.old → alone self.new }
-        ensures out { (b : Self.Held) → is_out self.old b → is_out self.new b };
+        requires { OfSomeRun mask (λ from order.
+            MayMake (release_run word from order) (at self.old)) }
+        ensures { OfRun mask (λ from order.
+            Makes tick (release_run word from order) (at self.old) (at self.new)) };
 
     /// Takes the child whole, as a huge frame. Its frames were paid.
     fn take_huge(&mut self, child: u32, seen: u64) -> bool
-        requires share { 0 < (view self.old).share }
-        requires seen { read self.old (entry_place child) ≡ Some seen }
-        requires may { May (key self.old) (take_huge child seen) (view self.old) }
-        ensures tie { (tie self.new ≡ tie self.old) × (key self.new ≡ key self.old) }
-        ensures missed { has_missed self.new ≡ (has_missed self.old || not result) }
-        ensures view { MatchBool result
-            (view self.new ≡ after tick (take_huge child seen) (view self.old))
-            (view self.new ≡ after_loss tick (view self.old)) }
-        ensures lost { result ≡ false → loses_at_will self.old
-            ⊎ (read self.new (entry_place child) ≢ Some seen) }
-        ensures read { ReadsBut (entry_place child) (read self.old) (read self.new) }
-        ensures words { undisturbed self.old →
-            Exchanges (key self.old) (take_huge child seen) seen result
-            (words self.old) (words self.new) }
-        ensures alone { alone self.old → alone self.new }
-        ensures out { (b : Self.Held) → is_out self.old b → is_out self.new b };
+        requires { MayTry (take_huge child seen) seen (at self.old) }
+        ensures { Tries tick (take_huge child seen) seen result (at self.old) (at self.new) };
 
     /// Gives the huge frame back. Its frames are paid then.
     fn give_huge(&mut self, child: u32)
-        requires share { 0 < (view self.old).share }
-        requires may { May (key self.old) (give_whole child) (view self.old) }
-        ensures tie { (tie self.new ≡ tie self.old) × (key self.new ≡ key self.old) }
-        ensures missed { has_missed self.new ≡ has_missed self.old }
-        ensures view { view self.new ≡ after tick (give_whole child) (view self.old) }
-        ensures read { ReadsBut (entry_place child) (read self.old) (read self.new) }
-        ensures words { undisturbed self.old →
-            Changes (key self.old) (give_whole child)
-            (words self.old) (words self.new) }
-        ensures alone { alone self.old → alone self.new }
-        ensures out { (b : Self.Held) → is_out self.old b → is_out self.new b };
+        requires { MayMake (give_whole child) (at self.old) }
+        ensures { Makes tick (give_whole child) (at self.old) (at self.new) };
 
     /// Hands out a block whose frames are in flight.
     fn hand_out(&mut self, frame: u32, order: u8) -> Self::Held
-        requires may { MayCut (key self.old) (hand_out_block (block frame order)) (view self.old) }
-        ensures tie { (tie self.new ≡ tie self.old) × (key self.new ≡ key self.old) }
-        ensures missed { has_missed self.new ≡ has_missed self.old }
-        ensures view { view self.new
-            ≡ left_by tick (hand_out_block (block frame order)) (view self.old) }
-        ensures held { (Self.Held.block_of result ≡ block frame order) × is_out self.new result }
-        ensures read { read self.new ≡ read self.old }
-        ensures words { undisturbed self.old → words self.new ≡ words self.old }
-        ensures alone { alone self.old → alone self.new }
-        ensures out { (b : Self.Held) → is_out self.old b → is_out self.new b };
+        requires { MayHandOut (block frame order) (at self.old) }
+        ensures { HandsOut tick Self.Held.block_of (block frame order) result
+            (at self.old) (at self.new) };
 
     /// Takes in a block that was handed out: its frames are in flight.
     fn hand_in(&mut self, held: Self::Held)
-        requires share { 0 < (view self.old).share }
-        requires held { is_out self.old held }
-        requires child { LiesIn (view self.old) (child_of (Self.Held.block_of held).frame) }
-        ensures tie { (tie self.new ≡ tie self.old) × (key self.new ≡ key self.old) }
-        ensures missed { has_missed self.new ≡ has_missed self.old }
-        ensures view { view self.new
-            ≡ joined_by tick hand_in (view self.old)
-            (holder (Some (key self.old)) (Self.Held.block_of held)) }
-        ensures read { read self.new ≡ read self.old }
-        ensures words { undisturbed self.old → words self.new ≡ words self.old }
-        ensures alone { alone self.old → alone self.new }
-        ensures out { (b : Self.Held) → Self.Held.block_of b ≢ Self.Held.block_of held
-            → is_out self.old b → is_out self.new b };
+        requires { MayHandIn (Self.Held.block_of held) held (at self.old) }
+        ensures { HandsIn tick Self.Held.block_of held (at self.old) (at self.new) };
 
     /// Pays `n` frames from the word of the tree.
     fn tree_pay(&mut self, tree: u32, seen: u64, n: u32) -> bool
-        requires share { 0 < (view self.old).share }
-        requires seen { read self.old (tree_place (key self.old) tree) ≡ Some seen }
-        requires may { May (key self.old) (tree_pay tree seen n) (view self.old) }
-        ensures tie { (tie self.new ≡ tie self.old) × (key self.new ≡ key self.old) }
-        ensures missed { has_missed self.new ≡ (has_missed self.old || not result) }
-        ensures view { MatchBool result
-            (view self.new ≡ after tick (tree_pay tree seen n) (view self.old))
-            (view self.new ≡ after_loss tick (view self.old)) }
-        ensures lost { result ≡ false → loses_at_will self.old
-            ⊎ (read self.new (tree_place (key self.old) tree) ≢ Some seen) }
-        ensures read { ReadsBut (tree_place (key self.old) tree) (read self.old) (read self.new) }
-        ensures words { undisturbed self.old →
-            Exchanges (key self.old) (tree_pay tree seen n) seen result
-            (words self.old) (words self.new) }
-        ensures alone { alone self.old → alone self.new }
-        ensures out { (b : Self.Held) → is_out self.old b → is_out self.new b };
+        requires { MayTry (tree_pay tree seen n) seen (at self.old) }
+        ensures { Tries tick (tree_pay tree seen n) seen result (at self.old) (at self.new) };
 
     /// Puts `n` paid frames back into the word of the tree.
     fn tree_refund(&mut self, tree: u32, n: u32)
-        requires share { 0 < (view self.old).share }
-        requires may { May (key self.old) (tree_refund tree n) (view self.old) }
-        ensures tie { (tie self.new ≡ tie self.old) × (key self.new ≡ key self.old) }
-        ensures missed { has_missed self.new ≡ has_missed self.old }
-        ensures view { view self.new ≡ after tick (tree_refund tree n) (view self.old) }
-        ensures read { ReadsBut (tree_place (key self.old) tree) (read self.old) (read self.new) }
-        ensures words { undisturbed self.old →
-            Changes (key self.old) (tree_refund tree n)
-            (words self.old) (words self.new) }
-        ensures alone { alone self.old → alone self.new }
-        ensures out { (b : Self.Held) → is_out self.old b → is_out self.new b };
+        requires { MayMake (tree_refund tree n) (at self.old) }
+        ensures { Makes tick (tree_refund tree n) (at self.old) (at self.new) };
 
     /// Reserves the tree: all of its free frames are paid.
     fn reserve(&mut self, tree: u32, seen: u64) -> bool
-        requires share { 0 < (view self.old).share }
-        requires seen { read self.old (tree_place (key self.old) tree) ≡ Some seen }
-        requires may { May (key self.old) (reserve tree seen) (view self.old) }
-        ensures tie { (tie self.new ≡ tie self.old) × (key self.new ≡ key self.old) }
-        ensures missed { has_missed self.new ≡ (has_missed self.old || not result) }
-        ensures view { MatchBool result
-            (view self.new ≡ after tick (reserve tree seen) (view self.old))
-            (view self.new ≡ after_loss tick (view self.old)) }
-        ensures lost { result ≡ false → loses_at_will self.old
-            ⊎ (read self.new (tree_place (key self.old) tree) ≢ Some seen) }
-        ensures read { ReadsBut (tree_place (key self.old) tree) (read self.old) (read self.new) }
-        ensures words { undisturbed self.old →
-            Exchanges (key self.old) (reserve tree seen) seen result
-            (words self.old) (words self.new) }
-        ensures alone { alone self.old → alone self.new }
-        ensures out { (b : Self.Held) → is_out self.old b → is_out self.new b };
+        requires { MayTry (reserve tree seen) seen (at self.old) }
+        ensures { Tries tick (reserve tree seen) seen result (at self.old) (at self.new) };
 
     /// Puts a reserved tree with all that is paid on it into the local word of the core, or
     /// nothing; answers what stood there, which is then reserved and paid.
     fn swap_local(&mut self, core: u32, put: Option<(u32, u32)>) -> Option<(u32, u32)>
-        requires share { 0 < (view self.old).share }
-        requires may { May (key self.old) (swap_local core put) (view self.old) }
-        ensures tie { (tie self.new ≡ tie self.old) × (key self.new ≡ key self.old) }
-        ensures missed { has_missed self.new ≡ has_missed self.old }
-        ensures view { (found : ℕ) × (rest_in found ≡ result)
-            × (view self.new ≡ effect tick (swap_local core put) found (view self.old)) }
-        ensures is_rest { IsRest (key self.old) result }
-        ensures read { ReadsBut (local_place (key self.old) core) (read self.old) (read self.new) }
-        ensures words { undisturbed self.old → IfSome (words self.old) (λ ws.
-            rest_in (slice_index ws (local_place (key self.old) core)) ≡ result) }
-        ensures left { undisturbed self.old →
-            Changes (key self.old) (swap_local core put)
-            (words self.old) (words self.new) }
-        ensures alone { alone self.old → alone self.new }
-        ensures out { (b : Self.Held) → is_out self.old b → is_out self.new b };
+        requires { MayMake (swap_local core put) (at self.old) }
+        ensures { Swaps tick core put result (at self.old) (at self.new) };
 
     /// Ends the reservation of the tree, and puts `n` paid frames back into its word.
     fn unreserve(&mut self, tree: u32, n: u32)
-        requires share { 0 < (view self.old).share }
-        requires may { May (key self.old) (unreserve tree n) (view self.old) }
-        ensures tie { (tie self.new ≡ tie self.old) × (key self.new ≡ key self.old) }
-        ensures missed { has_missed self.new ≡ has_missed self.old }
-        ensures view { view self.new ≡ after tick (unreserve tree n) (view self.old) }
-        ensures read { ReadsBut (tree_place (key self.old) tree) (read self.old) (read self.new) }
-        ensures words { undisturbed self.old →
-            Changes (key self.old) (unreserve tree n)
-            (words self.old) (words self.new) }
-        ensures alone { alone self.old → alone self.new }
-        ensures out { (b : Self.Held) → is_out self.old b → is_out self.new b };
+        requires { MayMake (unreserve tree n) (at self.old) }
+        ensures { Makes tick (unreserve tree n) (at self.old) (at self.new) };
 
     /// Pays `n` frames from the reservation in the local word of the core.
     fn local_pay(&mut self, core: u32, seen: u64, n: u32) -> bool
-        requires share { 0 < (view self.old).share }
-        requires seen { read self.old (local_place (key self.old) core) ≡ Some seen }
-        requires may { May (key self.old) (local_pay core seen n) (view self.old) }
-        ensures tie { (tie self.new ≡ tie self.old) × (key self.new ≡ key self.old) }
-        ensures missed { has_missed self.new ≡ (has_missed self.old || not result) }
-        ensures view { MatchBool result
-            (view self.new ≡ after tick (local_pay core seen n) (view self.old))
-            (view self.new ≡ after_loss tick (view self.old)) }
-        ensures lost { result ≡ false → loses_at_will self.old
-            ⊎ (read self.new (local_place (key self.old) core) ≢ Some seen) }
-        ensures read { ReadsBut (local_place (key self.old) core) (read self.old) (read self.new) }
-        ensures words { undisturbed self.old →
-            Exchanges (key self.old) (local_pay core seen n) seen result
-            (words self.old) (words self.new) }
-        ensures alone { alone self.old → alone self.new }
-        ensures out { (b : Self.Held) → is_out self.old b → is_out self.new b };
+        requires { MayTry (local_pay core seen n) seen (at self.old) }
+        ensures { Tries tick (local_pay core seen n) seen result (at self.old) (at self.new) };
 
     /// Puts `n` paid frames back into the reservation in the local word of the core.
     fn local_refund(&mut self, core: u32, seen: u64, n: u32) -> bool
-        requires share { 0 < (view self.old).share }
-        requires seen { read self.old (local_place (key self.old) core) ≡ Some seen }
-        requires may { May (key self.old) (local_refund core seen n) (view self.old) }
-        ensures tie { (tie self.new ≡ tie self.old) × (key self.new ≡ key self.old) }
-        ensures missed { has_missed self.new ≡ (has_missed self.old || not result) }
-        ensures view { MatchBool result
-            (view self.new ≡ after tick (local_refund core seen n) (view self.old))
-            (view self.new ≡ after_loss tick (view self.old)) }
-        ensures lost { result ≡ false → loses_at_will self.old
-            ⊎ (read self.new (local_place (key self.old) core) ≢ Some seen) }
-        ensures read { ReadsBut (local_place (key self.old) core) (read self.old) (read self.new) }
-        ensures words { undisturbed self.old →
-            Exchanges (key self.old) (local_refund core seen n) seen result
-            (words self.old) (words self.new) }
-        ensures alone { alone self.old → alone self.new }
-        ensures out { (b : Self.Held) → is_out self.old b → is_out self.new b };
+        requires { MayTry (local_refund core seen n) seen (at self.old) }
+        ensures { Tries tick (local_refund core seen n) seen result (at self.old) (at self.new) };
 
     /// Pays all free frames of the tree, and leaves it reserved or not as it was.
     fn collect(&mut self, tree: u32, seen: u64) -> bool
-        requires share { 0 < (view self.old).share }
-        requires seen { read self.old (tree_place (key self.old) tree) ≡ Some seen }
-        requires may { May (key self.old) (collect tree seen) (view self.old) }
-        ensures tie { (tie self.new ≡ tie self.old) × (key self.new ≡ key self.old) }
-        ensures missed { has_missed self.new ≡ (has_missed self.old || not result) }
-        ensures view { MatchBool result
-            (view self.new ≡ after tick (collect tree seen) (view self.old))
-            (view self.new ≡ after_loss tick (view self.old)) }
-        ensures lost { result ≡ false → loses_at_will self.old
-            ⊎ (read self.new (tree_place (key self.old) tree) ≢ Some seen) }
-        ensures read { ReadsBut (tree_place (key self.old) tree) (read self.old) (read self.new) }
-        ensures words { undisturbed self.old →
-            Exchanges (key self.old) (collect tree seen) seen result
-            (words self.old) (words self.new) }
-        ensures alone { alone self.old → alone self.new }
-        ensures out { (b : Self.Held) → is_out self.old b → is_out self.new b };
+        requires { MayTry (collect tree seen) seen (at self.old) }
+        ensures { Tries tick (collect tree seen) seen result (at self.old) (at self.new) };
 
     /// Sets all bits of a word of a huge frame in flight.
     fn fill_word(&mut self, word: u32)
-        requires share { 0 < (view self.old).share }
-        requires may { May (key self.old) (fill_word word) (view self.old) }
-        ensures tie { (tie self.new ≡ tie self.old) × (key self.new ≡ key self.old) }
-        ensures missed { has_missed self.new ≡ has_missed self.old }
-        ensures view { view self.new ≡ after tick (fill_word word) (view self.old) }
-        ensures read { ReadsBut (bits_place (key self.old) word) (read self.old) (read self.new) }
-        ensures words { undisturbed self.old →
-            Changes (key self.old) (fill_word word)
-            (words self.old) (words self.new) }
-        ensures alone { alone self.old → alone self.new }
-        ensures out { (b : Self.Held) → is_out self.old b → is_out self.new b };
+        requires { MayMake (fill_word word) (at self.old) }
+        ensures { Makes tick (fill_word word) (at self.old) (at self.new) };
 
     /// Makes two blocks of order 8 in flight of a huge frame whose eight bit words are all filled.
     fn drop_flag(&mut self, child: u32)
-        requires share { 0 < (view self.old).share }
-        requires may { May (key self.old) (drop_whole child) (view self.old) }
-        ensures tie { (tie self.new ≡ tie self.old) × (key self.new ≡ key self.old) }
-        ensures missed { has_missed self.new ≡ has_missed self.old }
-        ensures view { view self.new ≡ after tick (drop_whole child) (view self.old) }
-        ensures read { ReadsBut (entry_place child) (read self.old) (read self.new) }
-        ensures words { undisturbed self.old →
-            Changes (key self.old) (drop_whole child)
-            (words self.old) (words self.new) }
-        ensures alone { alone self.old → alone self.new }
-        ensures out { (b : Self.Held) → is_out self.old b → is_out self.new b };
+        requires { MayMake (drop_whole child) (at self.old) }
+        ensures { Makes tick (drop_whole child) (at self.old) (at self.new) };
 
     // Where the words are known, they fit with the own view and those of all others.
-    ghost fits: { (m : Self) (ws : List ℕ) → words m ≡ Some ws
-        → ∥ ((shares : ℕ) × ((others : List View) × (Fit (key m) shares ws (view m ∷ others)
-        × (alone m → All IsAtRest others)))) ∥₁ };
+    ghost fits: { (m : Self) (ws : List ℕ) → (at m).words ≡ Some ws → ∥ FitsOthers (at m) ws ∥₁ };
 
-    ghost outs_are_blocks: { (m : Self) (b : Self.Held) → is_out m b
-        → IsBlock (key m) (Self.Held.block_of b) };
+    ghost outs_are_blocks: { (m : Self) (b : Self.Held) → (at m).is_out b
+        → IsBlock (at m).key (Self.Held.block_of b) };
 
-    ghost stays_alone: { (m : Self) → alone m → undisturbed m };
+    ghost stays_alone: { (m : Self) → (at m).is_alone → (at m).is_undisturbed };
 
-    ghost sizes: { (m : Self) → AreSizes (key m) };
+    ghost sizes: { (m : Self) → AreSizes (at m).key };
 
     // Who has no block in flight has filled no word.
-    ghost fills_own: { (m : Self) → (view m).own ≡ [] → (view m).filled ≡ [] };
+    ghost fills_own: { (m : Self) → (at m).view.own ≡ [] → (at m).view.filled ≡ [] };
 
-    ghost counts_at_most: { (n : ℕ) → tick n ≤ n + 1 };
-
-    ghost counts_up: { (n : ℕ) → n < 2 ^ 63 → tick n ≡ n + 1 };
+    ghost ticks: { Ticks tick is_exact };
 }

@@ -2,6 +2,7 @@
 
 mod fresh;
 mod plain;
+mod script;
 
 use super::*;
 use frame_words::Geometry;
@@ -105,54 +106,5 @@ fn the_writers_change_what_they_name(rt: HostRuntime) -> Result<(), Fail> {
     assert_eq!(rt; image.local_at(0), Some((0, 2048)));
     image.set_local(0, None);
     assert_eq!(rt; image.local_at(0), None);
-    Ok(())
-}
-
-#[test]
-fn a_frame_is_paid_charged_and_claimed(rt: HostRuntime) -> Result<(), Fail> {
-    let geometry = Geometry::new(1, 1)?;
-    let mut m = PlainMoves::new(rt.alloc(), &geometry)?;
-    let tree = m.load(Place::Tree(0));
-    assert!(rt; tree == 512);
-    assert!(rt; m.tree_pay(0, tree, 1));
-    let entry = m.load(Place::Entry(0));
-    assert!(rt; entry == 512);
-    assert!(rt; m.charge(0, entry, 1));
-    let bits = m.load(Place::Bits(0));
-    assert!(rt; bits == 0);
-    assert!(rt; m.claim(0, bits, 1));
-    assert_eq!(rt; m.load(Place::Tree(0)), 511);
-    assert_eq!(rt; m.load(Place::Entry(0)), 511);
-    assert_eq!(rt; m.load(Place::Bits(0)), 1);
-    Ok(())
-}
-
-#[test]
-fn a_child_is_taken_whole(rt: HostRuntime) -> Result<(), Fail> {
-    let geometry = Geometry::new(1, 1)?;
-    let mut m = PlainMoves::new(rt.alloc(), &geometry)?;
-    let tree = m.load(Place::Tree(0));
-    assert!(rt; tree == 512);
-    assert!(rt; m.tree_pay(0, tree, 512));
-    let entry = m.load(Place::Entry(0));
-    assert!(rt; entry == 512);
-    assert!(rt; m.take_huge(0, entry));
-    assert_eq!(rt; m.load(Place::Tree(0)), 0);
-    assert_eq!(rt; m.load(Place::Entry(0)), 32768);
-    assert_eq!(rt; m.load(Place::Bits(0)), 0);
-    Ok(())
-}
-
-#[test]
-fn a_tree_is_reserved_and_no_more(rt: HostRuntime) -> Result<(), Fail> {
-    let geometry = Geometry::new(1, 1)?;
-    let mut m = PlainMoves::new(rt.alloc(), &geometry)?;
-    let tree = m.load(Place::Tree(0));
-    assert!(rt; tree == 512);
-    assert!(rt; m.reserve(0, tree));
-    let reserved = m.load(Place::Tree(0));
-    assert!(rt; reserved == 32768);
-    m.unreserve(0, 512);
-    assert_eq!(rt; m.load(Place::Tree(0)), 512);
     Ok(())
 }

@@ -4,14 +4,15 @@ use Rattle.std.specs.Prelude.{MatchBool}
 use mathlib.Core.Option.{none}
 use Rattle.atomic_table.specs.Table.{Me, step}
 use Rattle.atomic_table.specs.Seated.{TableId}
-use Rattle.frame_core.specs.declared.key.Key.{Key}
-use Rattle.frame_core.specs.declared.view.Eye.{Eye}
-use Rattle.frame_core.specs.declared.view.View.{View}
+use Rattle.frame_model.specs.declared.key.Key.{Key}
+use Rattle.frame_model.specs.declared.view.Eye.{Eye}
+use Rattle.frame_model.specs.declared.view.View.{View}
 use Rattle.frame_core.specs.View.{IsViewOf}
 use Rattle.frame_core.specs.Steps.{Kind, effect, after_load, after_loss, next}
 use Rattle.frame_core.specs.Events.{sighting, last_seen}
 use Rattle.frame_core.specs.Moves.{ReadsBut}
-use Rattle.frame_table.specs.Rule.{Becomes, Looks, Exchanges, Changes}
+use Rattle.frame_core.specs.Mover.{IsApart}
+use Rattle.frame_table.specs.Rule.{Becomes, Looks, IsExchangedAs, IsChangedAs}
 use Rattle.frame_table.specs.Seats.{AreLaid, IsSeat}
 use Rattle.frame_table.proofs.Laid.{reads_but, read_here, laid_found, laid_changed}
 use Rattle.frame_table.proofs.Effects.{effect_about}
@@ -20,6 +21,7 @@ use Rattle.frame_table.proofs.Effects.{effect_about}
 pub record Stepped (id : TableId) (key : Key) (seat : TableId) (old new : Me (Unit {0}) Eye) (i : ℕ) (read : Option ℕ) (v : View) : Type 0 where
   pub sits : IsSeat id key seat new
   pub view : new.0.view ≡ v
+  pub apart : IsApart key new.0.view
   pub here : last_seen new.0.read i ≡ read
   pub others : ReadsBut i (last_seen old.0.read) (last_seen new.0.read)
 
@@ -33,10 +35,11 @@ module _ (id : TableId) (key : Key) (seat after : TableId) (old new : Me (Unit {
           table = same ∙ is.table;
           bare = b.1 ∙ is.bare;
           about = ap (λ (u : View). u.about) view_is ∙ (about ∙ is.about);
-          is_view = ∣ subst (IsViewOf key) (sym view_is) (b.2 key is.about) ∣₁;
+          is_view = ∣ subst (IsViewOf key) (sym view_is) (b.2 key is.about).0 ∣₁;
           laid = subst (AreLaid key) (sym read_is) laid;
         };
         view = view_is;
+        apart = subst (IsApart key) (sym view_is) (b.2 key is.about).1;
         here = ap (λ r. last_seen r i) read_is ∙ read_here old.0.read i read;
         others = subst (λ r. ReadsBut i (last_seen old.0.read) (last_seen r)) (sym read_is) (reads_but old.0.read i read);
       }
@@ -44,10 +47,10 @@ module _ (id : TableId) (key : Key) (seat after : TableId) (old new : Me (Unit {
   pub looked : (slots found : ℕ) → Looks (step slots i 0 0 none) old found new → Stepped id key after old new i (Some found) (after_load next old.0.view)
   looked slots found l = becomes (Some found) (after_load next old.0.view) refl (laid_found key old.0.read i found is.laid (l.0 key is.about)) l.1
 
-  pub changed : (kind : Kind) (slots a found : ℕ) → Changes kind (step slots i a 0 none) old found new → Stepped id key after old new i None (effect next kind found old.0.view)
+  pub changed : (kind : Kind) (slots a found : ℕ) → IsChangedAs kind (step slots i a 0 none) old found new → Stepped id key after old new i None (effect next kind found old.0.view)
   changed kind slots a found l = becomes None (effect next kind found old.0.view) (effect_about next kind found old.0.view) (laid_changed key old.0.read i is.laid) l.1
 
-  pub exchanged : (kind : Kind) (slots a b found : ℕ) (won : Bool) → eqb found a ≡ won → Exchanges kind (step slots i a b none) old found new
+  pub exchanged : (kind : Kind) (slots a b found : ℕ) (won : Bool) → eqb found a ≡ won → IsExchangedAs kind (step slots i a b none) old found new
       → MatchBool won (Stepped id key after old new i None (effect next kind a old.0.view)) (Stepped id key after old new i (Some found) (after_loss next old.0.view))
   exchanged kind slots a b found true e l = becomes None (effect next kind a old.0.view) (effect_about next kind a old.0.view) (laid_changed key old.0.read i is.laid) (subst (λ w. MatchBool w (Becomes old (sighting i None) (effect next kind a old.0.view) new) (Becomes old (sighting i (Some found)) (after_loss next old.0.view) new)) e l.1)
   exchanged kind slots a b found false e l = becomes (Some found) (after_loss next old.0.view) refl (laid_found key old.0.read i found is.laid (l.0 key is.about)) (subst (λ w. MatchBool w (Becomes old (sighting i None) (effect next kind a old.0.view) new) (Becomes old (sighting i (Some found)) (after_loss next old.0.view) new)) e l.1)

@@ -6,17 +6,17 @@ use Rattle.std.proofs.lemmas.Nat.{or_lt, and_le_l}
 use Rattle.std.proofs.lemmas.Nat.Bits.{bit_at_and, bit_at_or, bit_at-lt, bit_at-zero, same_from_bits_below}
 use mathlib.Core.Option.{some}
 use lib.ListN.{get_elem?}
-use Rattle.frame_core.specs.declared.key.Key.{Key}
-use Rattle.frame_core.specs.declared.view.View.{View}
+use Rattle.frame_model.specs.declared.key.Key.{Key}
+use Rattle.frame_model.specs.declared.view.View.{View}
 use Rattle.frame_core.specs.Words.{run, bits_place, bit_word_of}
 use Rattle.frame_core.specs.View.{small_in}
 use Rattle.frame_core.specs.Fit.{Fit}
 use Rattle.frame_core.specs.Steps.{Rest, release, turned}
 use Rattle.frame_core.specs.Steps.Amounts.{IsRun}
 use Rattle.frame_core.specs.Steps.Conditions.{CanRelease}
-use Rattle.frame_core.proofs.Bits.{bit_at_clear, run-lt}
-use Rattle.frame_core.proofs.Blocks.{run_here}
-use Rattle.frame_core.proofs.Steps.Shared.{bit_word_is, bit_is, at-le-total, smalls-le-bit}
+use Rattle.frame_model.proofs.Bits.{bit_at_clear, run-lt}
+use Rattle.frame_model.proofs.Blocks.{run_here}
+use Rattle.frame_model.proofs.Steps.Shared.{bit_word_is, bit_is, at-le-total, smalls-le-bit}
 use Rattle.frame_table.specs.Rule.{MayFind}
 
 -- of a word that has all ones of another, those are cleared by a subtraction

@@ -1,12 +1,15 @@
 -- The first seat of a table, and the seats that are cut off it.
-use Rattle.std.proofs.Common.{◌≡◌, ℕ, ◌+◌, ◌-◌, ◌<◌, Bool, true, false, List, [], ◌∷◌, Some, refl, ap, sym, ◌∙◌, subst}
+use Rattle.std.proofs.Common.{◌≡◌, ℕ, ◌+◌, ◌-◌, ◌<◌, Bool, true, false, List, [], ◌∷◌, Some, refl, ap, arith, sym, ◌∙◌, subst}
 use Rattle.std.specs.Prelude.{if◌then◌else◌}
 use Rattle.atomic_table.specs.Table.{Me}
 use Rattle.atomic_table.specs.Seated.{TableId}
-use Rattle.frame_core.specs.declared.key.Key.{Key}
-use Rattle.frame_core.specs.declared.view.Eye.{Eye}
-use Rattle.frame_core.specs.declared.view.View.{View}
-use Rattle.frame_core.specs.Image.{Contents}
+use Rattle.frame_model.specs.declared.key.Key.{Key}
+use Rattle.frame_model.specs.declared.view.Eye.{Eye}
+use Rattle.frame_model.specs.declared.view.View.{View}
+use Rattle.frame_words.specs.declared.geometry.Geometry.{Geometry}
+use Rattle.frame_core.specs.Key.{key_of, AreRanges, IsKey}
+use Rattle.frame_core.specs.Words.{bits_place, bit_word_of, bit_of}
+use Rattle.frame_core.specs.Image.{Contents, IsImage}
 use Rattle.frame_core.specs.View.{idle, IsViewOf}
 use Rattle.frame_core.specs.Fit.{Fit}
 use Rattle.frame_core.specs.Steps.{next}
@@ -14,11 +17,28 @@ use Rattle.frame_core.specs.Seats.{part_share, left_by}
 use Rattle.frame_core.specs.Events.{eye, last_seen}
 use Rattle.frame_core.specs.Rebuilt.{IsRebuilt}
 use Rattle.frame_core.specs.Openings.{reopener, IsSealedOpening}
-use Rattle.frame_core.proofs.Opening.{sealed_fits, reopening_fits}
+use Rattle.frame_model.proofs.Opening.{sealed_fits, reopening_fits}
 use Rattle.frame_table.specs.declared.rule.Origin.{Origin}
 use Rattle.frame_table.specs.Rule.{key_from, first_view}
 use Rattle.frame_table.specs.Seats.{AreLaid, IsSeat}
 use Rattle.frame_table.specs.Openings.{unsealed_key, moved}
+
+-- a memory that was in use before has a lawful key
+pub unsealed_is_key : (g : Geometry) → IsKey (unsealed_key g)
+unfolding AreRanges
+unsealed_is_key g = record {
+  sizes = record {
+    some_children = g.some_children;
+    few_children = g.few_children;
+    some_cores = g.some_cores;
+    few_cores = g.few_cores;
+    last_child = omega (arith, g.last_child_begun);
+    inside = omega (arith, g.frames_in_children);
+  };
+  ranges = tt;
+  few_ranges = omega arith;
+  unsealed = λ e. refl;
+}
 
 nothing_read : (i seen : ℕ) {P : Type 0} → last_seen [] i ≡ Some seen → P
 unfolding last_seen
@@ -58,9 +78,11 @@ Opens words image ranges sealed =
     ((if sealed then idle (key_with image ranges sealed) image.geometry.cores else reopener (key_with image ranges sealed) image.words image.geometry.cores) ∷ [])
 
 pub opens_at : (o : Origin) (image : Contents) → o.image.value ≡ image → o.ranges.value.items ≡ [] → o.sealed ≡ false → 0 < image.geometry.cores
-    → IsRebuilt (unsealed_key image.geometry) image.words image.words → Fit (key_from o) (key_from o).cores image.words (first_view o ∷ [])
-opens_at o image is none unsealed cores exact =
-    let first : Opens image.words image [] false = reopening_fits (unsealed_key image.geometry) image.words image.geometry.cores cores (record { unsealed = refl; exact = exact }) in
+    → IsRebuilt (unsealed_key image.geometry) image.words image.words → IsImage (key_of image.geometry) image.words
+    → Fit (key_from o) (key_from o).cores image.words (first_view o ∷ [])
+unfolding bit_of bit_word_of bits_place
+opens_at o image is none unsealed cores exact laid =
+    let first : Opens image.words image [] false = reopening_fits (unsealed_key image.geometry) image.words image.geometry.cores cores (record { unsealed = refl; exact = exact; past_end = laid.past_end }) in
     let second : Opens image.words image [] o.sealed = subst (λ b. Opens image.words image [] b) (sym unsealed) first in
     let third : Opens image.words image o.ranges.value.items o.sealed = subst (λ r. Opens image.words image r o.sealed) (sym none) second in
     subst (λ i. Opens image.words i o.ranges.value.items o.sealed) (sym is) third

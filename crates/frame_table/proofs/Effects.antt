@@ -1,7 +1,7 @@
 -- What every kind of step, cut and join leaves of its seat, and that a step's word is one of the table's.
 use Rattle.std.proofs.Common.{◌≡◌, ℕ, ◌*◌, ◌<◌, refl, arith}
-use Rattle.frame_core.specs.declared.key.Key.{Key}
-use Rattle.frame_core.specs.declared.view.View.{View}
+use Rattle.frame_model.specs.declared.key.Key.{Key}
+use Rattle.frame_model.specs.declared.view.View.{View}
 use Rattle.frame_core.specs.Words.{word_count, bits_place}
 use Rattle.frame_core.specs.Steps.{Kind, charge, refund, claim, release, take_huge, give_huge, tree_pay, tree_refund, reserve, swap_local, unreserve, local_pay, local_refund, collect, fill_word, drop_flag, place, May, effect}
 use Rattle.frame_core.specs.Seats.{Cut, part_share, hand_out, recall, part_ground, adopt, Join, join_idle, hand_in, keep_in, left_by, right_by, joined_by}

@@ -1,27 +1,28 @@
 -- Seats come out of a list from its end, and their views become one.
-use Rattle.std.proofs.Common.{◌≡◌, ℕ, zero, suc, ◌+◌, ◌<◌, ◌≤◌, ℤ, pos, ◌+ℤ◌, List, [], ◌∷◌, ◌++◌, length, get_or, take, sym, refl, ap, ◌∙◌, arith, subst, length-append, add-one}
-use Rattle.std.specs.List.{sum_by, All}
+use Rattle.std.proofs.Common.{◌≡◌, ℕ, zero, suc, ◌+◌, ◌<◌, ◌≤◌, pos, ◌+ℤ◌, List, [], ◌∷◌, ◌++◌, length, map, flat_map, get_or, take, sym, refl, ap, ◌∙◌, arith, subst, length-append, add-one}
+use Rattle.std.specs.List.{All}
 use Rattle.std.proofs.lemmas.Int.{ints}
-use Rattle.std.proofs.lemmas.List.Sums.{sum_by-append}
+use Rattle.std.proofs.lemmas.List.{map-append, append-nil}
+use Rattle.std.proofs.lemmas.Grind.{flat_map-append}
 use mathlib.Core.Option.{some, some-injective, some-ne-none}
 use lib.ListN.{get_elem?}
 use Rattle.atomic_table.specs.Table.{Final, Seen}
 use Rattle.atomic_table.proofs.Lists.{at_map}
-use Rattle.frame_core.specs.declared.block.FrameBlock.{FrameBlock}
-use Rattle.frame_core.specs.declared.key.Key.{Key}
-use Rattle.frame_core.specs.declared.view.Eye.{Eye}
-use Rattle.frame_core.specs.declared.view.View.{View}
-use Rattle.frame_core.specs.Block.{small_at, whole_at, smalls, wholes}
+use Rattle.frame_model.specs.declared.key.Key.{Key}
+use Rattle.frame_model.specs.declared.view.Eye.{Eye}
+use Rattle.frame_model.specs.declared.view.View.{View}
+use Rattle.frame_core.specs.Block.{smalls, wholes}
 use Rattle.frame_core.specs.View.{IsIdle}
 use Rattle.frame_core.specs.Fit.{Fit}
 use Rattle.frame_core.specs.Steps.{next}
 use Rattle.frame_core.specs.Seats.{join_idle, joined_by}
-use Rattle.frame_core.proofs.Steps.Shared.{at-le-total}
+use Rattle.frame_model.proofs.Blocks.{smalls_none, wholes_none, smalls_both, wholes_both}
+use Rattle.frame_model.proofs.Steps.Shared.{at-le-total}
 use Rattle.frame_table.specs.declared.rule.Origin.{Origin}
 use Rattle.frame_table.specs.declared.seats.CoreSeat.{CoreSeat}
 use Rattle.frame_table.specs.Rule.{key_from, view_in, Holds}
 use Rattle.frame_table.specs.Seats.{view_of}
-use Rattle.frame_table.specs.Closing.{lent_by, IsGathered, IsClosed}
+use Rattle.frame_table.specs.Closing.{lent_through, kept_through, IsGathered, IsClosed}
 
 module _ {A : Type 0} where
   get_front : (xs : List A) (x : A) (k : ℕ) (d : A) → k < length xs → get_or (xs ++ x ∷ []) k d ≡ get_or xs k d
@@ -49,78 +50,116 @@ module _ {A : Type 0} where
       more (y ∷ ys) zero x at = ap (λ z. z ∷ []) (sym (some-injective y x at))
       more (y ∷ ys) (suc i) x at = ap (λ l. y ∷ l) (more ys i x at)
 
-smalls-append : (x : ℕ) (bs ds : List FrameBlock) → smalls x (bs ++ ds) ≡ smalls x bs + smalls x ds
-unfolding smalls
-smalls-append x bs ds = sum_by-append (small_at x) bs ds
+-- a list whose last element came out, as another list reads it
+pub last_of : {A B : Type 0} (f : A → B) (xs ys : List A) (x : A) → xs ≡ ys ++ x ∷ []
+    → map f xs ≡ map f ys ++ f x ∷ []
+last_of f xs ys x e = ap (map f) e ∙ map-append f ys (x ∷ [])
 
-wholes-append : (c : ℕ) (bs ds : List FrameBlock) → wholes c (bs ++ ds) ≡ wholes c bs + wholes c ds
-unfolding wholes
-wholes-append c bs ds = sum_by-append (whole_at c) bs ds
-
-lent_none : lent_by [] ≡ pos 0
-unfolding lent_by
+lent_none : lent_through [] ≡ pos 0
+unfolding lent_through
 lent_none = refl
 
-lent-last : (ys : List CoreSeat) (x : CoreSeat) → lent_by (ys ++ x ∷ []) ≡ lent_by ys +ℤ (view_of x).lent
-unfolding lent_by
+lent-last : (ys : List CoreSeat) (x : CoreSeat)
+    → lent_through (ys ++ x ∷ []) ≡ lent_through ys +ℤ (view_of x).lent
+unfolding lent_through
 lent-last [] x = omega (arith, ints)
 lent-last (y ∷ ys) x = omega (arith, ints, lent-last ys x)
 
-sum-last : (f : CoreSeat → ℕ) (ys : List CoreSeat) (x : CoreSeat) → sum_by f (ys ++ x ∷ []) ≡ sum_by f ys + f x
-sum-last f ys x = omega (arith, sum_by-append f ys (x ∷ []))
+kept_none : kept_through [] ≡ []
+unfolding kept_through
+kept_none = refl
+
+kept-last : (ys : List CoreSeat) (x : CoreSeat)
+    → kept_through (ys ++ x ∷ []) ≡ kept_through ys ++ (view_of x).kept
+unfolding kept_through
+kept-last ys x =
+    flat_map-append (λ (s : CoreSeat). (view_of s).kept) ys (x ∷ [])
+    ∙ ap (λ bs. flat_map (λ (s : CoreSeat). (view_of s).kept) ys ++ bs) (append-nil (view_of x).kept)
+
+smalls-last : (k : ℕ) (ys : List CoreSeat) (x : CoreSeat)
+    → smalls k (kept_through (ys ++ x ∷ [])) ≡ smalls k (kept_through ys) + smalls k (view_of x).kept
+smalls-last k ys x = ap (smalls k) (kept-last ys x) ∙ smalls_both k (kept_through ys) (view_of x).kept
+
+wholes-last : (c : ℕ) (ys : List CoreSeat) (x : CoreSeat)
+    → wholes c (kept_through (ys ++ x ∷ [])) ≡ wholes c (kept_through ys) + wholes c (view_of x).kept
+wholes-last c ys x = ap (wholes c) (kept-last ys x) ∙ wholes_both c (kept_through ys) (view_of x).kept
 
 -- So much of the seats is in the view, while the others are still in a list.
 pub record IsGathering (all others : List CoreSeat) (v : View) : Type 0 where
   pub idle : IsIdle v
   pub share : v.share + length others ≡ length all
-  pub lent : v.lent +ℤ lent_by others ≡ lent_by all
-  pub smalls : (x : ℕ) → smalls x v.kept + sum_by (λ s. smalls x (view_of s).kept) others ≡ sum_by (λ s. smalls x (view_of s).kept) all
-  pub wholes : (c : ℕ) → wholes c v.kept + sum_by (λ s. wholes c (view_of s).kept) others ≡ sum_by (λ s. wholes c (view_of s).kept) all
-
-pub gather_first : (all ys : List CoreSeat) (x : CoreSeat) → all ≡ ys ++ x ∷ [] → IsIdle (view_of x) → (view_of x).share ≡ 1 → IsGathering all ys (view_of x)
-gather_first all ys x e idle one = record {
-  idle = idle;
-  share = omega (arith, one, ap length e, length-append ys (x ∷ []));
-  lent = omega (arith, ints, ap lent_by e, lent-last ys x);
-  smalls = λ k. omega (arith, ap (sum_by (λ s. smalls k (view_of s).kept)) e, sum-last (λ s. smalls k (view_of s).kept) ys x);
-  wholes = λ k. omega (arith, ap (sum_by (λ s. wholes k (view_of s).kept)) e, sum-last (λ s. wholes k (view_of s).kept) ys x);
-}
+  pub lent : v.lent +ℤ lent_through others ≡ lent_through all
+  pub smalls : (x : ℕ) → smalls x v.kept + smalls x (kept_through others) ≡ smalls x (kept_through all)
+  pub wholes : (c : ℕ) → wholes c v.kept + wholes c (kept_through others) ≡ wholes c (kept_through all)
 
 joined_idle : (v u : View) → IsIdle v → IsIdle (joined_by next join_idle v u)
-joined_idle v u i = record { share = omega (arith, i.share); paid = i.paid; charged = i.charged; reserving = i.reserving; own = i.own }
-
-pub gather_more : (all xs ys : List CoreSeat) (x : CoreSeat) (v : View) → IsGathering all xs v → xs ≡ ys ++ x ∷ [] → (view_of x).share ≡ 1 → IsGathering all ys (joined_by next join_idle v (view_of x))
-gather_more all xs ys x v g e one = let u : View = view_of x in record {
-  idle = joined_idle v u g.idle;
-  share = omega (arith, g.share, one, ap length e, length-append ys (x ∷ []));
-  lent = omega (arith, ints, g.lent, ap lent_by e, lent-last ys x);
-  smalls = λ k. omega (arith, g.smalls k, smalls-append k v.kept u.kept, ap (sum_by (λ s. smalls k (view_of s).kept)) e, sum-last (λ s. smalls k (view_of s).kept) ys x);
-  wholes = λ k. omega (arith, g.wholes k, wholes-append k v.kept u.kept, ap (sum_by (λ s. wholes k (view_of s).kept)) e, sum-last (λ s. wholes k (view_of s).kept) ys x);
+joined_idle v u i = record {
+  share = omega (arith, i.share);
+  paid = i.paid;
+  charged = i.charged;
+  reserving = i.reserving;
+  own = i.own;
 }
 
-pub gathered_all : (all others : List CoreSeat) (v : View) → IsGathering all others v → others ≡ [] → IsGathered all v
+module _ (all xs ys : List CoreSeat) (x : CoreSeat) (one : (view_of x).share ≡ 1) where
+  pub gather_first : all ≡ ys ++ x ∷ [] → IsIdle (view_of x) → IsGathering all ys (view_of x)
+  gather_first e idle = record {
+    idle = idle;
+    share = omega (arith, one, ap length e, length-append ys (x ∷ []));
+    lent = omega (arith, ints, ap lent_through e, lent-last ys x);
+    smalls = λ k. omega (arith, ap (λ l. smalls k (kept_through l)) e, smalls-last k ys x);
+    wholes = λ c. omega (arith, ap (λ l. wholes c (kept_through l)) e, wholes-last c ys x);
+  }
+
+  pub gather_more : (v : View) → IsGathering all xs v → xs ≡ ys ++ x ∷ []
+      → IsGathering all ys (joined_by next join_idle v (view_of x))
+  gather_more v g e = record {
+    idle = joined_idle v (view_of x) g.idle;
+    share = omega (arith, g.share, one, ap length e, length-append ys (x ∷ []));
+    lent = omega (arith, ints, g.lent, ap lent_through e, lent-last ys x);
+    smalls = λ k. omega (
+      arith,
+      g.smalls k,
+      smalls_both k v.kept (view_of x).kept,
+      ap (λ l. smalls k (kept_through l)) e,
+      smalls-last k ys x,
+    );
+    wholes = λ c. omega (
+      arith,
+      g.wholes c,
+      wholes_both c v.kept (view_of x).kept,
+      ap (λ l. wholes c (kept_through l)) e,
+      wholes-last c ys x,
+    );
+  }
+
+pub gathered_all : (all others : List CoreSeat) (v : View) → IsGathering all others v → others ≡ []
+    → IsGathered all v
 gathered_all all others v g e = record {
   idle = g.idle;
   share = omega (arith, g.share, ap length e);
-  lent = omega (arith, ints, g.lent, ap lent_by e, lent_none);
-  smalls = λ x. omega (arith, g.smalls x, ap (sum_by (λ s. smalls x (view_of s).kept)) e);
-  wholes = λ c. omega (arith, g.wholes c, ap (sum_by (λ s. wholes c (view_of s).kept)) e);
+  lent = omega (arith, ints, g.lent, ap lent_through e, lent_none);
+  smalls = λ x. omega (arith, g.smalls x, ap (λ l. smalls x (kept_through l)) e, ap (smalls x) kept_none, smalls_none x);
+  wholes = λ c. omega (arith, g.wholes c, ap (λ l. wholes c (kept_through l)) e, ap (wholes c) kept_none, wholes_none c);
 }
 
 -- what a closed table was
-pub closed_as : (o : Origin) (id : ℕ) (e : Eye) (words : List ℕ) (slots : List (Unit {0})) (seats : List CoreSeat) → Final (Seen (Holds o) id e) words slots → IsGathered seats e.view → (key_from o).cores ≤ length seats → IsClosed (key_from o) seats words
+pub closed_as : (o : Origin) (id : ℕ) (e : Eye) (words : List ℕ) (slots : List (Unit {0})) (seats : List CoreSeat)
+    → Final (Seen (Holds o) id e) words slots → IsGathered seats e.view → (key_from o).cores ≤ length seats
+    → IsClosed (key_from o) seats words
 closed_as o id e words slots seats final g enough =
     let key : Key = key_from o in
     let s = final.0 in
-    let vs : List View = Rattle.std.proofs.Common.map view_in s.views in
+    let vs : List View = map view_in s.views in
     let at : get_elem? vs id ≡ some e.view = at_map view_in s.views id e final.1.1 in
-    let fit : Fit key key.cores words vs = subst (λ ws. Fit key key.cores ws vs) final.2 final.1.0 in
+    let fit : Fit key key.cores s.words vs = final.1.0 in
     record {
-      views = vs;
+      state = record { words = s.words; eyes = s.views };
       id = id;
-      view = e.view;
-      at = at;
+      eye = e;
+      words = final.2;
+      at = final.1.1;
       fits = fit;
       gathered = g;
-      share = omega (arith, fit.shares_add_up, at-le-total key key.cores words vs id e.view fit at (λ v. v.share), g.share, enough);
+      share = omega (arith, fit.shares_add_up, at-le-total key key.cores s.words vs id e.view fit at (λ v. v.share), g.share, enough);
     }

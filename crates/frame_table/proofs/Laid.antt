@@ -4,10 +4,10 @@ use Rattle.std.specs.Prelude.{if◌then◌else◌}
 use Rattle.std.proofs.Common.{eq-eqb, ne_eqb}
 use mathlib.Core.Logic.{dite}
 use native.Mathlib.Decide.{ℕ_discrete}
-use Rattle.frame_core.specs.declared.key.Key.{Key}
-use Rattle.frame_core.specs.declared.place.Place.{Place}
-use Rattle.frame_core.specs.declared.place.Place.TheVariants.{Entry, Bits, Tree, Local}
-use Rattle.frame_core.specs.declared.view.Sighting.{Sighting}
+use Rattle.frame_model.specs.declared.key.Key.{Key}
+use Rattle.frame_model.specs.declared.place.Place.{Place}
+use Rattle.frame_model.specs.declared.place.Place.TheVariants.{Entry, Bits, Tree, Local}
+use Rattle.frame_model.specs.declared.view.Sighting.{Sighting}
 use Rattle.frame_core.specs.Words.{entry_place, entry_of, free_of, huge_of, tree_word_of, tree_free_of, reserved_of, local_word_of, rest_of, bit_word_of, AreInRange, tree_place, local_place, bits_place, word_count, IsRest}
 use Rattle.frame_core.specs.Key.{key_of, tree_count}
 use Rattle.frame_words.specs.declared.geometry.Geometry.{Geometry}

@@ -2,7 +2,6 @@ pub mod Laid
 pub mod Effects
 pub mod Lifting
 pub mod Becoming
-pub mod Numbers
 pub mod RunEnds
 pub mod Clearing
 pub mod Handing
@@ -10,3 +9,4 @@ pub mod Dealing
 pub mod Parting
 pub mod Gathering
 pub mod Imaged
+mod Kept

@@ -8,21 +8,23 @@ use prog.Atomic.{either}
 use lib.ListN.{get_elem?}
 use Rattle.atomic_table.specs.Table.{State, Me, step, Act, keeps, stepped, Valid, carried_after, Allows, Splits, Joins}
 use Rattle.atomic_table.proofs.Lists.{at_map, set_else}
-use Rattle.frame_core.specs.declared.key.Key.{Key}
-use Rattle.frame_core.specs.declared.view.Eye.{Eye}
-use Rattle.frame_core.specs.declared.view.Sighting.{Sighting}
-use Rattle.frame_core.specs.declared.view.View.{View}
+use Rattle.frame_model.specs.declared.key.Key.{Key}
+use Rattle.frame_model.specs.declared.view.Eye.{Eye}
+use Rattle.frame_model.specs.declared.view.Sighting.{Sighting}
+use Rattle.frame_model.specs.declared.view.View.{View}
 use Rattle.frame_core.specs.View.{spent}
 use Rattle.frame_core.specs.Fit.{Fit}
 use Rattle.frame_core.specs.View.{IsViewOf}
-use Rattle.frame_core.proofs.Steps.Shared.{view_of}
+use Rattle.frame_core.specs.Mover.{IsApart}
+use Rattle.frame_core.proofs.Apart.{apart_of}
+use Rattle.frame_model.proofs.Steps.Shared.{view_of}
 use Rattle.frame_core.specs.Steps.{Kind, IsFoundBy, place, seen_by, IsMade, turned, May, effect, after_load, after_loss, next}
 use Rattle.frame_core.specs.Seats.{Cut, Join, MayCut, MayJoin}
 use Rattle.frame_core.specs.Events.{eye, sighting}
-use Rattle.frame_core.proofs.Steps.Seats.{look_keeps}
-use Rattle.frame_core.proofs.Steps.Every.{kind_keeps, seat_cut_keeps, seat_join_keeps}
+use Rattle.frame_model.proofs.Steps.Seats.{look_keeps}
+use Rattle.frame_model.proofs.Steps.Every.{kind_keeps, seat_cut_keeps, seat_join_keeps}
 use Rattle.frame_table.specs.declared.rule.Origin.{Origin}
-use Rattle.frame_table.specs.Rule.{key_from, view_in, Holds, Finds, MayFind, IsOfOneMemory, Becomes, Looks, Exchanges, Changes, left_eye, right_eye, both_eyes, nobody}
+use Rattle.frame_table.specs.Rule.{key_from, view_in, Holds, IsFoundFor, MayFind, IsOfOneMemory, Becomes, Looks, IsExchangedAs, IsChangedAs, left_eye, right_eye, both_eyes, nobody}
 use Rattle.frame_table.proofs.Laid.{found_in}
 
 -- a seat that holds no slot
@@ -54,8 +56,10 @@ module _ (o : Origin) (slots id : ℕ) (e : Eye) (about : e.view.about ≡ Some 
     turned_is : (ws : List ℕ) (w : View) → FitsAt ws (set (map view_in s.views) id w) → IsOfOneMemory e.view w
     turned_is ws w fit k named =
         let vs : List View = map view_in s.views in
-        let is : IsViewOf key w = view_of key key.cores ws (set vs id w) id w fit (at_once vs id e.view w there) in
-        subst (λ (j : Key). IsViewOf j w) (cc) is
+        let here = at_once vs id e.view w there in
+        let is : IsViewOf key w = view_of key key.cores ws (set vs id w) id w fit here in
+        let apart : IsApart key w = apart_of key key.cores ws (set vs id w) id w fit here in
+        subst (λ (j : Key). IsViewOf j w × IsApart j w) (cc) (is, apart)
 
     -- the fit after a load or a lost exchange
     looked_fit : (m l : ℕ) → FitsAt s.words (set (map view_in s.views) id (record e.view { moves = m; lost = l }))
@@ -70,7 +74,7 @@ module _ (o : Origin) (slots id : ℕ) (e : Eye) (about : e.view.about ≡ Some 
     looked_is : (m l : ℕ) → IsOfOneMemory e.view (record e.view { moves = m; lost = l })
     looked_is m l = turned_is s.words (record e.view { moves = m; lost = l }) (looked_fit m l)
 
-    finds : (i : ℕ) → Finds e.view i (get_or s.words i 0)
+    finds : (i : ℕ) → IsFoundFor e.view i (get_or s.words i 0)
     finds i k named = subst (λ (j : Key). Rattle.frame_table.specs.Rule.IsFoundIn j i (get_or s.words i 0)) (cc) (found_in key s.words i holds.words_in_range)
 
     made_by : (kind : Kind) → 0 < e.view.share → May key kind e.view → IsMade kind (get_or s.words (place key kind) 0)
@@ -93,7 +97,7 @@ module _ (o : Origin) (slots id : ℕ) (e : Eye) (about : e.view.about ≡ Some 
     module _ (old new : ℕ) (seen : seen_by kind ≡ Some old) (is : turned kind old ≡ new) where
       chosen : (s : State (Unit {0}) Eye) → Holds o s → get_elem? s.views id ≡ some e → (b : Bool) → eqb (get_or s.words i 0) old ≡ b
           → (w : Eye) × (a : Act (Unit {0})) × Valid s.homes [] a × Holds o (stepped s i (either b new (get_or s.words i 0)) id [] w a)
-          × (Finds e.view i (get_or s.words i 0)
+          × (IsFoundFor e.view i (get_or s.words i 0)
           × MatchBool b
           (Becomes (e, []) (sighting i None) (effect next kind old e.view) (w, carried_after [] a))
           (Becomes (e, []) (sighting i (Some (get_or s.words i 0))) (after_loss next e.view) (w, carried_after [] a)))
@@ -115,11 +119,11 @@ module _ (o : Origin) (slots id : ℕ) (e : Eye) (about : e.view.about ≡ Some 
           let is_view = looked_is s holds at m l in
           (eye (after_loss next e.view) read, keeps, tt, looked_at s holds at i m l read, (finds s holds at i, (refl, refl, is_view)))
 
-      exchange_bare : Allows (Holds o) slots id (e, []) i (λ n. either (eqb n old) new n) (Exchanges kind (step slots i old new none) (e, []))
+      exchange_bare : Allows (Holds o) slots id (e, []) i (λ n. either (eqb n old) new n) (IsExchangedAs kind (step slots i old new none) (e, []))
       exchange_bare s holds homes at fits = chosen s holds at (eqb (get_or s.words i 0) old) refl
 
     change_bare : (a : ℕ) (g : ℕ → ℕ) → seen_by kind ≡ None → ((n : ℕ) → n < 18446744073709551616 → MayFind key kind e.view n → turned kind n ≡ g n)
-        → Allows (Holds o) slots id (e, []) i g (Changes kind (step slots i a 0 none) (e, []))
+        → Allows (Holds o) slots id (e, []) i g (IsChangedAs kind (step slots i a 0 none) (e, []))
     change_bare a g always is s holds homes at fits =
         let found : ℕ = get_or s.words i 0 in
         let w : Eye = eye (effect next kind found e.view) (sighting i None ∷ e.read) in
@@ -152,13 +156,13 @@ module _ (o : Origin) (slots id : ℕ) (me : Me (Unit {0}) Eye) (clear : me.1 �
 
   module _ (kind : Kind) (share : 0 < me.0.view.share) (may : May (key_from o) kind me.0.view) where
     pub exchange_allows : (old new : ℕ) → seen_by kind ≡ Some old → turned kind old ≡ new
-        → Allows (Holds o) slots id me (place (key_from o) kind) (λ n. either (eqb n old) new n) (Exchanges kind (step slots (place (key_from o) kind) old new none) me)
+        → Allows (Holds o) slots id me (place (key_from o) kind) (λ n. either (eqb n old) new n) (IsExchangedAs kind (step slots (place (key_from o) kind) old new none) me)
     exchange_allows old new seen is =
         let i : ℕ = place (key_from o) kind in
-        bare (Holds o) slots id me i (λ n. either (eqb n old) new n) (Exchanges kind (step slots i old new none)) clear (exchange_bare o slots id me.0 about kind share may old new seen is)
+        bare (Holds o) slots id me i (λ n. either (eqb n old) new n) (IsExchangedAs kind (step slots i old new none)) clear (exchange_bare o slots id me.0 about kind share may old new seen is)
 
     pub change_allows : (a : ℕ) (g : ℕ → ℕ) → seen_by kind ≡ None → ((n : ℕ) → n < 18446744073709551616 → MayFind (key_from o) kind me.0.view n → turned kind n ≡ g n)
-        → Allows (Holds o) slots id me (place (key_from o) kind) g (Changes kind (step slots (place (key_from o) kind) a 0 none) me)
+        → Allows (Holds o) slots id me (place (key_from o) kind) g (IsChangedAs kind (step slots (place (key_from o) kind) a 0 none) me)
     change_allows a g always is =
         let i : ℕ = place (key_from o) kind in
-        bare (Holds o) slots id me i g (Changes kind (step slots i a 0 none)) clear (change_bare o slots id me.0 about kind share may a g always is)
+        bare (Holds o) slots id me i g (IsChangedAs kind (step slots i a 0 none)) clear (change_bare o slots id me.0 about kind share may a g always is)

@@ -8,7 +8,7 @@ use Rattle.std.proofs.lemmas.Nat.Bits.{bit_at-zero, bit_at-trailing_zeros, bit_a
 use mathlib.Core.Logic.{dite}
 use native.Mathlib.Decide.{dec_le}
 use Rattle.frame_core.specs.Words.{run}
-use Rattle.frame_core.proofs.Bits.{ones_run, ones-le}
+use Rattle.frame_model.proofs.Bits.{ones_run, ones-le}
 
 -- the lowest one of a number
 lowest_one : (w : Width) (n k : ℕ) → n < 2 ^ bits w → bit_at n k ≡ 1 → ((i : ℕ) → i < k → bit_at n i ≡ 0) → trailing_zeros w n ≡ k

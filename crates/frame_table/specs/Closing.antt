@@ -1,41 +1,72 @@
--- What a closing asks, and what it gives.
-use Rattle.std.specs.Prelude.{◌≡◌, ℕ, ℤ, pos, ◌+ℤ◌, List, [], ◌∷◌, length}
-use Rattle.std.specs.List.{sum_by}
-use mathlib.Core.Option.{some}
-use lib.ListN.{get_elem?}
-use Rattle.frame_core.specs.declared.key.Key.{Key}
-use Rattle.frame_core.specs.declared.view.View.{View}
-use Rattle.frame_core.specs.Block.{smalls, wholes}
+-- What a closing gives.
+use Rattle.std.specs.Prelude.{◌≡◌, ℕ, ℤ, pos, ◌+ℤ◌, ◌<◌, ◌≤◌, List, [], ◌∷◌, length, true, flat_map}
+use Rattle.std.specs.List.{All}
+use Rattle.frame_words.specs.declared.fault.Fault.{Fault}
+use Rattle.frame_words.specs.declared.fault.Fault.TheVariants.{MissingCores, NoMemory}
+use Rattle.frame_model.specs.declared.block.FrameBlock.{FrameBlock}
+use Rattle.frame_model.specs.declared.key.Key.{Key}
+use Rattle.frame_model.specs.declared.view.Eye.{Eye}
+use Rattle.frame_model.specs.declared.view.View.{View}
+use Rattle.frame_core.specs.Block.{covers, smalls, wholes}
 use Rattle.frame_core.specs.View.{IsIdle}
-use Rattle.frame_core.specs.Fit.{Fit}
-use Rattle.frame_table.specs.Seats.{view_of, Sits}
+use Rattle.frame_core.specs.Events.{State, Has, Fits}
+use Rattle.frame_core.specs.Image.{Contents, key_in, IsImage}
+use Rattle.frame_core.specs.Laws.{AddsUp, HoldsJust}
+use Rattle.frame_core.specs.Moves.{HasSizes}
+use Rattle.frame_core.specs.Report.{held_at}
+use Rattle.frame_table.specs.Seats.{view_of}
 use Rattle.frame_table.specs.declared.seats.CoreSeat.{CoreSeat}
-use Rattle.frame_table.specs.declared.table.FrameTable.{FrameTable}
 
--- the seat of a core at this table, with nothing in flight
-pub record IsClosable (t : FrameTable) (s : CoreSeat) : Type 0 where
-  pub sits : Sits t s
-  pub idle : IsIdle (view_of s)
+-- how many blocks more were handed out through these seats than were taken in
+unfoldable pub lent_through : List CoreSeat → ℤ
+lent_through [] = pos 0
+lent_through (s ∷ seats) = (view_of s).lent +ℤ lent_through seats
 
--- what was lent through these seats
-unfoldable pub lent_by : List CoreSeat → ℤ
-lent_by [] = pos 0
-lent_by (s ∷ seats) = (view_of s).lent +ℤ lent_by seats
+-- all blocks that these seats keep
+unfoldable pub kept_through : List CoreSeat → List FrameBlock
+kept_through seats = flat_map (λ s. (view_of s).kept) seats
 
 -- the view has the shares of all these seats, what they lent, and what they keep
 pub record IsGathered (seats : List CoreSeat) (v : View) : Type 0 where
   pub idle : IsIdle v
   pub share : v.share ≡ length seats
-  pub lent : v.lent ≡ lent_by seats
-  pub smalls : (x : ℕ) → smalls x v.kept ≡ sum_by (λ s. smalls x (view_of s).kept) seats
-  pub wholes : (c : ℕ) → wholes c v.kept ≡ sum_by (λ s. wholes c (view_of s).kept) seats
+  pub lent : v.lent ≡ lent_through seats
+  pub smalls : (x : ℕ) → smalls x v.kept ≡ smalls x (kept_through seats)
+  pub wholes : (c : ℕ) → wholes c v.kept ≡ wholes c (kept_through seats)
 
--- The words fit, with all shares in one view, which is idle.
-pub record IsClosed (key : Key) (seats : List CoreSeat) (words : List ℕ) : Type 0 where
-  pub views : List View
+-- the words are those of a state that fits, in which one idle seat has all shares
+pub record IsClosed (key : Key) (seats : List CoreSeat) (ws : List ℕ) : Type 0 where
+  pub state : State
   pub id : ℕ
-  pub view : View
-  pub at : get_elem? views id ≡ some view
-  pub fits : Fit key key.cores words views
-  pub gathered : IsGathered seats view
-  pub share : view.share ≡ key.cores
+  pub eye : Eye
+  pub words : state.words ≡ ws
+  pub at : Has state id eye
+  pub fits : Fits key key.cores state
+  pub gathered : IsGathered seats eye.view
+  pub share : eye.view.share ≡ key.cores
+
+-- each frame of the block is held
+abbrev pub IsHeldIn : Key → List ℕ → FrameBlock → Type 0
+IsHeldIn key words b = (x : ℕ) → covers b x ≡ 1 → held_at key words x ≡ 1
+
+-- what the words of a closed table say: the counters add up, all that was kept is held, and where the
+-- memory is sealed and nothing is lent, nothing else is
+pub record TellsAll (key : Key) (seats : List CoreSeat) (words : List ℕ) : Type 0 where
+  pub adds_up : AddsUp key words
+  pub kept_held : All (IsHeldIn key words) (kept_through seats)
+  pub just_kept : key.sealed ≡ true → lent_through seats ≡ pos 0
+      → HoldsJust key words (kept_through seats)
+
+-- the image of a table that was closed with the seats of all its cores
+pub record IsClosingOf (key : Key) (seats : List CoreSeat) (image : Contents) : Type 0 where
+  pub sizes : HasSizes key image.geometry
+  pub is_image : IsImage (key_in image) image.words
+  pub enough : key.cores ≤ length seats
+  pub closed : IsClosed key seats image.words
+  pub tells : TellsAll key seats image.words
+
+-- why a table was not closed: a seat is missing, or none is and there is not enough memory
+abbrev pub IsUnclosedFor : (cores seats : ℕ) → Fault → Type 0
+IsUnclosedFor cores seats MissingCores = seats < cores
+IsUnclosedFor cores seats NoMemory = cores ≤ seats
+IsUnclosedFor cores seats _ = ⊥

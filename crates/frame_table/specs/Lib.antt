@@ -3,3 +3,5 @@ pub mod Seats
 pub mod Ties
 pub mod Openings
 pub mod Closing
+pub mod Mover
+pub mod Keeping

@@ -3,17 +3,18 @@ use Rattle.std.specs.Prelude.{◌≡◌, ℕ, ◌==◌, List, [], ◌∷◌, Som
 use mathlib.Core.Option.{some}
 use lib.ListN.{get_elem?}
 use Rattle.atomic_table.specs.Table.{State, Me, Step}
-use Rattle.frame_core.specs.declared.key.Key.{Key}
-use Rattle.frame_core.specs.declared.place.Place.{Place}
-use Rattle.frame_core.specs.declared.view.Eye.{Eye}
-use Rattle.frame_core.specs.declared.view.Sighting.{Sighting}
-use Rattle.frame_core.specs.declared.view.View.{View}
+use Rattle.frame_model.specs.declared.key.Key.{Key}
+use Rattle.frame_model.specs.declared.place.Place.{Place}
+use Rattle.frame_model.specs.declared.view.Eye.{Eye}
+use Rattle.frame_model.specs.declared.view.Sighting.{Sighting}
+use Rattle.frame_model.specs.declared.view.View.{View}
 use Rattle.frame_core.specs.View.{spent, idle, IsViewOf}
 use Rattle.frame_core.specs.Fit.{Fit}
 use Rattle.frame_core.specs.Steps.{Kind, place, effect, after_load, after_loss, next}
 use Rattle.frame_core.specs.Seats.{Cut, Join, left_by, right_by, joined_by}
 use Rattle.frame_core.specs.Events.{eye, sighting}
 use Rattle.frame_core.specs.Moves.{place_of, IsPlace, HasLayout}
+use Rattle.frame_core.specs.Mover.{IsApart}
 use Rattle.frame_core.specs.Openings.{reopener}
 use Rattle.frame_table.specs.declared.rule.Origin.{Origin}
 
@@ -50,8 +51,8 @@ abbrev pub IsFoundIn : Key → ℕ → ℕ → Type 0
 IsFoundIn key word found = (place : Place) → IsPlace key place → place_of key place ≡ word → HasLayout key place found
 
 -- a word that was found is one of the memory that the view names
-abbrev pub Finds : View → ℕ → ℕ → Type 0
-Finds v word found = (key : Key) → v.about ≡ Some key → IsFoundIn key word found
+abbrev pub IsFoundFor : View → ℕ → ℕ → Type 0
+IsFoundFor v word found = (key : Key) → v.about ≡ Some key → IsFoundIn key word found
 
 -- a seat with this view may find the word there: one of words and views that fit
 abbrev pub MayFind : Key → Kind → View → ℕ → Type 0
@@ -59,9 +60,9 @@ MayFind key kind v found =
     (words : List ℕ) × ((views : List View) × ((id : ℕ) × (Fit key key.cores words views
     × ((get_elem? views id ≡ some v) × (slice_index words (place key kind) ≡ found)))))
 
--- the second is a view of the memory that the first names
+-- the second is a view of the memory that the first names, and what it has there is apart
 abbrev pub IsOfOneMemory : View → View → Type 0
-IsOfOneMemory v u = (key : Key) → v.about ≡ Some key → IsViewOf key u
+IsOfOneMemory v u = (key : Key) → v.about ≡ Some key → IsViewOf key u × IsApart key u
 
 -- the seat afterwards has this view, which is one of its memory, and has read one word more
 abbrev pub Becomes : Me (Unit {0}) Eye → Sighting → View → Me (Unit {0}) Eye → Type 0
@@ -71,20 +72,20 @@ Becomes v read view w =
 -- a load: the seat has read what it found, and its view is that after a load
 abbrev pub Looks : Step (Unit {0}) → Me (Unit {0}) Eye → ℕ → Me (Unit {0}) Eye → Type 0
 Looks s v found w =
-    Finds v.0.view s.word found × Becomes v (sighting s.word (Some found)) (after_load next v.0.view) w
+    IsFoundFor v.0.view s.word found × Becomes v (sighting s.word (Some found)) (after_load next v.0.view) w
 
 -- an exchange is made where the word is as it was seen, else lost
-abbrev pub Exchanges : Kind → Step (Unit {0}) → Me (Unit {0}) Eye → ℕ → Me (Unit {0}) Eye → Type 0
-Exchanges kind s v found w =
-    Finds v.0.view s.word found
+abbrev pub IsExchangedAs : Kind → Step (Unit {0}) → Me (Unit {0}) Eye → ℕ → Me (Unit {0}) Eye → Type 0
+IsExchangedAs kind s v found w =
+    IsFoundFor v.0.view s.word found
     × MatchBool (found == s.first)
     (Becomes v (sighting s.word None) (effect next kind s.first v.0.view) w)
     (Becomes v (sighting s.word (Some found)) (after_loss next v.0.view) w)
 
 -- a change that is always made: the view takes its effect, and the seat no longer knows the word
-abbrev pub Changes : Kind → Step (Unit {0}) → Me (Unit {0}) Eye → ℕ → Me (Unit {0}) Eye → Type 0
-Changes kind s v found w =
-    Finds v.0.view s.word found
+abbrev pub IsChangedAs : Kind → Step (Unit {0}) → Me (Unit {0}) Eye → ℕ → Me (Unit {0}) Eye → Type 0
+IsChangedAs kind s v found w =
+    IsFoundFor v.0.view s.word found
     × Becomes v (sighting s.word None) (effect next kind found v.0.view) w
 
 -- the eye of a seat after another was cut off it: it keeps what it has read

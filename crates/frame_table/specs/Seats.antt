@@ -1,15 +1,15 @@
 -- What clauses say of seats.
-use Rattle.std.specs.Prelude.{◌≡◌, ℕ, ◌<◌, ◌≤◌, List, [], Option, Some}
+use Rattle.std.specs.Prelude.{◌≡◌, ℕ, ◌<◌, ◌≤◌, false, List, [], Option, Some}
 use Rattle.std.specs.List.{All}
 use Rattle.atomic_table.specs.Table.{Me}
 use Rattle.atomic_table.specs.Seated.{TableId}
-use Rattle.frame_core.specs.declared.key.Key.{Key}
-use Rattle.frame_core.specs.declared.view.Eye.{Eye}
-use Rattle.frame_core.specs.declared.view.Sighting.{Sighting}
-use Rattle.frame_core.specs.declared.view.View.{View}
+use Rattle.frame_model.specs.declared.key.Key.{Key}
+use Rattle.frame_model.specs.declared.view.Eye.{Eye}
+use Rattle.frame_model.specs.declared.view.Sighting.{Sighting}
+use Rattle.frame_model.specs.declared.view.View.{View}
 use Rattle.frame_core.specs.Block.{block, IsBlock}
-use Rattle.frame_core.specs.View.{IsViewOf}
-use Rattle.frame_core.specs.declared.block.FrameBlock.{FrameBlock}
+use Rattle.frame_core.specs.View.{IsIdle, IsViewOf}
+use Rattle.frame_model.specs.declared.block.FrameBlock.{FrameBlock}
 use Rattle.frame_core.specs.Seats.{Cut, recall}
 use Rattle.frame_core.specs.Without.{less_one}
 use Rattle.frame_core.specs.Events.{last_seen}
@@ -58,10 +58,16 @@ pub record IsSeat (id : TableId) (key : Key) (seat : TableId) (me : Me (Unit {0}
   pub is_view : ∥ IsViewOf key me.0.view ∥₁
   pub laid : AreLaid key me.0.read
 
--- the seat of a core at this table
+-- the seat of a core at this table; what was held before the opening is not with it
 pub record Sits (t : FrameTable) (s : CoreSeat) : Type 0 where
   pub at : IsSeat (id_of t) (key_at t) s.seat.table_id s.seat.me
   pub one : (view_of s).share ≡ 1
+  pub not_ground : (view_of s).is_ground ≡ false
+
+-- the seat of a core at this table, with nothing in flight
+pub record IsIdleSeat (t : FrameTable) (s : CoreSeat) : Type 0 where
+  pub sits : Sits t s
+  pub idle : IsIdle (view_of s)
 
 -- the frames of a block that was handed out
 abbrev pub block_in : Block → FrameBlock

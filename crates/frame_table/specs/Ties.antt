@@ -1,9 +1,10 @@
 -- What ties a mover to its seat and its table, and its laws.
-use Rattle.std.proofs.Common.{◌≡◌, ℕ, ◌+◌, ◌^◌, ◌<◌, ◌≤◌, List, [], arith, refl}
+use Rattle.std.proofs.Common.{◌≡◌, ℕ, List, [], arith, refl}
 use Rattle.std.specs.Prelude.{Option, None, Some}
 use Rattle.atomic_table.specs.Seated.{TableId}
 use Rattle.frame_core.specs.Key.{AreSizes}
 use Rattle.frame_core.specs.Steps.{next}
+use Rattle.frame_core.specs.Mover.{Ticks}
 use Rattle.frame_core.specs.Movers.{sizes_of, fills_none}
 use Rattle.frame_table.specs.Seats.{key_at, view_of, Sits}
 use Rattle.frame_table.specs.declared.seats.CoreSeat.{CoreSeat}
@@ -17,11 +18,17 @@ Tied = ℕ × TableId
 pub no_words : {P : Type 0} (words : List ℕ) → ◌≡◌ {A = Option (List ℕ)} None (Some words) → P
 no_words words e = absurd (cc)
 
-pub next_most : (n : ℕ) → next n ≤ n + 1
-next_most n = omega arith
+-- no count stops
+abbrev pub is_exact : ℕ → Type 0
+is_exact n = Unit {0}
 
-pub next_up : (n : ℕ) → n < 2 ^ 63 → next n ≡ n + 1
-next_up n h = refl
+pub next_ticks : Ticks next is_exact
+next_ticks = record {
+  most = λ n. omega arith;
+  up = λ n h. refl;
+  below = λ m n le h. tt;
+  early = λ n h. tt;
+}
 
 -- the sizes of a table are those of its geometry
 pub table_sizes : (t : FrameTable) → AreSizes (key_at t)

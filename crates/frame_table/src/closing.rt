@@ -1,43 +1,41 @@
 //! Closing a table.
 
-ghost use Rattle.std.specs.Prelude.{◌≡◌, ◌<◌, ◌≤◌, ◌↔◌, ◌⊎◌, [], IfOk, IfErr, vec_len, vec_capacity};
+ghost use Rattle.std.specs.Prelude.{◌≡◌, ◌<◌, ◌≤◌, [], IfOk, IfErr, vec_len, vec_capacity, map};
 ghost use Rattle.std.specs.List.{All};
 ghost use Rattle.std.specs.Slots.{slots_items, slots_len, IsFull};
-ghost use Rattle.frame_table.specs.Seats.{key_at, id_of, IsSeat};
-ghost use Rattle.frame_table.specs.Closing.{IsClosable, IsGathered, IsClosed};
+ghost use Rattle.frame_table.specs.Seats.{key_at, id_of, IsSeat, IsIdleSeat};
+ghost use Rattle.frame_table.specs.Closing.{IsGathered, IsClosingOf, IsUnclosedFor};
 
+use crate::seated::Seated;
 use crate::seats::CoreSeat;
 use crate::steps::join_seat;
 use crate::table::FrameTable;
 use atomic_table::{Closed, Seat};
-use frame_core::{Eye, Image};
+use frame_core::Image;
+use frame_model::{Eye, every_closing_adds_up};
 use frame_words::Fault;
 use std::alloc::Global;
 use std::marker::Brand;
 
-/// A table that was not closed. It and the seats are as they were.
+/// A table that was not closed. It and what holds its seats are as they were.
 #[derive(Drop)]
-pub struct TableFault {
+pub struct TableFault<S> {
     /// `MissingCores` or `NoMemory`.
     pub fault: Fault,
     pub table: FrameTable,
-    pub seats: Vec<CoreSeat>,
+    pub seats: Vec<S>,
 }
 
-/// The words of a table, once the seat of every core is handed in, idle. Refused as `MissingCores`
-/// where a seat is missing, else for want of memory, with nothing changed.
-pub fn close_table(
+/// The words of a table, once the seat of every core is handed in, idle. Blocks that are still out
+/// are held. Refused as `MissingCores` where a seat is missing, else for want of memory.
+pub fn close_table<S: Seated + Drop>(
     alloc: Global,
     table: FrameTable,
-    seats: Vec<CoreSeat>,
-) -> Result<Image, TableFault>
-    requires { All (IsClosable table) seats.items }
-    ensures ok { IfOk result (λ image. (image.geometry ≡ table.geometry)
-        × IsClosed (key_at table) seats.items image.words) }
-    ensures enough { IfOk result (λ image. (key_at table).cores ≤ vec_len seats) }
-    ensures missing { IfErr result (λ e. (e.fault ≡ Fault.MissingCores)
-        ↔ (vec_len seats < (key_at table).cores)) }
-    ensures fault { IfErr result (λ e. (e.fault ≡ Fault.MissingCores) ⊎ (e.fault ≡ Fault.NoMemory)) }
+    seats: Vec<S>,
+) -> Result<Image, TableFault<S>>
+    requires { All (λ s. IsIdleSeat table (S.seat_of s)) seats.items }
+    ensures ok { IfOk result (IsClosingOf (key_at table) (map S.seat_of seats.items)) }
+    ensures refused { IfErr result (λ e. IsUnclosedFor (key_at table).cores (vec_len seats) e.fault) }
     ensures same { IfErr result (λ e. (e.table ≡ table) × (e.seats ≡ seats)) }
 {
     if seats.len() < table.geometry.cores as usize {
@@ -57,20 +55,24 @@ pub fn close_table(
     let all = gather(&table, seats);
     let FrameTable { grid, geometry, .. } = table;
     let words = read_words(grid.close_with(all), words);
+    // The law on closings tells what these words say.
+    every_closing_adds_up();
     Ok(Image::of_words(&geometry, words))
 }
 
 // All seats in one.
-fn gather(table: &FrameTable, mut seats: Vec<CoreSeat>) -> Seat<(), Eye>
+fn gather<S: Seated + Drop>(table: &FrameTable, mut seats: Vec<S>) -> Seat<(), Eye>
     requires some { 0 < vec_len seats }
-    requires idle { All (IsClosable table.now) seats.items }
+    requires idle { All (λ s. IsIdleSeat table.now (S.seat_of s)) seats.items }
     ensures seat { IsSeat (id_of table.now) (key_at table.now) result.table_id result.me }
-    ensures gathered { IsGathered seats.items result.me.0.view }
+    ensures gathered { IsGathered (map S.seat_of seats.items) result.me.0.view }
 {
-    let Some(CoreSeat { seat: mut all }) = seats.pop() else {
+    let Some(last) = seats.pop() else {
         unreachable!()
     };
-    while let Some(CoreSeat { seat }) = seats.pop() {
+    let CoreSeat { seat: mut all } = last.into_seat();
+    while let Some(next) = seats.pop() {
+        let CoreSeat { seat } = next.into_seat();
         join_seat::<Brand>(table, &mut all, seat);
     }
     all

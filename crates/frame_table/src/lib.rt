@@ -4,18 +4,23 @@
 
 mod block;
 mod closing;
+mod ground_seat;
+mod laws;
 mod opening;
 mod plays;
 mod rule;
+mod seated;
 mod seats;
 mod shared;
 mod steps;
 mod table;
-mod words;
 
 pub use block::Block;
 pub use closing::{TableFault, close_table};
-pub use opening::{GroundSeat, open_sealed, open_table, open_table_at, open_table_with};
+pub use ground_seat::GroundSeat;
+pub use laws::shared_words_are_honest;
+pub use opening::{open_table, open_table_at, open_table_with};
+pub use seated::Seated;
 pub use seats::CoreSeat;
 pub use shared::SharedMoves;
 pub use table::FrameTable;

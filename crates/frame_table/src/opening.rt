@@ -1,8 +1,8 @@
-//! Opening a table, and what was held before.
+//! Opening a table.
 
-ghost use Rattle.std.specs.Prelude.{◌≡◌, ◌+◌, ◌-◌, ◌^◌, ◌<◌, ◌≤◌, [], ◌∷◌, ℕ, Some, true, IfOk, IfErr, length, vec_len, vec_capacity};
+ghost use Rattle.std.specs.Prelude.{◌≡◌, ◌-◌, ◌<◌, ◌≤◌, [], ◌∷◌, ℕ, Some, true, IfOk, IfErr};
+ghost use Rattle.std.specs.Prelude.{length, vec_len, vec_capacity};
 ghost use Rattle.std.specs.List.{All};
-ghost use Rattle.frame_core.specs.Block.{block, IsBlock};
 ghost use Rattle.frame_core.specs.Key.{key_of, sealed_key, most_ranges, AreRanges};
 ghost use Rattle.frame_core.specs.View.{idle, ground_with};
 ghost use Rattle.frame_core.specs.Fit.{Fit};
@@ -10,12 +10,12 @@ ghost use Rattle.frame_core.specs.Steps.{next};
 ghost use Rattle.frame_core.specs.Seats.{left_by, part_share, part_ground};
 ghost use Rattle.frame_core.specs.Rebuilt.{IsRebuilt};
 ghost use Rattle.frame_core.specs.Openings.{held_blocks, IsSealedOpening};
-ghost use Rattle.frame_core.specs.Without.{HasFrames};
 ghost use Rattle.frame_table.specs.Rule.{key_from, first_view};
-ghost use Rattle.frame_table.specs.Seats.{key_at, id_of, view_of, block_in, Sits, IsSeat, IsOut};
-ghost use Rattle.frame_table.specs.Openings.{unsealed_key, moved, IsNew, ground_view, IsGround, adopt_block};
+ghost use Rattle.frame_table.specs.Seats.{key_at, id_of, view_of, Sits, IsSeat};
+ghost use Rattle.frame_table.specs.Openings.{unsealed_key, moved, ground_view};
+ghost use Rattle.frame_table.specs.Openings.{IsNew, IsOpenedAt, IsGround};
 
-use crate::block::Block;
+use crate::ground_seat::GroundSeat;
 use crate::rule::Origin;
 use crate::seats::CoreSeat;
 use crate::steps::cut_seat;
@@ -27,29 +27,6 @@ use std::alloc::Global;
 use std::marker::Brand;
 use std::snapshot::Snapshot;
 
-/// What was held before the opening. It has no bytes.
-#[derive(Drop)]
-pub struct GroundSeat {
-    pub(crate) seat: Seat<(), Eye>,
-}
-
-impl GroundSeat {
-    /// Parts off a block that was held before the opening.
-    pub fn part(&mut self, table: &FrameTable, frame: u32, order: u8) -> Block
-        requires seat { IsGround table.now self.old }
-        requires block { IsBlock (key_at table.now) (block frame order) }
-        requires exists { frame + 2 ^ order ≤ (key_at table.now).frames }
-        requires held { HasFrames (ground_view self.old).own (block frame order) }
-        ensures seat { IsGround table.now self.new }
-        ensures view { ground_view self.new
-            ≡ left_by next (adopt_block (block frame order)) (ground_view self.old) }
-        ensures block { (block_in result ≡ block frame order) × IsOut table.now result }
-    {
-        let seat = cut_seat::<Brand>(table, &mut self.seat, FrameBlock { frame, order });
-        Block::of(frame, order, seat)
-    }
-}
-
 /// Opens a table at the words of an image that equals its own rebuilding: one idle seat for each
 /// core, in order, and what the image holds. Refused only for want of memory.
 pub fn open_table_at(
@@ -57,9 +34,7 @@ pub fn open_table_at(
     image: &Image,
 ) -> Result<(FrameTable, Vec<CoreSeat>, GroundSeat), Fault>
     requires { IsRebuilt (unsealed_key image.now.geometry) image.now.words image.now.words }
-    ensures table { IfOk result (λ r. key_at r.0 ≡ unsealed_key image.now.geometry) }
-    ensures count { IfOk result (λ r. vec_len r.1 ≡ image.now.geometry.cores) }
-    ensures seats { IfOk result (λ r. All (IsNew r.0) r.1.items) }
+    ensures opened { IfOk result (λ r. IsOpenedAt (unsealed_key image.now.geometry) r.0 r.1.items) }
     ensures ground_seat { IfOk result (λ r. IsGround r.0 r.2) }
     ensures held { IfOk result (λ r. ground_view r.2
         ≡ ground_with (unsealed_key image.now.geometry)
@@ -82,18 +57,42 @@ pub fn open_table_at(
     Ok((table, seats, held))
 }
 
-/// Opens a table at the words of an image that holds just the frames past the end and those of
-/// the ranges, which are never given out: one idle seat for each core, in order. Refused only for
-/// want of memory.
-pub fn open_sealed(
+/// Opens a table of a memory of which no frame is held but those past the end: one idle seat for
+/// each core, in order. Refused only for want of memory.
+pub fn open_table(alloc: Global, geometry: &Geometry) -> Result<(FrameTable, Vec<CoreSeat>), Fault>
+    ensures opened { IfOk result (λ r. IsOpenedAt (key_of geometry.now) r.0 r.1.items) }
+    ensures err { IfErr result (λ e. e ≡ Fault.NoMemory) }
+{
+    open_table_with(alloc, geometry, &[])
+}
+
+/// The same, and the frames of the ranges are never given out: they are held from the opening on.
+/// A range is its first frame and how many frames it has; they ascend and do not meet.
+pub fn open_table_with(
+    alloc: Global,
+    geometry: &Geometry,
+    ranges: &[(u32, u32)],
+) -> Result<(FrameTable, Vec<CoreSeat>), Fault>
+    requires ranges { AreRanges 0 geometry.now.frames ranges.now }
+    requires few { length ranges.now ≤ most_ranges }
+    ensures opened { IfOk result (λ r. IsOpenedAt (sealed_key geometry.now ranges.now) r.0 r.1.items) }
+    ensures err { IfErr result (λ e. e ≡ Fault.NoMemory) }
+{
+    let image = Image::with_ranges(alloc, geometry, ranges)?;
+    open_sealed(alloc, &image, ranges)
+}
+
+// At the words of an image that holds just the frames past the end and those of the ranges.
+fn open_sealed(
     alloc: Global,
     image: &Image,
     ranges: &[(u32, u32)],
 ) -> Result<(FrameTable, Vec<CoreSeat>), Fault>
-    requires { IsSealedOpening (sealed_key image.now.geometry ranges.now) image.now.words }
-    ensures table { IfOk result (λ r. key_at r.0 ≡ sealed_key image.now.geometry ranges.now) }
-    ensures count { IfOk result (λ r. vec_len r.1 ≡ image.now.geometry.cores) }
-    ensures seats { IfOk result (λ r. All (IsNew r.0) r.1.items) }
+    requires ranges { AreRanges 0 image.now.geometry.frames ranges.now }
+    requires few { length ranges.now ≤ most_ranges }
+    requires opens { IsSealedOpening (sealed_key image.now.geometry ranges.now) image.now.words }
+    ensures opened { IfOk result (λ r. IsOpenedAt
+        (sealed_key image.now.geometry ranges.now) r.0 r.1.items) }
     ensures err { IfErr result (λ e. e ≡ Fault.NoMemory) }
 {
     let Ok(kept_back) = Vec::from_slice(alloc, ranges) else {
@@ -111,35 +110,6 @@ pub fn open_sealed(
     let (table, seat) = open_words(alloc, image, origin)?;
     let seats = deal(&table, seat, seats);
     Ok((table, seats))
-}
-
-/// Opens a table of a memory of which no frame is held but those past the end: one idle seat for
-/// each core, in order. Refused only for want of memory.
-pub fn open_table(alloc: Global, geometry: &Geometry) -> Result<(FrameTable, Vec<CoreSeat>), Fault>
-    ensures table { IfOk result (λ r. key_at r.0 ≡ key_of geometry.now) }
-    ensures count { IfOk result (λ r. vec_len r.1 ≡ geometry.now.cores) }
-    ensures seats { IfOk result (λ r. All (IsNew r.0) r.1.items) }
-    ensures err { IfErr result (λ e. e ≡ Fault.NoMemory) }
-{
-    open_table_with(alloc, geometry, &[])
-}
-
-/// The same, and the frames of the ranges are never given out: they are held from the opening on.
-/// A range is its first frame and how many frames it has; they ascend and do not meet.
-pub fn open_table_with(
-    alloc: Global,
-    geometry: &Geometry,
-    ranges: &[(u32, u32)],
-) -> Result<(FrameTable, Vec<CoreSeat>), Fault>
-    requires ranges { AreRanges 0 geometry.now.frames ranges.now }
-    requires few { length ranges.now ≤ most_ranges }
-    ensures table { IfOk result (λ r. key_at r.0 ≡ sealed_key geometry.now ranges.now) }
-    ensures count { IfOk result (λ r. vec_len r.1 ≡ geometry.now.cores) }
-    ensures seats { IfOk result (λ r. All (IsNew r.0) r.1.items) }
-    ensures err { IfErr result (λ e. e ≡ Fault.NoMemory) }
-{
-    let image = Image::with_ranges(alloc, geometry, ranges)?;
-    open_sealed(alloc, &image, ranges)
 }
 
 // The one seat of a table with the image's words.

@@ -57,9 +57,9 @@ pub struct Exchange<P> {
 }
 
 impl<P: Stepping> Play<(), Eye> for Exchange<P> {
-    ghost use Rattle.frame_table.specs.Rule.{Exchanges};
+    ghost use Rattle.frame_table.specs.Rule.{IsExchangedAs};
 
-    ghost then = { Exchanges P.kind };
+    ghost then = { IsExchangedAs P.kind };
 }
 
 /// A step that is always made.
@@ -68,9 +68,9 @@ pub struct Change<P> {
 }
 
 impl<P: Stepping> Play<(), Eye> for Change<P> {
-    ghost use Rattle.frame_table.specs.Rule.{Changes};
+    ghost use Rattle.frame_table.specs.Rule.{IsChangedAs};
 
-    ghost then = { Changes P.kind };
+    ghost then = { IsChangedAs P.kind };
 }
 
 pub struct CutIn<P> {

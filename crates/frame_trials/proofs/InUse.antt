@@ -8,24 +8,28 @@ use Rattle.std.proofs.lemmas.Bool.Decides.{nat_tests}
 use Rattle.std.proofs.lemmas.List.Sums.{sum_by-cons}
 use Rattle.frame_words.specs.Words.{free_in, flag_in, entry_word}
 use Rattle.frame_words.proofs.WordLemmas.{free_in-entry_word, flag_in-entry_word, entry_word-lt}
-use Rattle.frame_core.specs.declared.key.Key.{Key}
+use Rattle.frame_model.specs.declared.key.Key.{Key}
 use Rattle.frame_core.specs.Key.{tree_count, children_in}
 use Rattle.frame_core.specs.Block.{block, IsBlock, covers, whole_at}
-use Rattle.frame_core.specs.Words.{bit_of, tree_place, local_place, bits_place, word_count, bit_word_of, set_of, free_of, huge_of, tree_word_of, tree_free_of, reserved_of, local_word_of, rest_of, with_entry, with_tree, with_bits, AreInRange}
+use Rattle.frame_core.specs.Words.{bit_of, tree_place, local_place, bits_place, word_count, bit_word_of, set_of, free_of, huge_of}
+use Rattle.frame_core.specs.Words.{tree_word_of, tree_free_of, reserved_of, local_word_of, rest_of, with_entry, with_tree, with_bits}
+use Rattle.frame_core.specs.Words.{AreInRange}
 use Rattle.frame_core.specs.Image.{Contents, key_in, IsImage, IsAllFree}
 use Rattle.frame_core.specs.Rebuilt.{rebuilt_free, rebuilt_in_tree, rebuilt_bits, IsRebuilt}
 use Rattle.frame_core.specs.Openings.{held_blocks}
 use Rattle.frame_core.specs.Stops.{unsealed}
 use Rattle.frame_core.specs.Without.{without, HasFrames}
 use Rattle.frame_core.proofs.Counters.{all_free_exact}
-use Rattle.frame_core.proofs.Bits.{ones_zero, ones_run, bit_at_run_inside}
-use Rattle.frame_core.proofs.ImageLemmas.{rest_of-with_entry, rest_of-with_tree, rest_of-with_bits, bit_word_of-with_entry, bit_word_of-with_tree}
-use Rattle.frame_core.proofs.Opening.{held_smalls, held_wholes, held_are_blocks}
-use Rattle.frame_core.proofs.RebuiltLemmas.{rebuilt_free-set, rebuilt_free-huge, rebuilt_bits-set, rebuilt_bits-huge}
-use Rattle.frame_core.proofs.Without.{without_leaves}
-use Rattle.frame_core.proofs.Stopping.Rebuilding.{in_range_unsealed, bit_unsealed}
+use Rattle.frame_model.proofs.Bits.{ones_zero, ones_run, bit_at_run_inside}
+use Rattle.frame_model.proofs.OtherWords.{rest_of-with_entry, rest_of-with_tree, rest_of-with_bits, bit_word_of-with_entry}
+use Rattle.frame_model.proofs.OtherWords.{bit_word_of-with_tree}
+use Rattle.frame_model.proofs.Opening.{held_smalls, held_wholes, held_are_blocks}
+use Rattle.frame_model.proofs.RebuiltLemmas.{rebuilt_free-set, rebuilt_free-huge, rebuilt_bits-set, rebuilt_bits-huge}
+use Rattle.frame_model.proofs.Without.{without_leaves}
+use Rattle.frame_model.proofs.HeldBack.{in_range_unsealed}
+use Rattle.frame_model.proofs.Stopping.Rebuilding.{bit_unsealed}
 use Rattle.frame_table.specs.Openings.{unsealed_key}
-use Rattle.frame_core.proofs.Words.{EntryWritten, BitsWritten, TreeWritten, entry_written, bits_written, tree_written}
+use Rattle.frame_model.proofs.Words.{EntryWritten, BitsWritten, TreeWritten, entry_written, bits_written, tree_written}
 
 module _ (key : Key) (ws : List ℕ) (two : key.children ≡ 2) (image : IsImage key ws) (clear : IsAllFree key ws) where
   abbrev first : List ℕ
@@ -182,7 +186,8 @@ module _ (key : Key) (ws : List ℕ) (two : key.children ≡ 2) (image : IsImage
 -- rebuilding does not look at what the key names
 rebuilt_unsealed : (key : Key) (old new : List ℕ) → IsRebuilt key old new
     → IsRebuilt (unsealed key) old new
-unfolding word_count tree_place local_place bits_place tree_word_of tree_free_of reserved_of local_word_of rest_of bit_word_of set_of rebuilt_free rebuilt_in_tree rebuilt_bits
+unfolding word_count tree_place local_place bits_place tree_word_of tree_free_of reserved_of local_word_of rest_of bit_word_of set_of
+    rebuilt_free rebuilt_in_tree rebuilt_bits
 rebuilt_unsealed key old new r = record {
   in_range = in_range_unsealed key new r.in_range;
   huge = r.huge;

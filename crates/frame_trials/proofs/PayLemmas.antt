@@ -3,21 +3,23 @@ use Rattle.std.proofs.Common.{◌≡◌, ℕ, ◌^◌, ◌<◌, ◌≤◌, Optio
 use Rattle.std.proofs.Math.IntN.{+ℤ-neg_ℤ_cancel}
 use Rattle.std.specs.Prelude.{ℤ, pos, ◌+ℤ◌, ◌-ℤ◌}
 use Rattle.std.proofs.lemmas.Bool.Decides.{nat_tests}
+use Rattle.std.proofs.lemmas.Nat.{pow_pos}
 use Rattle.frame_words.specs.Words.{free_in}
-use Rattle.frame_core.specs.declared.block.FrameBlock.{FrameBlock}
-use Rattle.frame_core.specs.declared.key.Key.{Key}
-use Rattle.frame_core.specs.declared.view.Amount.{Amount}
-use Rattle.frame_core.specs.declared.view.View.{View}
+use Rattle.frame_model.specs.declared.block.FrameBlock.{FrameBlock}
+use Rattle.frame_model.specs.declared.key.Key.{Key}
+use Rattle.frame_model.specs.declared.view.Amount.{Amount}
+use Rattle.frame_model.specs.declared.view.View.{View}
+use Rattle.frame_core.specs.Block.{IsBlock}
 use Rattle.frame_core.specs.Key.{tree_count, tree_of}
 use Rattle.frame_core.specs.View.{counted, count_in, paid_on, NoneBut}
 use Rattle.frame_core.specs.Steps.{tree_pay, tree_refund}
 use Rattle.frame_core.specs.Steps.Amounts.{more, less}
 use Rattle.frame_core.specs.Steps.Conditions.{CanTreePay, CanTreeRefund}
 use Rattle.frame_core.specs.Moves.{after}
-use Rattle.frame_core.proofs.Amounts.{count_none, count_here}
+use Rattle.frame_model.proofs.Amounts.{count_none, count_here}
 use Rattle.low_frames.specs.Takes.{IsAsBefore, HasHandedOut}
 use Rattle.low_frames.specs.Gives.{HasTakenBack}
-use Rattle.frame_trials.specs.Work.{HasOnlyPaid, IsAtRest, PaysOnly, PaysNothing}
+use Rattle.frame_trials.specs.Work.{PaysOnly, PaysNothing, LendsOne, HasOneBack}
 
 -- Amounts.
 
@@ -58,7 +60,8 @@ pays t tree seen k n v w x size none before e =
     ∙ ap (λ (y : View). F y (more tree k y.paid) (t w.moves) w.lost) before
     ∙ ap (λ a. F v (more tree k a) (t w.moves) w.lost) none
     ∙ ap (λ a. F v a (t w.moves) w.lost) (more_of_none tree k ∙ ap (counted tree) size)
-    ∙ sym (ap (λ m. F v (counted tree n) m x.lost) (ap (λ y. y.moves) e) ∙ ap (λ l. F v (counted tree n) (t w.moves) l) (ap (λ y. y.lost) e))
+    ∙ sym (ap (λ m. F v (counted tree n) m x.lost) (ap (λ y. y.moves) e)
+    ∙ ap (λ l. F v (counted tree n) (t w.moves) l) (ap (λ y. y.lost) e))
 
 pub can_refund : (key : Key) (tree k n : ℕ) (v : View) → k ≡ n → tree < tree_count key
     → v.paid ≡ counted tree n → CanTreeRefund key v tree k
@@ -94,23 +97,31 @@ pair_as_before tree order b v u w size there paid e f =
     ∙ ap (λ a. F v a ((v.lent +ℤ pos 1) -ℤ pos 1)) (paid_again tree (2 ^ order) v.paid paid)
     ∙ ap (λ z. F v v.paid z) (+ℤ-neg_ℤ_cancel v.lent (pos 1))
 
--- what a give leaves of a view that had nothing in flight
-pub only_paid_back : (b : FrameBlock) (v w : View) → IsAtRest v → HasTakenBack b v w
-    → HasOnlyPaid (tree_of b.frame) (2 ^ b.order) w
-only_paid_back b v w rests e = record {
-  share = ap (λ x. x.share) e ∙ rests.share;
-  paid = ap (λ x. x.paid) e ∙ ap (more (tree_of b.frame) (2 ^ b.order)) rests.paid ∙ more_of_none (tree_of b.frame) (2 ^ b.order);
-  charged = ap (λ x. x.charged) e ∙ rests.charged;
-  own = ap (λ x. x.own) e ∙ rests.own;
-}
+-- what was paid for was handed out
+pub lends_one : (tree order : ℕ) (v u w : View) → v.paid ≡ None → PaysOnly tree (2 ^ order) v u
+    → HasHandedOut tree order u w → LendsOne v w
+lends_one tree order v u w none paid e =
+    let F : View → Option Amount → View = (λ y a. record y { paid = a; lent = y.lent +ℤ pos 1; moves = w.moves; lost = w.lost }) in
+    e
+    ∙ ap (λ (y : View). F y (less tree (2 ^ order) y.paid)) paid
+    ∙ ap (F v) (less_of_all tree (2 ^ order) ∙ sym none)
 
--- a view that paid for a block and handed it out has nothing in flight
-pub rests_after_take : (tree order : ℕ) (v u w : View) → IsAtRest v → PaysOnly tree (2 ^ order) v u
-    → HasHandedOut tree order u w → IsAtRest w
-rests_after_take tree order v u w rests paid e = record {
-  share = ap (λ x. x.share) e ∙ ap (λ x. x.share) paid ∙ rests.share;
-  paid = taken_none_paid tree order u w (ap (λ x. x.paid) paid) e;
-  charged = ap (λ x. x.charged) e ∙ ap (λ x. x.charged) paid ∙ rests.charged;
-  reserving = ap (λ x. x.reserving) e ∙ ap (λ x. x.reserving) paid ∙ rests.reserving;
-  own = ap (λ x. x.own) e ∙ ap (λ x. x.own) paid ∙ rests.own;
-}
+-- what was given is paid
+pub paid_back : (b : FrameBlock) (v w : View) → v.paid ≡ None → HasTakenBack b v w
+    → w.paid ≡ counted (tree_of b.frame) (2 ^ b.order)
+paid_back b v w none e =
+    ap (λ x. x.paid) e ∙ ap (more (tree_of b.frame) (2 ^ b.order)) none ∙ more_of_none (tree_of b.frame) (2 ^ b.order)
+
+-- and then nothing
+pub has_one_back : (b : FrameBlock) (v u w : View) → v.paid ≡ None → HasTakenBack b v u → PaysNothing u w
+    → HasOneBack v w
+has_one_back b v u w none e f =
+    f
+    ∙ ap (λ (y : View). record y { paid = None; moves = w.moves; lost = w.lost }) e
+    ∙ ap (λ a. record v { paid = a; lent = v.lent -ℤ pos 1; moves = w.moves; lost = w.lost }) (sym none)
+
+-- the tree of a block is one of the memory
+pub tree_is_there : (key was : Key) (b : FrameBlock) (tree : ℕ) → key ≡ was → IsBlock was b → tree ≡ tree_of b.frame
+    → tree < tree_count key
+tree_is_there key was b tree same is e =
+    subst (λ (k : Key). tree < tree_count k) (sym same) (omega (arith, e, is.inside, pow_pos b.order))

@@ -1,20 +1,19 @@
 //! Pairs of a take and a give, with the frames of a block paid before and refunded behind.
 
-ghost use Rattle.std.specs.Prelude.{◌≡◌, ℕ, ◌^◌, ◌<◌, ◌≤◌, MatchBool};
-ghost use Rattle.frame_core.specs.Key.{tree_count};
-ghost use Rattle.low_frames.specs.Takes.{IsAsBefore};
-ghost use Rattle.frame_table.specs.Seats.{key_at, view_of, Sits};
+ghost use Rattle.std.specs.Prelude.{◌≤◌};
 ghost use Rattle.frame_trials.specs.Work.{
-  HasOnlyPaid,
-  IsAtRest,
-  PaysOnly,
-  PaysNothing,
-  IsReady,
+  MayPay,
+  Pays,
+  HasPaidFor,
+  Refunds,
+  IsBack,
+  MayWork,
+  HasWorked,
 };
 
 use frame_core::{Moves, Place};
 use frame_table::{CoreSeat, FrameTable, SharedMoves};
-use frame_words::tree_free;
+use frame_words::{frames_of, tree_free};
 use low_frames::{give_low, take_in_tree};
 
 /// How often an exchange on a tree word is tried.
@@ -23,13 +22,8 @@ const TRIES: u32 = 4;
 /// Pays the frames of a block of the order; false where the tree has too few, or all tries were
 /// lost.
 pub fn pay<M: Moves>(m: &mut M, tree: u32, order: u8) -> bool
-    requires tree { tree < tree_count (M.key m.old) }
-    requires order { order ≤ 9 }
-    requires rests { IsAtRest (M.view m.old) }
-    ensures tie { (M.tie m.new ≡ M.tie m.old) × (M.key m.new ≡ M.key m.old) }
-    ensures view { MatchBool result
-        (PaysOnly tree (2 ^ order) (M.view m.old) (M.view m.new))
-        (IsAsBefore (M.view m.old) (M.view m.new)) }
+    requires { MayPay tree order (M.at m.old) }
+    ensures { Pays tree order result (M.at m.old) (M.at m.new) }
 {
     let n = frames_of(order);
     for _i in 0..TRIES {
@@ -46,31 +40,17 @@ pub fn pay<M: Moves>(m: &mut M, tree: u32, order: u8) -> bool
 
 /// Puts the paid frames of a block of the order back into the tree.
 pub fn refund<M: Moves>(m: &mut M, tree: u32, order: u8)
-    requires tree { tree < tree_count (M.key m.old) }
-    requires order { order ≤ 9 }
-    requires paid { HasOnlyPaid tree (2 ^ order) (M.view m.old) }
-    ensures tie { (M.tie m.new ≡ M.tie m.old) × (M.key m.new ≡ M.key m.old) }
-    ensures view { PaysNothing (M.view m.old) (M.view m.new) }
+    requires { HasPaidFor tree order (M.at m.old) }
+    ensures { Refunds (M.at m.old) (M.at m.new) }
 {
     m.tree_refund(tree, frames_of(order));
-}
-
-#[inline]
-fn frames_of(order: u8) -> u32
-    requires { order ≤ 9 }
-    ensures { result ≡ 2 ^ order }
-{
-    1 << order
 }
 
 /// Takes a block in the tree, whose frames are paid, and gives it back, so many times. Answers how
 /// many takes found a block.
 pub fn pairs<M: Moves>(m: &mut M, tree: u32, order: u8, count: u64) -> u64
-    requires tree { tree < tree_count (M.key m.old) }
-    requires order { order ≤ 9 }
-    requires paid { HasOnlyPaid tree (2 ^ order) (M.view m.old) }
-    ensures tie { (M.tie m.new ≡ M.tie m.old) × (M.key m.new ≡ M.key m.old) }
-    ensures view { IsAsBefore (M.view m.old) (M.view m.new) }
+    requires { HasPaidFor tree order (M.at m.old) }
+    ensures back { IsBack (M.at m.old) (M.at m.new) }
     ensures found { result ≤ count }
 {
     let mut found = 0;
@@ -84,11 +64,8 @@ pub fn pairs<M: Moves>(m: &mut M, tree: u32, order: u8, count: u64) -> u64
 
 #[inline]
 fn pair<M: Moves>(m: &mut M, tree: u32, order: u8) -> bool
-    requires tree { tree < tree_count (M.key m.old) }
-    requires order { order ≤ 9 }
-    requires paid { HasOnlyPaid tree (2 ^ order) (M.view m.old) }
-    ensures tie { (M.tie m.new ≡ M.tie m.old) × (M.key m.new ≡ M.key m.old) }
-    ensures view { IsAsBefore (M.view m.old) (M.view m.new) }
+    requires { HasPaidFor tree order (M.at m.old) }
+    ensures { IsBack (M.at m.old) (M.at m.new) }
 {
     let Some(block) = take_in_tree(m, tree, order) else {
         return false;
@@ -100,11 +77,8 @@ fn pair<M: Moves>(m: &mut M, tree: u32, order: u8) -> bool
 /// Pays, makes the pairs and refunds. Answers how many takes found a block; 0 where nothing could
 /// be paid.
 pub fn work(table: &FrameTable, core: &mut CoreSeat, tree: u32, order: u8, count: u64) -> u64
-    requires tree { tree < tree_count (key_at table.now) }
-    requires order { order ≤ 9 }
-    requires ready { IsReady table.now core.old }
-    ensures ready { IsReady table.now core.new }
-    ensures view { IsAsBefore (view_of core.old) (view_of core.new) }
+    requires { MayWork table.now tree order core.old }
+    ensures worked { HasWorked table.now core.old core.new }
     ensures found { result ≤ count }
 {
     let mut m = SharedMoves::new(table, core);

@@ -1,4 +1,8 @@
 mod closing;
 mod crossing;
+mod cut;
+mod random;
 mod ranges;
 mod reopening;
+mod seats;
+mod sums;

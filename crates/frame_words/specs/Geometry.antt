@@ -1,9 +1,13 @@
 -- The sizes of memory, and the limits of a geometry.
-use Rattle.std.specs.Prelude.{ℕ, ◌+◌, ◌-◌, ◌*◌, ◌/◌, ◌≤◌, min}
+use Rattle.std.specs.Prelude.{ℕ, ◌+◌, ◌-◌, ◌*◌, ◌/◌, ◌<◌, ◌≤◌, min}
 
 -- the frames of a child
 abbrev pub child_frames : ℕ
 child_frames = 512
+
+-- the order of a block that is a child, the highest that there is
+abbrev pub huge_order : ℕ
+huge_order = 9
 
 -- the children of a tree, of which the last tree may have fewer
 abbrev pub tree_children : ℕ
@@ -29,6 +33,11 @@ most_cores = 64
 abbrev pub IsWithinLimits : ℕ → ℕ → Type 0
 IsWithinLimits children cores =
     (1 ≤ children) × (children ≤ most_children) × (1 ≤ cores) × (cores ≤ most_cores)
+
+-- memory of so many frames ends in the last of so many children
+abbrev pub EndsInLastChild : ℕ → ℕ → Type 0
+EndsInLastChild children frames =
+    (child_frames * (children - 1) < frames) × (frames ≤ child_frames * children)
 
 -- the trees that so many children fill, the last of them perhaps in part
 abbrev pub tree_count : ℕ → ℕ

@@ -4,7 +4,7 @@ ghost use Rattle.std.specs.Prelude.{◌≡◌, ◌^◌, ◌<◌, ◌≤◌, ◌�
 ghost use Rattle.frame_words.specs.Geometry.{child_frames};
 ghost use Rattle.frame_words.specs.Words.{flag, entry_word, free_in, flag_in};
 
-const HUGE: u64 = 32768;
+use super::sizes::FLAG;
 
 /// The entry of a child with so many free frames, taken whole as a huge frame or not.
 #[tactic(auto, unfolding(crate::specs::Words::entry_word, crate::specs::Words::free_in, crate::specs::Words::flag_in))]
@@ -16,7 +16,7 @@ pub fn entry(free: u32, huge: bool) -> u64
     ensures lane { result < 2 ^ 16 }
 {
     let free = u64::from(free);
-    if huge { free + HUGE } else { free }
+    if huge { free + FLAG } else { free }
 }
 
 /// The free frames that the entry counts.
@@ -26,7 +26,7 @@ pub fn entry_free(entry: u64) -> u32
     ensures value { result ≡ free_in entry }
     ensures below { result < 2 ^ 15 }
 {
-    (entry % HUGE) as u32
+    (entry % FLAG) as u32
 }
 
 /// Is the child taken whole, as a huge frame?
@@ -36,5 +36,5 @@ pub fn entry_huge(entry: u64) -> bool
     ensures set { IsTrue result ↔ (0 < flag_in entry) }
     ensures value { entry < 2 ^ 16 → flag_in entry ≡ flag result }
 {
-    entry >= HUGE
+    entry >= FLAG
 }

@@ -1,19 +1,13 @@
 //! The sizes of memory: frames in children, children in trees.
 
-ghost use Rattle.std.specs.Prelude.{◌≡◌, ◌+◌, ◌-◌, ◌*◌, ◌/◌, ◌<◌, ◌≤◌, ◌↔◌, IsOk, IfOk, IfErr};
-ghost use Rattle.frame_words.specs.Geometry.{child_frames, tree_frames, most_children, most_trees, most_cores, IsWithinLimits, tree_count, tree_size};
+ghost use Rattle.std.specs.Prelude.{◌≡◌, ◌+◌, ◌-◌, ◌*◌, ◌/◌, ◌<◌, ◌≤◌, ◌↔◌};
+ghost use Rattle.std.specs.Prelude.{Err, IsOk, IfOk, IfErr};
+ghost use Rattle.frame_words.specs.Geometry.{child_frames, tree_frames, most_children, most_trees};
+ghost use Rattle.frame_words.specs.Geometry.{most_cores, IsWithinLimits, EndsInLastChild};
+ghost use Rattle.frame_words.specs.Geometry.{tree_count, tree_size};
 
 use super::fault::Fault;
-
-const CHILD_FRAMES: u32 = 512;
-
-const TREE_CHILDREN: u32 = 8;
-
-const TREE_FRAMES: u32 = CHILD_FRAMES * TREE_CHILDREN;
-
-const MOST_CHILDREN: u32 = 4096;
-
-const MOST_CORES: u32 = 64;
+use super::sizes::{CHILD_FRAMES, MOST_CHILDREN, MOST_CORES, TREE_CHILDREN, TREE_FRAMES};
 
 /// How many children and frames memory has, and how many cores use it. Only the last child may
 /// have fewer frames than 512.
@@ -42,6 +36,28 @@ impl Geometry {
             return Err(Fault::BadGeometry);
         }
         let frames = CHILD_FRAMES * children;
+        Ok(Geometry {
+            children,
+            cores,
+            frames,
+        })
+    }
+
+    /// So many frames, of which the last child may have fewer than 512. The numbers of children
+    /// and cores are looked at first.
+    pub fn with_frames(children: u32, cores: u32, frames: u32) -> Result<Geometry, Fault>
+        ensures within { IsOk result ↔
+            (IsWithinLimits children cores × EndsInLastChild children frames) }
+        ensures made { IfOk result (λ g. (g.children ≡ children) × (g.cores ≡ cores)) }
+        ensures frames { IfOk result (λ g. g.frames ≡ frames) }
+        ensures sizes { (result ≡ Err Fault.BadGeometry) ↔ (¬ IsWithinLimits children cores) }
+        ensures range { (result ≡ Err Fault.BadRange) ↔
+            (IsWithinLimits children cores × (¬ EndsInLastChild children frames)) }
+    {
+        let whole = Geometry::new(children, cores)?;
+        if frames > whole.frames || frames <= whole.frames - CHILD_FRAMES {
+            return Err(Fault::BadRange);
+        }
         Ok(Geometry {
             children,
             cores,

@@ -3,7 +3,7 @@
 ghost use Rattle.std.specs.Prelude.{◌≡◌, ◌≢◌, ℕ, ◌%◌, ◌^◌, ◌<◌};
 ghost use Rattle.frame_words.specs.Words.{lane_count, lane_in, lane_put};
 
-const LANES: u32 = 4;
+use super::sizes::LANES;
 
 const LANE_BITS: u32 = 16;
 

@@ -8,6 +8,7 @@ mod lanes;
 mod local_word;
 mod masks;
 mod runs;
+mod sizes;
 mod tree_word;
 
 pub use entry_word::{entry, entry_free, entry_huge};
@@ -17,6 +18,10 @@ pub use lanes::{lane, with_lane};
 pub use local_word::{local, local_of};
 pub use masks::mask;
 pub use runs::{find_run, find_words};
+pub use sizes::{
+    CHILD_FRAMES, CHILD_WORDS, FLAG, HUGE_ORDER, LANES, MOST_CHILDREN, MOST_CORES, TREE_CHILDREN,
+    TREE_FRAMES, WORD_FRAMES, WORD_ORDER, frames_of,
+};
 pub use tree_word::{tree, tree_free, tree_reserved};
 
 #[cfg(test)]

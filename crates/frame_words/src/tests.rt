@@ -58,6 +58,25 @@ fn a_geometry_ends_at_its_limits(rt: HostRuntime) {
 }
 
 #[test]
+fn frames_end_in_the_last_child(rt: HostRuntime) {
+    for (children, cores, frames) in [(1, 1, 1), (1, 1, 512), (2, 1, 513), (4096, 64, 2097152)] {
+        let made = Geometry::with_frames(children, cores, frames);
+        assert_eq!(rt; made.map(|geometry| geometry.frames()), Ok(frames));
+    }
+    for (children, cores, frames, fault) in [
+        (1, 1, 0, Fault::BadRange),
+        (1, 1, 513, Fault::BadRange),
+        (2, 1, 512, Fault::BadRange),
+        (4096, 64, 2097153, Fault::BadRange),
+        (0, 1, 0, Fault::BadGeometry),
+        (1, 65, 513, Fault::BadGeometry),
+        (4097, 1, u32::MAX, Fault::BadGeometry),
+    ] {
+        assert_eq!(rt; Geometry::with_frames(children, cores, frames), Err(fault));
+    }
+}
+
+#[test]
 fn the_last_tree_may_have_fewer_children(rt: HostRuntime) -> Result<(), Fail> {
     let geometry = Geometry::new(9, 2)?;
     assert_eq!(rt; geometry.children(), 9);

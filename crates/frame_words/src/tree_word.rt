@@ -4,7 +4,7 @@ ghost use Rattle.std.specs.Prelude.{◌≡◌, ◌^◌, ◌<◌, ◌≤◌, ◌�
 ghost use Rattle.frame_words.specs.Geometry.{tree_frames};
 ghost use Rattle.frame_words.specs.Words.{flag, entry_word, free_in, flag_in};
 
-const RESERVED: u64 = 32768;
+use super::sizes::FLAG;
 
 /// The word of a tree with so many free frames, reserved by a core or not.
 #[tactic(auto, unfolding(crate::specs::Words::entry_word, crate::specs::Words::free_in, crate::specs::Words::flag_in))]
@@ -16,7 +16,7 @@ pub fn tree(free: u32, reserved: bool) -> u64
     ensures below { result < 2 ^ 16 }
 {
     let free = u64::from(free);
-    if reserved { free + RESERVED } else { free }
+    if reserved { free + FLAG } else { free }
 }
 
 /// The free frames that the tree word counts.
@@ -26,7 +26,7 @@ pub fn tree_free(word: u64) -> u32
     ensures value { result ≡ free_in word }
     ensures below { result < 2 ^ 15 }
 {
-    (word % RESERVED) as u32
+    (word % FLAG) as u32
 }
 
 /// Has a core reserved the tree?
@@ -36,5 +36,5 @@ pub fn tree_reserved(word: u64) -> bool
     ensures set { IsTrue result ↔ (0 < flag_in word) }
     ensures value { word < 2 ^ 16 → flag_in word ≡ flag result }
 {
-    word >= RESERVED
+    word >= FLAG
 }

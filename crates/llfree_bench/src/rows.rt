@@ -2,11 +2,11 @@
 
 ghost use Rattle.std.specs.Prelude.{◌≡◌, ◌<◌, ◌≤◌};
 ghost use Rattle.frame_core.specs.Key.{tree_count};
-ghost use Rattle.frame_table.specs.Seats.{key_at};
-ghost use Rattle.frame_trials.specs.Work.{IsReady};
+ghost use Rattle.frame_table.specs.Seats.{key_at, IsIdleSeat};
+ghost use Rattle.frame_trials.specs.Work.{MayWork};
 
-use frame_table::{CoreSeat, FrameTable};
-use frame_trials::{open, work};
+use frame_table::{CoreSeat, FrameTable, open_table};
+use frame_trials::work;
 use frame_words::Geometry;
 use std::alloc::Global;
 use std::rt::Clock;
@@ -68,7 +68,7 @@ fn measure<R: Threads + Clock + Sync>(
     let Ok(geometry) = Geometry::new(CHILDREN, row.threads) else {
         unreachable!()
     };
-    let Ok((table, seats)) = open(alloc, &geometry) else {
+    let Ok((table, seats)) = open_table(alloc, &geometry) else {
         return Err(io::Error::from(io::ErrorKind::OutOfMemory));
     };
     let turns = AtomicU64::new(0);
@@ -78,7 +78,7 @@ fn measure<R: Threads + Clock + Sync>(
         rt,
         seats,
         &|core: CoreSeat| -> u64
-            requires { IsReady shared.now core × (64 ≤ tree_count (key_at shared.now)) }
+            requires { IsIdleSeat shared.now core × (64 ≤ tree_count (key_at shared.now)) }
         { run(shared, core, tree_of_turn(turn, row), row.order, count) },
     );
     let spent = start.elapsed(rt)?;
@@ -104,9 +104,7 @@ fn tree_of_turn(turn: &AtomicU64, row: Row) -> u32
 }
 
 fn run(table: &FrameTable, mut core: CoreSeat, tree: u32, order: u8, count: u32) -> u64
-    requires tree { tree < tree_count (key_at table.now) }
-    requires order { order ≤ 9 }
-    requires ready { IsReady table.now core }
+    requires { MayWork table.now tree order core }
 {
     work(table, &mut core, tree, order, u64::from(count))
 }

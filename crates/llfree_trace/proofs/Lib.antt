@@ -3,6 +3,5 @@ pub mod Cores
 pub mod Parsing
 pub mod Desks
 pub mod Running
-pub mod HeldWords
 pub mod Commands
 pub mod Statuses

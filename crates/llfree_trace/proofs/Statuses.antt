@@ -1,30 +1,104 @@
--- Why a run of words that are served was refused.
-use Rattle.std.proofs.Common.{◌≡◌, ℕ, List, Option, Some, None, refl, arith, IfSome, IsErr, Err}
+-- Why a command that is served was refused.
+use Rattle.std.proofs.Common.{◌≡◌, ℕ, List, Option, Some, None, refl, sym, subst, IfSome, IsErr, Err}
+use Rattle.std.specs.Prelude.{IsSomeAnd}
 use Rattle.frame_words.specs.declared.fault.Fault.{Fault}
 use Rattle.frame_words.specs.declared.fault.Fault.TheVariants as fault
-use Rattle.frame_words.specs.declared.geometry.Geometry.{Geometry}
-use Rattle.llfree_trace.specs.Program.{EndsCommand, IsServed, sizes_of}
+use Rattle.frame_image.specs.ImageText.{image_of}
+use Rattle.llfree_trace.specs.ImageStreams.{IsImageFault}
+use Rattle.llfree_trace.specs.Program.{AreLawful, AreServed, CanDo, Does, EndsCommand, IsUnlawful, MustWait}
 use Rattle.llfree_trace.specs.Streams.{IsRunFault}
 use Rattle.llfree_trace.specs.TraceText.{trace_of}
+use Rattle.llfree_trace.specs.declared.command.Command.{Command}
+use Rattle.llfree_trace.specs.declared.command.Command.TheVariants as command
+use Rattle.llfree_trace.specs.declared.command.Sizes.{Sizes}
 use Rattle.llfree_trace.specs.declared.program.Failure.TheVariants as failure
-
--- a geometry has sizes within the limits
-pub served_words : (words : List (List ℕ)) (g : Geometry) → sizes_of words ≡ Some (g.children, g.cores)
-    → g.cores ≡ 1 → IsServed words
-served_words words g some one = rw some ((omega arith, omega arith, omega arith, omega arith), one)
+use Rattle.llfree_trace.specs.declared.streams.Show.{Show}
 
 -- a record is refused only in a text that is no trace
-refused_text : (o : Option (List ℕ)) (line : ℕ) → IfSome o (λ text. trace_of 1 text ≡ Err line)
+refused_trace : (o : Option (List ℕ)) (line : ℕ) → IfSome o (λ text. trace_of 1 text ≡ Err line)
     → IfSome o (λ text. IsErr (trace_of 1 text))
-refused_text None line h = tt
-refused_text (Some text) line h = rw h refl
+refused_trace None line h = tt
+refused_trace (Some text) line h = rw h refl
 
--- each fault of a run says why its command ended
-pub run_ends : (words : List (List ℕ)) (input : Option (List ℕ)) (f : Fault) → IsServed words → IsRunFault f
+-- and only in one that is no image
+refused_image : (o : Option (List ℕ)) (line : ℕ) → IfSome o (λ text. image_of text ≡ Err line)
+    → IfSome o (λ text. IsErr (image_of text))
+refused_image None line h = tt
+refused_image (Some text) line h = rw h refl
+
+-- each fault of a run says why it ended
+run_of : (sizes : Sizes) (show : Show) (input : Option (List ℕ)) (f : Fault) → AreLawful sizes
+    → AreServed sizes → IsRunFault f
     → ((line : ℕ) → f ≡ fault.BadTrace line → IfSome input (λ text. trace_of 1 text ≡ Err line))
-    → EndsCommand words input (failure.Refused f)
-run_ends words input fault.NoMemory served is bad = served
-run_ends words input (fault.BadTrace line) served is bad = (served, refused_text input line (bad line refl))
-run_ends words input fault.ReadFailed served is bad = served
-run_ends words input fault.WriteFailed served is bad = served
-run_ends words input f served is bad = absurd is
+    → EndsCommand (command.Run sizes show) input (failure.Refused f)
+run_of sizes show input fault.NoMemory lawful served is bad = (lawful, served)
+run_of sizes show input (fault.BadTrace line) lawful served is bad = ((lawful, served), refused_trace input line (bad line refl))
+run_of sizes show input fault.ReadFailed lawful served is bad = (lawful, served)
+run_of sizes show input fault.WriteFailed lawful served is bad = (lawful, served)
+run_of sizes show input f lawful served is bad = absurd is
+
+pub run_ends : (c : Command) (sizes : Sizes) (show : Show) (input : Option (List ℕ)) (f : Fault)
+    → c ≡ command.Run sizes show → AreLawful sizes → AreServed sizes → IsRunFault f
+    → ((line : ℕ) → f ≡ fault.BadTrace line → IfSome input (λ text. trace_of 1 text ≡ Err line))
+    → EndsCommand c input (failure.Refused f)
+run_ends c sizes show input f e lawful served is bad =
+    subst (λ (k : Command). EndsCommand k input (failure.Refused f)) (sym e) (run_of sizes show input f lawful served is bad)
+
+-- and each of rebuilding
+rebuild_of : (input : Option (List ℕ)) (f : Fault) → IsImageFault f
+    → ((line : ℕ) → f ≡ fault.BadImage line → IfSome input (λ text. image_of text ≡ Err line))
+    → EndsCommand command.Rebuild input (failure.Refused f)
+rebuild_of input fault.NoMemory is bad = tt
+rebuild_of input (fault.BadImage line) is bad = (tt, refused_image input line (bad line refl))
+rebuild_of input fault.ReadFailed is bad = tt
+rebuild_of input fault.WriteFailed is bad = tt
+rebuild_of input f is bad = absurd is
+
+pub rebuild_ends : (c : Command) (input : Option (List ℕ)) (f : Fault) → c ≡ command.Rebuild → IsImageFault f
+    → ((line : ℕ) → f ≡ fault.BadImage line → IfSome input (λ text. image_of text ≡ Err line))
+    → EndsCommand c input (failure.Refused f)
+rebuild_ends c input f e is bad =
+    subst (λ (k : Command). EndsCommand k input (failure.Refused f)) (sym e) (rebuild_of input f is bad)
+
+-- and of a report
+report_of : (input : Option (List ℕ)) (f : Fault) → IsImageFault f
+    → ((line : ℕ) → f ≡ fault.BadImage line → IfSome input (λ text. image_of text ≡ Err line))
+    → EndsCommand command.Report input (failure.Refused f)
+report_of input fault.NoMemory is bad = tt
+report_of input (fault.BadImage line) is bad = (tt, refused_image input line (bad line refl))
+report_of input fault.ReadFailed is bad = tt
+report_of input fault.WriteFailed is bad = tt
+report_of input f is bad = absurd is
+
+pub report_ends : (c : Command) (input : Option (List ℕ)) (f : Fault) → c ≡ command.Report → IsImageFault f
+    → ((line : ℕ) → f ≡ fault.BadImage line → IfSome input (λ text. image_of text ≡ Err line))
+    → EndsCommand c input (failure.Refused f)
+report_ends c input f e is bad =
+    subst (λ (k : Command). EndsCommand k input (failure.Refused f)) (sym e) (report_of input f is bad)
+
+-- What was done was served.
+
+does_now : (c : Command) (input old new : Option (List ℕ)) → Does c input old new → CanDo c
+unfolding Does
+does_now (command.Run sizes show) input old new d = d.2
+does_now command.Rebuild input old new d = tt
+does_now command.Report input old new d = tt
+
+pub words_done : (o : Option Command) (input old new : Option (List ℕ)) → IsSomeAnd o (λ c. Does c input old new)
+    → IsSomeAnd o CanDo
+words_done None input old new d = d
+words_done (Some c) input old new d = does_now c input old new d
+
+-- what is served need not wait
+pub served_now : (o : Option Command) → IsSomeAnd o CanDo → IfSome o MustWait → ⊥
+served_now None can wait = can
+served_now (Some (command.Run sizes show)) can wait = wait.1 can.1
+served_now (Some command.Rebuild) can wait = wait
+served_now (Some command.Report) can wait = wait
+
+-- and has sizes that a memory may have
+pub served_lawful : (o : Option Command) → IsSomeAnd o CanDo → IsSomeAnd o IsUnlawful → ⊥
+served_lawful None can bad = can
+served_lawful (Some (command.Run sizes show)) can bad = bad can.0
+served_lawful (Some command.Rebuild) can bad = bad
+served_lawful (Some command.Report) can bad = bad

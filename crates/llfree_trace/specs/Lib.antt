@@ -5,3 +5,5 @@ pub mod Outcome
 pub mod Desk
 pub mod Streams
 pub mod Program
+pub mod Command
+pub mod ImageStreams

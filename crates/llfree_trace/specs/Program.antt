@@ -1,36 +1,19 @@
--- What the words of a command ask for, and the status of a run.
-use Rattle.std.specs.Prelude.{ℕ, ◌≡◌, ◌<◌, List, [], ◌∷◌, length, nat_le}
-use Rattle.std.specs.Prelude.{Option, Some, None, option_map, option_and_then, if◌then◌else◌}
-use Rattle.std.specs.Prelude.{codes, IfSome, IsSomeAnd, IsErr}
-use Rattle.std.specs.Str.{bytes_eq}
-use Rattle.frame_image.specs.Numbers.{number_below}
-use Rattle.frame_words.specs.Geometry.{IsWithinLimits}
+-- What a command does, why it ends without a result, and the status of the program.
+use Rattle.std.specs.Prelude.{ℕ, ◌≡◌, ◌*◌, List, Option, unwrap_or, IfSome, IsSomeAnd, IsErr}
+use Rattle.frame_image.specs.ImageText.{image_of}
+use Rattle.frame_words.specs.Geometry.{IsWithinLimits, EndsInLastChild, child_frames}
 use Rattle.frame_words.specs.declared.fault.Fault.{Fault}
 use Rattle.frame_words.specs.declared.fault.Fault.TheVariants as fault
 use Rattle.frame_words.specs.declared.geometry.Geometry.{Geometry}
+use Rattle.llfree_trace.specs.Command.{command_of}
+use Rattle.llfree_trace.specs.ImageStreams.{IsRebuiltText, IsReportText, WritesSo, WritesFrontSo}
 use Rattle.llfree_trace.specs.Streams.{WritesFrontOfRun, WritesRun}
 use Rattle.llfree_trace.specs.TraceText.{trace_of}
+use Rattle.llfree_trace.specs.declared.command.Command.{Command}
+use Rattle.llfree_trace.specs.declared.command.Command.TheVariants as command
+use Rattle.llfree_trace.specs.declared.command.Sizes.{Sizes}
 use Rattle.llfree_trace.specs.declared.program.Failure.{Failure}
 use Rattle.llfree_trace.specs.declared.program.Failure.TheVariants as failure
-
--- a number of 1 to 9 digits
-unfoldable pub count_of : List ℕ → Option ℕ
-count_of word = if nat_le (length word) 9 then number_below 1_000_000_000 word else None
-
--- the children and the cores that two words name
-unfoldable pub pair_of : List ℕ → List ℕ → Option (ℕ × ℕ)
-pair_of children cores =
-    option_and_then (λ m. option_map (λ n. (m, n)) (count_of cores)) (count_of children)
-
--- the children and the cores of a command `run CHILDREN CORES`
-unfoldable pub sizes_in : List ℕ → List ℕ → List ℕ → Option (ℕ × ℕ)
-sizes_in command children cores =
-    if bytes_eq command (codes "run") then pair_of children cores else None
-
--- the same of all words of a command line
-unfoldable pub sizes_of : List (List ℕ) → Option (ℕ × ℕ)
-sizes_of (command ∷ children ∷ cores ∷ []) = sizes_in command children cores
-sizes_of _ = None
 
 -- the status of a fault: 3 where the outside failed, else 1
 abbrev pub status_of : Fault → ℕ
@@ -39,50 +22,116 @@ status_of fault.ReadFailed = 3
 status_of fault.WriteFailed = 3
 status_of _ = 1
 
--- the words are a run on one core, and the known bytes grow by the answers to what the input spells
-abbrev pub RunsCommand : List (List ℕ) → Option (List ℕ) → Option (List ℕ) → Option (List ℕ)
-    → Type 0
-RunsCommand words input old new =
-    (g : Geometry) × (sizes_of words ≡ Some (g.children, g.cores)) × (g.cores ≡ 1)
-    × IfSome input (λ text. WritesRun g text old new)
+-- Sizes.
 
--- the words are a run on one core, and the known bytes grow by a front of such answers
-abbrev pub RunsFront : List (List ℕ) → Option (List ℕ) → Option (List ℕ) → Option (List ℕ)
-    → Type 0
-RunsFront words input old new =
-    (g : Geometry) × (sizes_of words ≡ Some (g.children, g.cores)) × (g.cores ≡ 1)
-    × IfSome input (λ text. WritesFrontOfRun g text old new)
+-- the frames of a memory of these sizes: as many as named, or those of all children
+abbrev pub frames_of : Sizes → ℕ
+frames_of sizes = unwrap_or sizes.frames (child_frames * sizes.children)
 
--- the words are a run within the limits, on one core
+-- the geometry has these sizes
+pub record HasSizes (sizes : Sizes) (g : Geometry) : Type 0 where
+  pub children : g.children ≡ sizes.children
+  pub cores : g.cores ≡ sizes.cores
+  pub frames : g.frames ≡ frames_of sizes
+
+-- children and cores lie within the limits, and the frames end in the last child
+abbrev pub AreLawful : Sizes → Type 0
+AreLawful sizes =
+    IsWithinLimits sizes.children sizes.cores × EndsInLastChild sizes.children (frames_of sizes)
+
+-- the sizes that are served so far: those of one core
+abbrev pub AreServed : Sizes → Type 0
+AreServed sizes = sizes.cores ≡ 1
+
+-- Commands.
+
+-- the command is served
+abbrev pub CanDo : Command → Type 0
+CanDo (command.Run sizes show) = AreLawful sizes × AreServed sizes
+CanDo _ = Unit {0}
+
+-- the known bytes grow by what the command makes of the input
+unfoldable pub Does : Command → Option (List ℕ) → Option (List ℕ) → Option (List ℕ) → Type 0
+Does (command.Run sizes show) input old new =
+    (g : Geometry) × HasSizes sizes g × CanDo (command.Run sizes show)
+    × IfSome input (λ text. WritesRun g show text old new)
+Does command.Rebuild input old new = IfSome input (λ text. WritesSo IsRebuiltText text old new)
+Does command.Report input old new = IfSome input (λ text. WritesSo IsReportText text old new)
+
+-- the known bytes grow by a front of that
+unfoldable pub DoesFront : Command → Option (List ℕ) → Option (List ℕ) → Option (List ℕ) → Type 0
+DoesFront (command.Run sizes show) input old new =
+    (g : Geometry) × HasSizes sizes g × CanDo (command.Run sizes show)
+    × IfSome input (λ text. WritesFrontOfRun g show text old new)
+DoesFront command.Rebuild input old new =
+    IfSome input (λ text. WritesFrontSo IsRebuiltText text old new)
+DoesFront command.Report input old new =
+    IfSome input (λ text. WritesFrontSo IsReportText text old new)
+
+-- the command is lawful, and not served yet
+abbrev pub MustWait : Command → Type 0
+MustWait (command.Run sizes show) = AreLawful sizes × (¬ AreServed sizes)
+MustWait _ = ⊥
+
+-- the command names sizes that no memory has
+abbrev pub IsUnlawful : Command → Type 0
+IsUnlawful (command.Run sizes show) = ¬ AreLawful sizes
+IsUnlawful _ = ⊥
+
+-- the command reads a trace or an image, and the text is none
+abbrev pub IsRefused : Command → List ℕ → Type 0
+IsRefused (command.Run sizes show) text = IsErr (trace_of 1 text)
+IsRefused _ text = IsErr (image_of text)
+
+-- Command lines.
+
+-- the words are a command, and the known bytes grow by what it makes of the input
+abbrev pub DoesWords : List (List ℕ) → Option (List ℕ) → Option (List ℕ) → Option (List ℕ) → Type 0
+DoesWords words input old new = IsSomeAnd (command_of words) (λ c. Does c input old new)
+
+-- the same, by a front of that
+abbrev pub DoesWordsFront : List (List ℕ) → Option (List ℕ) → Option (List ℕ) → Option (List ℕ)
+    → Type 0
+DoesWordsFront words input old new = IsSomeAnd (command_of words) (λ c. DoesFront c input old new)
+
+-- the words are a command that is served
 abbrev pub IsServed : List (List ℕ) → Type 0
-IsServed words =
-    IsSomeAnd (sizes_of words) (λ sizes. IsWithinLimits sizes.0 sizes.1 × (sizes.1 ≡ 1))
+IsServed words = IsSomeAnd (command_of words) CanDo
 
--- the words are no run of two numbers, or one within the limits on more cores than one
+-- the words are no command, or one that is not served yet
 abbrev pub IsUnserved : List (List ℕ) → Type 0
-IsUnserved words =
-    IfSome (sizes_of words) (λ sizes. IsWithinLimits sizes.0 sizes.1 × (1 < sizes.1))
+IsUnserved words = IfSome (command_of words) MustWait
 
--- the words are a run of two numbers that are outside the limits
+-- the words are a command with sizes that no memory has
 abbrev pub HasBadSizes : List (List ℕ) → Type 0
-HasBadSizes words = IsSomeAnd (sizes_of words) (λ sizes. ¬ IsWithinLimits sizes.0 sizes.1)
+HasBadSizes words = IsSomeAnd (command_of words) IsUnlawful
 
--- the words are a run on one core, and a record of what the input spells is refused
-abbrev pub HasBadTrace : List (List ℕ) → Option (List ℕ) → Type 0
-HasBadTrace words input = IsServed words × IfSome input (λ text. IsErr (trace_of 1 text))
+-- the words are a command that is served, and what the input spells is refused
+abbrev pub HasBadText : List (List ℕ) → Option (List ℕ) → Type 0
+HasBadText words input =
+    IsSomeAnd (command_of words) (λ c. CanDo c × IfSome input (IsRefused c))
 
--- why the words name no geometry that is served
-abbrev pub NamesNone : List (List ℕ) → Failure → Type 0
-NamesNone words failure.Usage = IsUnserved words
-NamesNone words (failure.Refused fault.BadGeometry) = HasBadSizes words
-NamesNone words (failure.Refused _) = ⊥
+-- why sizes are not served
+abbrev pub EndsSizes : Sizes → Failure → Type 0
+EndsSizes sizes failure.Usage = AreLawful sizes × (¬ AreServed sizes)
+EndsSizes sizes (failure.Refused fault.BadGeometry) = ¬ AreLawful sizes
+EndsSizes sizes (failure.Refused fault.BadRange) = ¬ AreLawful sizes
+EndsSizes sizes (failure.Refused _) = ⊥
 
 -- why a command ended without a result; that memory really ran out no clause can say
-abbrev pub EndsCommand : List (List ℕ) → Option (List ℕ) → Failure → Type 0
-EndsCommand words input failure.Usage = IsUnserved words
-EndsCommand words input (failure.Refused fault.BadGeometry) = HasBadSizes words
-EndsCommand words input (failure.Refused (fault.BadTrace line)) = HasBadTrace words input
-EndsCommand words input (failure.Refused fault.NoMemory) = IsServed words
-EndsCommand words input (failure.Refused fault.ReadFailed) = IsServed words
-EndsCommand words input (failure.Refused fault.WriteFailed) = IsServed words
-EndsCommand words input (failure.Refused _) = ⊥
+abbrev pub EndsCommand : Command → Option (List ℕ) → Failure → Type 0
+EndsCommand c input failure.Usage = MustWait c
+EndsCommand c input (failure.Refused fault.BadGeometry) = IsUnlawful c
+EndsCommand c input (failure.Refused fault.BadRange) = IsUnlawful c
+EndsCommand c input (failure.Refused (fault.BadTrace line)) = CanDo c × IfSome input (IsRefused c)
+EndsCommand c input (failure.Refused (fault.BadImage line)) = CanDo c × IfSome input (IsRefused c)
+EndsCommand c input (failure.Refused fault.NoMemory) = CanDo c
+EndsCommand c input (failure.Refused fault.ReadFailed) = CanDo c
+EndsCommand c input (failure.Refused fault.WriteFailed) = CanDo c
+EndsCommand c input (failure.Refused _) = ⊥
+
+-- why a command line ended without a result: the words are no command, or the command ended so
+abbrev pub EndsWords : List (List ℕ) → Option (List ℕ) → Failure → Type 0
+EndsWords words input failure.Usage = IsUnserved words
+EndsWords words input (failure.Refused f) =
+    IsSomeAnd (command_of words) (λ c. EndsCommand c input (failure.Refused f))

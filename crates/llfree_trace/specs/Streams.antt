@@ -4,15 +4,19 @@ use Rattle.std.specs.Io.KnownBytes.{Appends}
 use Rattle.frame_core.specs.Image.{Contents, key_in}
 use Rattle.frame_core.specs.Report.{free_frames, held_frames}
 use Rattle.frame_image.specs.Devices.{WritesFront}
+use Rattle.frame_image.specs.ImageText.{drawn, picture_of}
 use Rattle.frame_image.specs.declared.devices.TheConstants.{MOST_BYTES}
 use Rattle.frame_words.specs.declared.fault.Fault.{Fault}
 use Rattle.frame_words.specs.declared.fault.Fault.TheVariants as fault
 use Rattle.frame_words.specs.declared.geometry.Geometry.{Geometry}
 use Rattle.llfree_trace.specs.AnswerText.{answers_of}
-use Rattle.llfree_trace.specs.Outcome.{Fits, MayRefuse, MustRefuse}
+use Rattle.held_blocks.specs.Desk.{MayRefuse}
+use Rattle.llfree_trace.specs.Outcome.{IsAnsweredBy, MustRefuseHere}
 use Rattle.llfree_trace.specs.TraceText.{trace_of}
 use Rattle.llfree_trace.specs.declared.line.Line.{Line}
 use Rattle.llfree_trace.specs.declared.reply.Answer.{Answer}
+use Rattle.llfree_trace.specs.declared.streams.Show.{Show}
+use Rattle.llfree_trace.specs.declared.streams.Show.TheVariants as show
 
 -- the text of answers, and of how many frames of the image are held and free
 abbrev pub outcome_answers : List Answer → Contents → List ℕ
@@ -20,26 +24,32 @@ outcome_answers answers image =
     answers_of answers (held_frames (key_in image) image.words)
     (free_frames (key_in image) image.words)
 
--- the bytes are the answers of an outcome that fits what the text says as a trace; a take is
--- refused in it only where no block of its order is free
-pub record IsRunOf (geometry : Geometry) (text out : List ℕ) : Type 0 where
+-- what is shown of a run: the answers, or the image at its end
+abbrev pub shown_of : Show → List Answer → Contents → List ℕ
+shown_of show.Answers answers image = outcome_answers answers image
+shown_of show.Picture answers image = picture_of (drawn image)
+
+-- the bytes show an outcome that fits what the text says as a trace; a take is refused in it only
+-- where no block of its order is free
+pub record IsRunOf (geometry : Geometry) (show : Show) (text out : List ℕ) : Type 0 where
   pub lines : List Line
   pub answers : List Answer
   pub image : Contents
   pub says : trace_of geometry.cores text ≡ Ok lines
   pub of : image.geometry ≡ geometry
-  pub fits : Fits MayRefuse lines answers image
-  pub exact : Fits MustRefuse lines answers image
-  pub spells : out ≡ outcome_answers answers image
+  pub fits : IsAnsweredBy MayRefuse lines answers image
+  pub exact : IsAnsweredBy MustRefuseHere lines answers image
+  pub spells : out ≡ shown_of show answers image
 
--- the known bytes grow by such answers
-abbrev pub WritesRun : Geometry → List ℕ → Option (List ℕ) → Option (List ℕ) → Type 0
-WritesRun geometry text old new = (out : List ℕ) × IsRunOf geometry text out × Appends old new out
+-- the known bytes grow by such bytes
+abbrev pub WritesRun : Geometry → Show → List ℕ → Option (List ℕ) → Option (List ℕ) → Type 0
+WritesRun geometry show text old new =
+    (out : List ℕ) × IsRunOf geometry show text out × Appends old new out
 
--- the known bytes grow by a front of such answers
-abbrev pub WritesFrontOfRun : Geometry → List ℕ → Option (List ℕ) → Option (List ℕ) → Type 0
-WritesFrontOfRun geometry text old new =
-    (out : List ℕ) × IsRunOf geometry text out × WritesFront old new out
+-- the known bytes grow by a front of such bytes
+abbrev pub WritesFrontOfRun : Geometry → Show → List ℕ → Option (List ℕ) → Option (List ℕ) → Type 0
+WritesFrontOfRun geometry show text old new =
+    (out : List ℕ) × IsRunOf geometry show text out × WritesFront old new out
 
 -- the bytes that a reader has left are known, and more than are read
 abbrev pub IsTooLong : Option (List ℕ) → Type 0

@@ -3,6 +3,10 @@ use Rattle.std.specs.Prelude.{ℕ, ◌+◌, List, [], ◌∷◌, max}
 use Rattle.llfree_trace.specs.declared.line.Line.{Line}
 use Rattle.llfree_trace.specs.declared.line.Line.TheVariants as line
 
+-- the most records of a trace
+abbrev pub most_records : ℕ
+most_records = 1_000_000
+
 -- one more than the greatest core that a record names, or 0 where it names none
 abbrev pub cores_in : Line → ℕ
 cores_in (line.Ask core request) = core + 1

@@ -2,11 +2,12 @@
 use Rattle.std.specs.Prelude.{ℕ, ◌^◌, ◌≡◌, ◌==◌, List, [], ◌∷◌, ◌++◌, length, nat_lt, codes}
 use Rattle.std.specs.Prelude.{Option, None, option_map, option_and_then, Result, Err, if◌then◌else◌}
 use Rattle.std.specs.Str.{bytes_eq}
-use Rattle.core_frames.specs.Label.{label_of}
+use Rattle.held_blocks.specs.Label.{label_of}
 use Rattle.frame_image.specs.Numbers.{number_below}
 use Rattle.frame_image.specs.Records.{read_records, records_of}
 use Rattle.frame_words.specs.declared.fault.Fault.{Fault}
 use Rattle.frame_words.specs.declared.fault.Fault.TheVariants as fault
+use Rattle.llfree_trace.specs.Trace.{most_records}
 use Rattle.llfree_trace.specs.declared.line.Line.{Line}
 use Rattle.llfree_trace.specs.declared.line.Line.TheVariants as line
 use Rattle.llfree_trace.specs.declared.line.Request.{Request}
@@ -48,9 +49,9 @@ unfoldable pub line_of : ℕ → List (List ℕ) → Option Line
 line_of cores (core ∷ word ∷ third ∷ fourth ∷ []) = ask_of cores core word third fourth
 line_of cores _ = None
 
--- the record behind so many; none comes after the millionth
+-- the record behind so many; none comes behind the most
 unfoldable pub line_after : ℕ → ℕ → List (List ℕ) → Option Line
-line_after cores count row = if nat_lt count 1_000_000 then line_of cores row else None
+line_after cores count row = if nat_lt count most_records then line_of cores row else None
 
 -- these records, and then the one that a row is
 unfoldable pub lines_with : ℕ → List Line → List (List ℕ) → Option (List Line)

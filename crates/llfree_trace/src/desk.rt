@@ -1,41 +1,41 @@
 //! The one core of a run on one thread: an allocator, and the list of the blocks taken from it.
 
-ghost use Rattle.std.specs.Prelude.{◌≡◌, ◌≤◌, ◌<◌, ◌∷◌, [], IfErr, IfOk, Contains, IsPermutation};
+ghost use Rattle.std.specs.Prelude.{◌≡◌, ◌≤◌, ◌<◌, ◌∷◌, ◌++◌, [], IfErr, IfOk, Contains, IsPermutation};
 ghost use Rattle.frame_core.specs.Key.{key_of};
 
 use crate::line::Request;
 use crate::reply::Reply;
 use core_frames::{Label, LabelledBlock, LabelledBlocks, PlainAllocator};
-use frame_core::{HeldBlock, Image, PlainBlock};
-use frame_words::{Fault, Geometry};
+use frame_core::{HeldBlock, Image};
+use frame_words::{Fault, Geometry, HUGE_ORDER};
 use std::alloc::Global;
 use std::marker::Model;
-
-/// The greatest order of a block.
-const MOST_ORDER: u8 = 9;
 
 // An allocator, and the list of the blocks that are out.
 #[derive(Drop)]
 pub(crate) struct PlainDesk {
     allocator: PlainAllocator,
-    list: LabelledBlocks<PlainBlock>,
+    list: LabelledBlocks,
 }
 
 impl Model for PlainDesk {
-    ghost use Rattle.llfree_trace.specs.Desk.{Agrees, DeskState, entries_of};
+    ghost use Rattle.llfree_trace.specs.Desk.{Agrees, DeskState};
 
     ghost Value = { DeskState };
 
-    ghost view = { λ d. record { geometry = d.allocator.geometry; list = entries_of d.list.entries } };
+    ghost view = { λ d. record { geometry = d.allocator.geometry; list = d.list.entries } };
 
     ghost invariant = { λ d. Agrees d.allocator d.list.entries };
 }
 
 impl PlainDesk {
-    ghost use Rattle.llfree_trace.specs.Outcome.{AnswersGive, AnswersTake, DeskStep};
-    ghost use Rattle.llfree_trace.specs.Outcome.{HoldsFrames, IsTheBlock, IsUnder, MustRefuse, blocks_of};
+    ghost use Rattle.held_blocks.specs.Desk.{GivesExactly, GivesOldest, TakesUnder};
+    ghost use Rattle.held_blocks.specs.Desk.{blocks_of};
+    ghost use Rattle.frame_core.specs.View.{boot_blocks};
+    ghost use Rattle.llfree_trace.specs.Outcome.{DeskStep, HoldsFrames, SaysGiven, SaysTaken};
+    ghost use Rattle.llfree_trace.specs.Outcome.{LeavesBootFrames, MustRefuseHere};
 
-    // A memory of which all is free.
+    // A memory of which nothing is held but what lies past its end.
     pub(crate) fn open(alloc: Global, geometry: Geometry) -> Result<PlainDesk, Fault>
         ensures geometry { IfOk result (λ d. d.geometry ≡ geometry) }
         ensures empty { IfOk result (λ d. d.list ≡ []) }
@@ -51,7 +51,7 @@ impl PlainDesk {
     // Answers a request.
     #[tactic(auto, unfolding(crate::specs::Outcome::DeskStep))]
     pub(crate) fn answer(&mut self, request: &Request) -> Result<Reply, Fault>
-        ensures step { IfOk result (λ r. DeskStep MustRefuse (key_of self.old.geometry)
+        ensures step { IfOk result (λ r. DeskStep MustRefuseHere (key_of self.old.geometry)
             self.old.list request.now r self.new.list) }
         ensures geometry { self.new.geometry ≡ self.old.geometry }
         ensures fault { IfErr result (λ e. e ≡ Fault.NoMemory) }
@@ -65,12 +65,13 @@ impl PlainDesk {
 
     // Takes a block. Want of memory is answered before the take.
     fn take(&mut self, label: &Label, order: u8) -> Result<Reply, Fault>
-        ensures step { IfOk result (λ r. AnswersTake MustRefuse (key_of self.old.geometry)
-            self.old.list label.now order r self.new.list) }
+        ensures step { IfOk result (SaysTaken (λ o. TakesUnder MustRefuseHere
+            (key_of self.old.geometry) self.old.list label.now order o self.new.list
+            × LeavesBootFrames (key_of self.old.geometry) o)) }
         ensures geometry { self.new.geometry ≡ self.old.geometry }
         ensures fault { IfErr result (λ e. e ≡ Fault.NoMemory) }
     {
-        if order > MOST_ORDER {
+        if order > HUGE_ORDER {
             return Ok(Reply::Refused(Fault::BadOrder));
         }
         self.list.reserve(label)?;
@@ -78,12 +79,7 @@ impl PlainDesk {
             Ok(block) => {
                 let frame = block.frame();
                 let label = label.again();
-                self.list.add(LabelledBlock {
-                    label,
-                    frame,
-                    order,
-                    block,
-                });
+                self.list.add(LabelledBlock { label, block });
                 Ok(Reply::Taken(frame, order))
             }
             Err(refusal) => Ok(Reply::Refused(Fault::from(refusal))),
@@ -92,7 +88,8 @@ impl PlainDesk {
 
     // Gives the oldest block under a label.
     fn give(&mut self, label: &Label) -> Reply
-        ensures step { AnswersGive (IsUnder label.now) self.old.list result self.new.list }
+        ensures step { SaysGiven (λ o. GivesOldest self.old.list label.now o self.new.list)
+            result }
         ensures geometry { self.new.geometry ≡ self.old.geometry }
     {
         match self.list.remove_oldest(label) {
@@ -103,13 +100,11 @@ impl PlainDesk {
 
     // Gives exactly this block.
     fn give_at(&mut self, frame: u32, order: u8) -> Reply
-        ensures order { 9 < order
-            → (result ≡ Reply.Refused Fault.BadOrder) × (self.new ≡ self.old) }
-        ensures step { order ≤ 9
-            → AnswersGive (IsTheBlock frame order) self.old.list result self.new.list }
+        ensures step { SaysGiven (λ o. GivesExactly self.old.list frame order o self.new.list)
+            result }
         ensures geometry { self.new.geometry ≡ self.old.geometry }
     {
-        if order > MOST_ORDER {
+        if order > HUGE_ORDER {
             return Reply::Refused(Fault::BadOrder);
         }
         match self.list.remove_exact(frame, order) {
@@ -122,7 +117,7 @@ impl PlainDesk {
     pub(crate) fn close(self, alloc: Global) -> Result<Image, Fault>
         ensures geometry { IfOk result (λ i. i.geometry ≡ self.geometry) }
         ensures holds { IfOk result (λ i. HoldsFrames (key_of self.geometry) i.words
-            (blocks_of self.list)) }
+            (blocks_of self.list ++ boot_blocks (key_of self.geometry))) }
         ensures fault { IfErr result (λ e. e ≡ Fault.NoMemory) }
     {
         match self.allocator.close(alloc) {
@@ -133,15 +128,16 @@ impl PlainDesk {
 }
 
 // Gives a block back that was taken out of the list.
-fn give_back(allocator: &mut PlainAllocator, held: LabelledBlock<PlainBlock>) -> Reply
+fn give_back(allocator: &mut PlainAllocator, held: LabelledBlock) -> Reply
     requires cores { 0 < allocator.old.geometry.cores }
     requires out { Contains allocator.old.out held.block }
-    ensures reply { result ≡ Reply.Given held.frame held.order }
+    ensures reply { result ≡ Reply.Given held.block.frame held.block.order }
     ensures out { IsPermutation (held.block ∷ allocator.new.out) allocator.old.out }
     ensures kept { allocator.new.kept ≡ allocator.old.kept }
-    ensures geometry { allocator.new.geometry ≡ allocator.old.geometry }
+    ensures geometry { (allocator.new.geometry ≡ allocator.old.geometry)
+        × (allocator.new.ranges ≡ allocator.old.ranges) }
 {
-    let reply = Reply::Given(held.frame, held.order);
+    let reply = Reply::Given(held.block.frame(), held.block.order());
     allocator.give(0, held.block);
     reply
 }

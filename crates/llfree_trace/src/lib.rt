@@ -2,15 +2,17 @@
 #![tactic(auto)]
 
 mod answers;
+mod command;
 mod desk;
+mod image_streams;
 mod line;
 mod one_core;
 mod parser;
 mod program;
 mod reply;
 mod streams;
-mod totals;
 
+pub use image_streams::{rebuild_over, report_over};
 pub use line::{Line, Request, Trace};
 pub use one_core::run_one;
 pub use parser::parse_trace;

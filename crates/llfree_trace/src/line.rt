@@ -1,7 +1,9 @@
 //! The records of a trace.
 
 ghost use Rattle.std.specs.Prelude.{◌≡◌, ◌≤◌, length};
+ghost use Rattle.frame_words.specs.Geometry.{most_cores};
 ghost use Rattle.llfree_trace.specs.Trace.{core_count, cores_in as the_cores_in};
+ghost use Rattle.llfree_trace.specs.Trace.{most_records};
 
 use core_frames::Label;
 use std::marker::Model;
@@ -31,20 +33,22 @@ pub struct Trace {
 impl Model for Trace {
     ghost use Rattle.std.specs.Prelude.{List, ◌≤◌, length};
     ghost use Rattle.llfree_trace.specs.declared.line.Line.{Line};
-    ghost use Rattle.llfree_trace.specs.Trace.{core_count};
+    ghost use Rattle.frame_words.specs.Geometry.{most_cores};
+    ghost use Rattle.llfree_trace.specs.Trace.{core_count, most_records};
 
     ghost Value = { List Line };
 
     ghost view = { λ t. t.lines.items };
 
-    ghost invariant = { λ t. (length t.lines.items ≤ 1_000_000) × (core_count t.lines.items ≤ 64) };
+    ghost invariant = { λ t. (length t.lines.items ≤ most_records)
+        × (core_count t.lines.items ≤ most_cores) };
 }
 
 impl Trace {
     // The trace of these records.
     pub(crate) fn of(lines: Vec<Line>) -> Trace
-        requires few { length lines.items ≤ 1_000_000 }
-        requires cores { core_count lines.items ≤ 64 }
+        requires few { length lines.items ≤ most_records }
+        requires cores { core_count lines.items ≤ most_cores }
         ensures { result ≡ lines.items }
     {
         Trace { lines }
@@ -53,7 +57,7 @@ impl Trace {
     /// The records, in order.
     pub fn lines(&self) -> &[Line]
         ensures value { result.now ≡ self.now }
-        ensures few { length result.now ≤ 1_000_000 }
+        ensures few { length result.now ≤ most_records }
     {
         self.lines.as_slice()
     }
@@ -61,7 +65,7 @@ impl Trace {
     /// One more than the greatest core that a record names, or 0 where none names one.
     pub fn cores(&self) -> u32
         ensures value { result ≡ core_count self.now }
-        ensures few { result ≤ 64 }
+        ensures few { result ≤ most_cores }
     {
         let mut count = 0;
         for line in &self.lines {
@@ -73,7 +77,7 @@ impl Trace {
 
 // One more than the greatest core that a record names.
 fn cores_in(line: &Line) -> u32
-    requires { the_cores_in line.now ≤ 64 }
+    requires { the_cores_in line.now ≤ most_cores }
     ensures { result ≡ the_cores_in line.now }
 {
     match line {

@@ -1,7 +1,8 @@
 //! A run of a trace on one core, on the calling thread.
 
 ghost use Rattle.std.specs.Prelude.{◌≡◌, ◌≤◌, IfErr, IfOk};
-ghost use Rattle.llfree_trace.specs.Outcome.{Fits, MayRefuse, MustRefuse};
+ghost use Rattle.held_blocks.specs.Desk.{MayRefuse};
+ghost use Rattle.llfree_trace.specs.Outcome.{IsAnsweredBy, MustRefuseHere};
 ghost use Rattle.llfree_trace.specs.Trace.{core_count};
 
 use crate::desk::PlainDesk;
@@ -14,9 +15,10 @@ use std::alloc::Global;
 ///
 /// It waits for nobody. A take is refused only where no block of its order is free.
 pub fn run_one(alloc: Global, geometry: Geometry, trace: &Trace) -> Result<Outcome, Fault>
-    requires { core_count trace.now ≤ 1 }
-    ensures fits { IfOk result (λ o. Fits MayRefuse trace.now o.answers.items o.image) }
-    ensures exact { IfOk result (λ o. Fits MustRefuse trace.now o.answers.items o.image) }
+    requires core { core_count trace.now ≤ 1 }
+    ensures fits { IfOk result (λ o. IsAnsweredBy MayRefuse trace.now o.answers.items o.image) }
+    ensures exact { IfOk result (λ o.
+        IsAnsweredBy MustRefuseHere trace.now o.answers.items o.image) }
     ensures geometry { IfOk result (λ o. o.image.geometry ≡ geometry) }
     ensures fault { IfErr result (λ e. e ≡ Fault.NoMemory) }
 {

@@ -4,7 +4,7 @@ ghost use Rattle.std.specs.Prelude.{◌≡◌, ◌≢◌, ◌<◌, ◌≤◌, �
 ghost use Rattle.std.specs.Prelude.{Some, IfErr, IfNone, IfOk, IfSome};
 ghost use Rattle.csv.specs.Records.{field_at, fields_of};
 ghost use Rattle.frame_image.specs.Numbers.{number_below as the_number_below};
-ghost use Rattle.llfree_trace.specs.Trace.{core_count, cores_in};
+ghost use Rattle.llfree_trace.specs.Trace.{core_count, cores_in, most_records};
 ghost use Rattle.llfree_trace.specs.TraceText as Spec;
 ghost use Rattle.llfree_trace.specs.TraceText.{Explains, trace_of};
 
@@ -49,7 +49,7 @@ fn line_after(cores: u32, count: usize, row: &ByteRecord) -> Option<Line>
     requires { cores ≤ 64 }
     ensures value { result ≡ Spec.line_after cores count (fields_of row.now) }
     ensures core { IfSome result (λ line. cores_in line ≤ cores) }
-    ensures few { IfSome result (λ _. count < 1_000_000) }
+    ensures few { IfSome result (λ _. count < most_records) }
 {
     if count >= MOST_RECORDS {
         return None;

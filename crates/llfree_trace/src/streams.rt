@@ -1,31 +1,29 @@
 //! Runs from a reader to a writer.
 
-ghost use Rattle.std.specs.Prelude.{◌≡◌, ◌≢◌, ◌<◌, ◌⊎◌, true, false, length, ℕ, Err};
+ghost use Rattle.std.specs.Prelude.{◌≡◌, ◌≢◌, ◌*◌, ◌<◌, ◌⊎◌, true, false, length, ℕ, Err};
 ghost use Rattle.std.specs.Prelude.{IfErr, IfOk, IfSome, IsErrOf, OnOk};
 ghost use Rattle.std.specs.Io.KnownBytes.{Appends};
 ghost use Rattle.frame_image.specs.Devices.{device_of, has_failed, WritesFront};
 ghost use Rattle.llfree_trace.specs.Streams.{IsRunFault, IsRunOf, IsTooLong, WritesFrontOfRun};
-ghost use Rattle.llfree_trace.specs.Streams.{WritesRun, outcome_answers};
+ghost use Rattle.llfree_trace.specs.Streams.{WritesRun, outcome_answers, shown_of};
 ghost use Rattle.llfree_trace.specs.TraceText.{Explains, trace_of};
 
 use crate::answers::answers_text;
 use crate::one_core::run_one;
 use crate::parser::parse_trace;
 use crate::reply::Outcome;
-use crate::totals::held_frames_of;
-use frame_image::{MOST_BYTES, Watched, read_all, write_out};
-use frame_words::{Fault, Geometry};
+use frame_image::{MOST_BYTES, Watched, held_frames, image_text, read_all, write_out};
+use frame_words::{CHILD_FRAMES, Fault, Geometry};
 use std::alloc::Global;
 use std::io::{Read, Write};
-
-/// The frames of a child.
-const CHILD_FRAMES: u32 = 512;
 
 /// What a run shows.
 #[derive(Clone, Copy, Debug, PartialEq, Eq)]
 pub enum Show {
     /// The answers, and how many frames are held and free at the end.
     Answers,
+    /// The image at the end.
+    Picture,
 }
 
 /// Runs the trace that the reader has left on one core, and writes what is to be shown.
@@ -40,9 +38,9 @@ pub fn run_over<R: Read, W: Write>(
 ) -> Result<(), Fault>
     requires { geometry.cores ≡ 1 }
 
-    // What is written is the answers of an outcome that fits the trace, and nothing else.
+    // What is written shows an outcome that fits the trace, and nothing else.
     ensures written { OnOk result (IfSome (R.remaining (device_of input.old)) (λ text.
-        WritesRun geometry text (W.contents (device_of output.old))
+        WritesRun geometry show text (W.contents (device_of output.old))
         (W.contents (device_of output.new)))) }
     ensures sound { OnOk result ((has_failed input.new ≡ false) × (has_failed output.new ≡ false)) }
 
@@ -59,10 +57,10 @@ pub fn run_over<R: Read, W: Write>(
         → IfSome (R.remaining (device_of input.old)) (λ text.
         trace_of geometry.cores text ≡ Err line) }
 
-    // A write failed, and a front of the answers was written.
+    // A write failed, and a front of that was written.
     ensures write_failed { IsErrOf result Fault.WriteFailed → (has_failed output.new ≡ true)
         × IfSome (R.remaining (device_of input.old)) (λ text.
-        WritesFrontOfRun geometry text (W.contents (device_of output.old))
+        WritesFrontOfRun geometry show text (W.contents (device_of output.old))
         (W.contents (device_of output.new))) }
 
     // Any other refusal has written nothing.
@@ -77,13 +75,23 @@ pub fn run_over<R: Read, W: Write>(
 // What a run of the trace that the text spells shows.
 fn run_text(alloc: Global, geometry: Geometry, show: Show, text: &[u8]) -> Result<Vec<u8>, Fault>
     requires { geometry.cores ≡ 1 }
-    ensures ok { IfOk result (λ out. IsRunOf geometry text.now out.items) }
+    ensures ok { IfOk result (λ out. IsRunOf geometry show text.now out.items) }
     ensures err { IfErr result (λ e. Explains e (trace_of geometry.cores text.now)) }
 {
     let trace = parse_trace(alloc, &geometry, text)?;
     let outcome = run_one(alloc, geometry, &trace)?;
+    shown_text(alloc, show, &outcome)
+}
+
+// What is shown of an outcome.
+fn shown_text(alloc: Global, show: Show, outcome: &Outcome) -> Result<Vec<u8>, Fault>
+    ensures text { IfOk result (λ text. text.items ≡ shown_of show outcome.now.answers.items
+        outcome.now.image) }
+    ensures fault { IfErr result (λ e. e ≡ Fault.NoMemory) }
+{
     match show {
-        Show::Answers => outcome_text(alloc, &outcome),
+        Show::Answers => outcome_text(alloc, outcome),
+        Show::Picture => image_text(alloc, &outcome.image),
     }
 }
 
@@ -93,7 +101,7 @@ fn outcome_text(alloc: Global, outcome: &Outcome) -> Result<Vec<u8>, Fault>
         outcome.now.image) }
     ensures fault { IfErr result (λ e. e ≡ Fault.NoMemory) }
 {
-    let held = held_frames_of(&outcome.image);
+    let held = held_frames(&outcome.image);
     let free = CHILD_FRAMES * outcome.image.geometry().children() - held;
     answers_text(alloc, outcome.answers.as_slice(), held, free)
 }

@@ -1,6 +1,9 @@
+mod images;
+
 use super::*;
+use crate::answers::answers_text;
 use frame_image::{Watched, write_out};
-use frame_words::Geometry;
+use frame_words::{Fault, Geometry};
 use std::alloc::{AllocError, Global};
 use std::cell::Cell;
 use std::io::{Error, ErrorKind, Read, Result as IoResult, Write};
@@ -11,15 +14,11 @@ const TAKES: &[u8] = b"0,take,a,0\n0,take,b,3\n0,take,c,0\n";
 
 const TAKES_ANSWERED: &[u8] = b"1,0,Taken,0,0\n2,0,Taken,8,3\n3,0,Taken,1,0\nend,,Closed,10,502\n";
 
-const USAGE: &str = "usage: llfree run CHILDREN CORES | llfree image CHILDREN CORES \
-    | llfree rebuild | llfree report\n";
+const USAGE: &str = "usage: llfree run CHILDREN CORES [FRAMES] \
+    | llfree image CHILDREN CORES [FRAMES] | llfree rebuild | llfree report\n";
 
 // The status, the output and the errors of the program.
-fn program(
-    alloc: Global,
-    words: &[&str],
-    text: &[u8],
-) -> Result<(u8, Vec<u8>, Vec<u8>), AllocError> {
+fn runs(alloc: Global, words: &[&str], text: &[u8]) -> Result<(u8, Vec<u8>, Vec<u8>), AllocError> {
     let mut list = Vec::new(alloc);
     for word in words {
         list.push(String::from_str(alloc, word)?)?;
@@ -42,7 +41,7 @@ fn answers(
     text: &str,
     want: &str,
 ) -> Result<(), AllocError> {
-    let (status, output, errors) = program(alloc, words, text.as_bytes())?;
+    let (status, output, errors) = runs(alloc, words, text.as_bytes())?;
     assert_eq!(rt; status, 0, "on {text}");
     assert_eq!(rt; output.as_slice(), want.as_bytes(), "on {text}");
     assert!(rt; errors.is_empty());
@@ -99,7 +98,7 @@ fn worked_traces_are_answered(rt: HostRuntime) -> Result<(), Fail> {
 }
 
 #[test]
-fn open_points_of_the_format(rt: HostRuntime) -> Result<(), Fail> {
+fn quotes_marks_and_zeros_are_read_as_csv_reads_them(rt: HostRuntime) -> Result<(), Fail> {
     for text in [
         "\u{feff}0,take,a,0\n",
         "\n\n0,take,a,0\n\n",
@@ -130,6 +129,71 @@ fn open_points_of_the_format(rt: HostRuntime) -> Result<(), Fail> {
 }
 
 #[test]
+fn the_longest_text_has_16777216_bytes(rt: HostRuntime) -> Result<(), Fail> {
+    let mut text = Vec::new(rt.alloc());
+    text.extend_from_slice(b"0,take,a,0\n")?;
+    text.resize(16_777_216, b'\n')?;
+    let (status, output, errors) = runs(rt.alloc(), &["run", "1", "1"], text.as_slice())?;
+    assert_eq!(rt; status, 0);
+    assert_eq!(rt;
+        output.as_slice(),
+        b"1,0,Taken,0,0\nend,,Closed,1,511\n".as_slice()
+    );
+    assert!(rt; errors.is_empty());
+    text.push(b'\n')?;
+    let (status, output, errors) = runs(rt.alloc(), &["run", "1", "1"], text.as_slice())?;
+    assert_eq!(rt; status, 3);
+    assert!(rt; output.is_empty());
+    assert_eq!(rt; errors.as_slice(), b"llfree: read failed\n".as_slice());
+    Ok(())
+}
+
+#[test]
+fn a_trace_has_1000000_records_at_most(rt: HostRuntime) -> Result<(), Fail> {
+    let mut text = Vec::new(rt.alloc());
+    for _record in 0..1_000_000u32 {
+        text.extend_from_slice(b"0,give,a,\n")?;
+    }
+    let (status, output, errors) = runs(rt.alloc(), &["run", "1", "1"], text.as_slice())?;
+    assert_eq!(rt; status, 0);
+    assert!(rt;
+        output
+            .as_slice()
+            .ends_with(b"\n1000000,0,NotHeld,,\nend,,Closed,0,512\n")
+    );
+    assert!(rt; errors.is_empty());
+    text.extend_from_slice(b"0,give,a,\n")?;
+    let (status, output, errors) = runs(rt.alloc(), &["run", "1", "1"], text.as_slice())?;
+    assert_eq!(rt; status, 1);
+    assert!(rt; output.is_empty());
+    assert_eq!(rt;
+        errors.as_slice(),
+        b"llfree: bad trace at record 1000001\n".as_slice()
+    );
+    Ok(())
+}
+
+#[test]
+fn each_reply_has_its_word(rt: HostRuntime) -> Result<(), Fail> {
+    for (reply, fields) in [
+        (Reply::Taken(2_097_151, 0), "Taken,2097151,0"),
+        (Reply::Given(512, 9), "Given,512,9"),
+        (Reply::Moved(8, 3), "Moved,8,3"),
+        (Reply::Refused(Fault::BadOrder), "BadOrder,,"),
+        (Reply::Refused(Fault::NoBlock), "NoBlock,,"),
+        (Reply::Refused(Fault::Contended), "Contended,,"),
+        (Reply::Refused(Fault::NotHeld), "NotHeld,,"),
+    ] {
+        let (line, core) = (1_000_000, 63);
+        let answer = Answer { line, core, reply };
+        let text = answers_text(rt.alloc(), &[answer], 10, 502)?;
+        let want = format!(in rt.alloc(); "1000000,63,{fields}\nend,,Closed,10,502\n")?;
+        assert_eq!(rt; text.as_slice(), want.as_bytes());
+    }
+    Ok(())
+}
+
+#[test]
 fn refused_traces_print_nothing(rt: HostRuntime) -> Result<(), Fail> {
     for (text, line) in [
         ("0,take,\"a", 1),
@@ -153,7 +217,7 @@ fn refused_traces_print_nothing(rt: HostRuntime) -> Result<(), Fail> {
         ("0,take,a,0\n0,move,a,0\n", 2),
         (",round,,\n", 1),
     ] {
-        let (status, output, errors) = program(rt.alloc(), &["run", "1", "1"], text.as_bytes())?;
+        let (status, output, errors) = runs(rt.alloc(), &["run", "1", "1"], text.as_bytes())?;
         let want = format!(in rt.alloc(); "llfree: bad trace at record {line}\n")?;
         assert_eq!(rt; status, 1, "on {text}");
         assert!(rt; output.is_empty());
@@ -177,7 +241,7 @@ fn command_lines_have_their_statuses(rt: HostRuntime) -> Result<(), Fail> {
         ("run", "1", "2", 2, USAGE),
         ("Run", "1", "1", 2, USAGE),
     ] {
-        let (answer, output, errors) = program(
+        let (answer, output, errors) = runs(
             rt.alloc(),
             &[command, children, cores],
             b"0,take,a,0",
@@ -186,7 +250,7 @@ fn command_lines_have_their_statuses(rt: HostRuntime) -> Result<(), Fail> {
         assert!(rt; output.is_empty());
         assert_eq!(rt; errors.as_slice(), want.as_bytes());
     }
-    let (answer, output, errors) = program(rt.alloc(), &["run"], b"")?;
+    let (answer, output, errors) = runs(rt.alloc(), &["run"], b"")?;
     assert_eq!(rt; answer, 2);
     assert!(rt; output.is_empty());
     assert_eq!(rt; errors.as_slice(), USAGE.as_bytes());

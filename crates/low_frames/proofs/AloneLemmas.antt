@@ -1,15 +1,19 @@
 -- Where nobody else steps: the words as they stand, step by step, and what they leave free.
-use Rattle.std.proofs.Common.{◌≡◌, ◌≢◌, ◌⊎◌, inl, inr, ⊎_elim, ℕ, ◌+◌, ◌*◌, ◌/◌, ◌%◌, ◌^◌, ◌<◌, ◌≤◌, List, Option, Some, None, refl, ap, sym, subst, ◌∙◌, arith}
+use Rattle.std.proofs.Common.{◌≡◌, ◌≢◌, ◌⊎◌, inl, inr, ⊎_elim, ℕ, ◌+◌, ◌*◌, ◌/◌, ◌%◌, ◌^◌, ◌<◌, ◌≤◌, List, Option, Some, None, refl, ap}
+use Rattle.std.proofs.Common.{sym, subst, ◌∙◌, arith}
 use Rattle.std.specs.Prelude.{IfSome, Bool, true, false, MatchBool, slice_index}
-use Rattle.std.proofs.lemmas.Bool.{cases_lt}
+use Rattle.std.proofs.lemmas.Bool.{cases_lt, false≢true}
 use Rattle.frame_words.specs.Runs.{IsClearRun, HasNoClearRun}
 use Rattle.frame_words.specs.Words.{free_in, flag_in, lane_in}
-use Rattle.frame_core.specs.declared.key.Key.{Key}
+use Rattle.frame_model.specs.declared.key.Key.{Key}
 use Rattle.frame_core.specs.Words.{run, entry_place, bits_place, free_of, huge_of, entry_of, bit_word_of}
+use Rattle.frame_model.specs.declared.place.Place.{Place}
 use Rattle.frame_core.specs.Steps.{Kind, charge, claim, take_huge, place}
-use Rattle.frame_core.specs.Moves.{words_after, Exchanges, OfRun}
-use Rattle.frame_core.proofs.Steps.Shared.{bit_word_is}
-use Rattle.low_frames.specs.Alone.{Turns, FindsOf, IsCharged, HasTooFew, IsClaimed, IsClaimedIn, HasNoRun, HasNoRunIn, IsTakenHuge, IsNotWhole}
+use Rattle.frame_core.specs.Moves.{place_of, words_after, Exchanges, OfRun}
+use Rattle.frame_core.specs.Mover.{Mover, Keeps, Loads, Tries}
+use Rattle.frame_model.proofs.Steps.Shared.{bit_word_is}
+use Rattle.low_frames.specs.Alone.{Turns, FindsOf, IsCharged, HasTooFew, IsClaimed, IsClaimedIn, HasNoRun, HasNoRunIn, IsTakenHuge}
+use Rattle.low_frames.specs.Alone.{IsNotWhole}
 
 -- Words that may be known.
 
@@ -49,6 +53,21 @@ exchange_made key kind seen made ws now new e is exchange =
     (at_known now (λ us. MatchBool made ((slice_index us i ≡ seen) × (new ≡ Some (words_after key kind us)))
     ((slice_index us i ≢ seen) × (new ≡ Some us))) ws e exchange)
     is
+
+-- what the load of the first try found stands there
+pub seen_by : {T H : Type 0} {t : ℕ → ℕ} {a b c : Mover T H} {at : Place} {found : ℕ} (tries : ℕ) → (b.is_alone → b.is_undisturbed)
+    → Keeps a b → Loads t at found b c → (a.is_alone → IsFirstTry tries a.words b.words) → a.is_alone
+    → IsSeen (place_of b.key at) found a.words c.words
+seen_by {a = a} {b = b} {c = c} {at = at} {found = found} tries still keeps load first alone =
+    seen_first tries (place_of b.key at) found a.words b.words c.words (first alone) (load.words (still (keeps.stays_alone alone)))
+
+-- the exchange of a word that stands there is not lost
+pub never_lost : {T H : Type 0} {t : ℕ → ℕ} {c d : Mover T H} {kind : Kind} {seen : ℕ} {made : Bool} (old : Option (List ℕ))
+    (P : List ℕ → Type 0) → made ≡ false → c.is_undisturbed → Tries t kind seen made c d → IsSeen (place c.key kind) seen old c.words
+    → IfSome old P
+never_lost {c = c} {d = d} {kind = kind} {seen = seen} {made = made} old P e still tried load =
+    if_known old (λ ws. (slice_index ws (place c.key kind) ≡ seen) × (c.words ≡ Some ws)) P load
+    (λ ws at h. absurd (false≢true (sym e ∙ (exchange_made c.key kind seen made ws c.words d.words h.1 h.0 (tried.words still)).0)))
 
 -- the first try is made
 pub made_first : (key : Key) (kind : Kind) (seen : ℕ) (made : Bool) (old now new : Option (List ℕ))

@@ -2,17 +2,19 @@
 use Rattle.std.proofs.Common.{◌≡◌, ⊎_elim, ℕ, ◌+◌, ◌*◌, ◌^◌, ◌<◌, ◌≤◌, List, Option, None, Some, refl, ap, sym, subst, ◌∙◌, arith}
 use Rattle.std.proofs.lemmas.Bool.{cases_lt}
 use Rattle.std.proofs.lemmas.Nat.{pow_pos}
-use Rattle.frame_core.specs.declared.block.FrameBlock.{FrameBlock}
-use Rattle.frame_core.specs.declared.key.Key.{Key}
-use Rattle.frame_core.specs.declared.view.View.{View}
+use Rattle.frame_model.specs.declared.block.FrameBlock.{FrameBlock}
+use Rattle.frame_model.specs.declared.key.Key.{Key}
+use Rattle.frame_model.specs.declared.view.View.{View}
 use Rattle.frame_core.specs.Key.{child_of}
 use Rattle.frame_core.specs.Block.{block}
 use Rattle.frame_core.specs.Steps.{refund}
 use Rattle.frame_core.specs.Moves.{words_after, Changes}
 use Rattle.low_frames.specs.Takes.{IsBlockIn}
-use Rattle.low_frames.specs.Alone.{Turns, FindsOf, HasTaken, HoldsMore, HasNoneIn, HasNoneOfTree, IsCharged, HasTooFew, IsClaimedIn, HasNoRunIn, IsTakenHuge, IsNotWhole}
+use Rattle.low_frames.specs.Alone.{Turns, FindsOf, HasTaken, HoldsMore, HasNoneIn, HasNoneOfTree, IsCharged, HasTooFew, IsClaimedIn}
+use Rattle.low_frames.specs.Alone.{HasNoRunIn, IsTakenHuge, IsNotWhole}
 use Rattle.low_frames.proofs.AloneLemmas.{if_known, at_known, then_found}
-use Rattle.low_frames.proofs.RoomLemmas.{FitsAlone, range_alone, entries_alone, none_of_few, none_of_part, none_of_runs, huge_taken, refund_back, runs_before, small_taken}
+use Rattle.low_frames.proofs.RoomLemmas.{FitsAlone, range_alone, entries_alone, none_of_few, none_of_part, none_of_runs, huge_taken}
+use Rattle.low_frames.proofs.RoomLemmas.{refund_back, runs_before, small_taken}
 
 module _ (A : Type 0) (key : Key) (old : Option (List ℕ)) (v : View) (fits : (ws : List ℕ) → old ≡ Some ws → FitsAlone A key ws v)
     (alone : A) (child : ℕ) (inside : child < key.children) (none : v.charged ≡ None) where

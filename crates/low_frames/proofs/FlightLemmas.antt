@@ -3,16 +3,17 @@ use Rattle.std.proofs.Common.{◌≡◌, ℕ, ◌+◌, ◌*◌, ◌/◌, ◌<◌
 use Rattle.std.proofs.Math.Logic.{∥∥₁_elim}
 use Rattle.std.proofs.Math.Bridge.{le_prop}
 use Rattle.std.proofs.Math.Nat.{ℕ_set}
-use Rattle.frame_core.specs.declared.key.Key.{Key}
-use Rattle.frame_core.specs.declared.view.View.{View}
+use Rattle.frame_model.specs.declared.key.Key.{Key}
+use Rattle.frame_model.specs.declared.view.View.{View}
 use Rattle.frame_core.specs.Key.{frame_count}
 use Rattle.frame_core.specs.Block.{smalls, wholes}
 use Rattle.frame_core.specs.Words.{entry_of, free_of, huge_of, bit_of}
 use Rattle.frame_core.specs.View.{small_in, charged_in, names}
 use Rattle.frame_core.specs.Fit.{Fit}
 use Rattle.frame_core.specs.Steps.Amounts.{IsRun}
-use Rattle.frame_core.proofs.Words.{held_is}
-use Rattle.frame_core.proofs.Steps.Shared.{bit-le, at-le-total, smalls-le-bit, flag_set, bit_filled, free_of_is, huge_of_is, free_is, flag_is}
+use Rattle.frame_model.proofs.Words.{held_is}
+use Rattle.frame_model.proofs.Steps.Shared.{bit-le, at-le-total, smalls-le-bit, flag_set, bit_filled, free_of_is, huge_of_is, free_is}
+use Rattle.frame_model.proofs.Steps.Shared.{flag_is}
 use Rattle.low_frames.specs.Takes.{IsAsBefore}
 use Rattle.low_frames.proofs.RoomLemmas.{FitsAlone}
 

@@ -1,23 +1,25 @@
 -- What gives do to the words where nobody else steps.
-use Rattle.std.proofs.Common.{◌≡◌, ℕ, ◌+◌, ◌-◌, ◌*◌, ◌/◌, ◌%◌, ◌^◌, ◌<◌, ◌≤◌, List, [], ◌∷◌, Option, None, Some, refl, ap, sym, subst, ◌∙◌, arith}
+use Rattle.std.proofs.Common.{◌≡◌, ℕ, ◌+◌, ◌-◌, ◌*◌, ◌/◌, ◌%◌, ◌^◌, ◌<◌, ◌≤◌, List, [], ◌∷◌, Option, None, Some, refl, ap, sym, subst}
+use Rattle.std.proofs.Common.{◌∙◌, arith}
 use Rattle.std.proofs.lemmas.Nat.{pow_pos}
-use Rattle.frame_core.specs.declared.key.Key.{Key}
-use Rattle.frame_core.specs.declared.view.View.{View}
-use Rattle.frame_core.specs.declared.block.FrameBlock.{FrameBlock}
+use Rattle.frame_model.specs.declared.key.Key.{Key}
+use Rattle.frame_model.specs.declared.view.View.{View}
+use Rattle.frame_model.specs.declared.block.FrameBlock.{FrameBlock}
 use Rattle.frame_core.specs.Block.{block, IsBlock, covers, smalls, wholes}
 use Rattle.frame_core.specs.Words.{huge_of}
 use Rattle.frame_core.specs.Moves.{Changes, words_after, release_run, give_whole}
 use Rattle.frame_core.specs.Steps.Amounts.{IsRun}
 use Rattle.frame_core.specs.Steps.{refund}
 use Rattle.frame_core.specs.Steps.Conditions.{CanRefund, CanGiveHuge}
-use Rattle.frame_core.proofs.Blocks.{smalls_cons, in_block, whole_here}
+use Rattle.frame_model.proofs.Blocks.{smalls_cons, in_block, whole_here}
 use Rattle.low_frames.specs.Alone.{HoldsMore, HasGiven}
-use Rattle.low_frames.specs.Words.{HoldsWords, HoldsMoreWords, HasGivenWords}
+use Rattle.low_frames.specs.Groups.{HoldsWords, HoldsMoreWords, HasGivenWords}
 use Rattle.low_frames.proofs.AloneLemmas.{at_known}
 use Rattle.low_frames.proofs.RoomLemmas.{FitsAlone, range_alone, is_covered, covered_from}
 use Rattle.low_frames.proofs.GiveLemmas.{aligned_in_word, size_in_words, begins_in_words}
 use Rattle.low_frames.proofs.FlightLemmas.{charged_has_room, owned_no_flag, owned_is_set, whole_entry, whole_is_clear, is_word}
-use Rattle.low_frames.proofs.HeldLemmas.{block_as_words, words_as_block, released_run, no_more_words, words_down, less_then_same, refund_same, given_whole}
+use Rattle.low_frames.proofs.HeldLemmas.{block_as_words, words_as_block, released_run, no_more_words, words_down, less_then_same}
+use Rattle.low_frames.proofs.HeldLemmas.{refund_same, given_whole}
 
 -- one word more was released
 word_released : (key : Key) (us : List ℕ) (v : View) (alone : Type 0) (k n : ℕ) → k < 8 * key.children → 0 < n
@@ -28,7 +30,7 @@ word_released key us v alone k n h some_more own fits =
     let flag : huge_of us (k / 8) ≡ 0 =
     sym (ap (huge_of us) child) ∙ owned_no_flag alone key us v fits (64 * k) (omega arith)
     (omega (arith, own.inside (64 * k) (omega arith) (omega arith))) in
-    block_as_words key (words_after key (release_run k 0 6) us) us k 1 b (omega arith) (omega arith)
+    block_as_words key (words_after key (release_run k 0 6) us) us k 1 b (omega arith) (omega arith) (omega arith) (omega arith)
     (released_run key us k 0 6 (range_alone alone key us v fits) (is_word key k h) flag
     (λ x e. let c = covered_from b x e in owned_is_set alone key us v fits x (omega (arith, c.1))
     (omega (arith, own.inside x (omega (arith, c.0)) (omega (arith, c.1))))))
@@ -99,8 +101,14 @@ words_given key frame order child n None new l h is c e given = tt
 words_given key frame order child n (Some ws) new l h is c e given =
     let size : 2 ^ order ≡ 64 * (n / 64) = size_in_words order l h ∙ ap (λ k. 64 * (k / 64)) (sym e) in
     let from : frame ≡ 64 * (8 * child + frame / 64 % 8) =
-    begins_in_words frame order l h is.aligned ∙ ap (λ k. 64 * (8 * k + frame / 64 % 8)) (sym c) in
-    (given.0, (given.1.0, words_as_block key given.0 ws (8 * child + frame / 64 % 8) (n / 64) (block frame order) from size given.1.1))
+    begins_in_words frame order l h is.aligned ∙ ap (λ k. 64 * (8 * k + frame / 64 % 8)) (sym c) in (
+      given.0,
+      (
+        given.1.0,
+        words_as_block key given.0 ws (8 * child + frame / 64 % 8) (n / 64) (block frame order) (omega (arith, h)) from
+            size given.1.1,
+      ),
+    )
 
 -- the block was released, and its frames were refunded
 pub small_given : (key mid_key was : Key) (y : View) (alone : Type 0) (b d : FrameBlock) (child n : ℕ)

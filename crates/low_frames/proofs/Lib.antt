@@ -1,4 +1,6 @@
 pub mod TakeLemmas
+pub mod Counts
+pub mod Sure
 pub mod ViewLemmas
 pub mod AmountLemmas
 pub mod WordsLemmas

@@ -1,20 +1,26 @@
--- Views that differ in their counts alone, and how counts of moves and losses add up.
-use Rattle.std.proofs.Common.{◌≡◌, ℕ, ◌+◌, ◌*◌, ◌/◌, ◌^◌, ◌<◌, ◌≤◌, [], None, refl, ap, sym, subst, ◌∙◌, arith}
-use Rattle.std.specs.Prelude.{Bool, true, false, ◌||◌, nat_lt}
-use Rattle.std.proofs.lemmas.Bool.Decides.{nat_tests}
-use Rattle.frame_core.specs.declared.view.View.{View}
+-- Views that differ in their counts alone, what no move changes, and what exchanges ask.
+use Rattle.std.proofs.Common.{◌≡◌, ℕ, ◌+◌, ◌*◌, ◌/◌, ◌^◌, ◌<◌, ◌≤◌, [], None, refl, ap, sym, subst, ◌∙◌}
+use Rattle.std.specs.Prelude.{Bool, Option}
+use Rattle.frame_model.specs.declared.view.View.{View}
 use Rattle.frame_words.specs.Runs.{IsClearRun}
 use Rattle.frame_words.specs.Words.{free_in, flag_in, lane_in}
 use Rattle.frame_words.proofs.RunLemmas.{run_apart}
-use Rattle.frame_core.specs.declared.key.Key.{Key}
+use Rattle.frame_model.specs.declared.key.Key.{Key}
 use Rattle.frame_core.specs.Key.{tree_of_child}
 use Rattle.frame_core.specs.Steps.Amounts.{IsRun}
 use Rattle.frame_core.specs.Steps.Conditions.{CanCharge, CanClaim, CanTakeHuge}
 use Rattle.frame_core.specs.Block.{smalls, wholes}
 use Rattle.frame_core.specs.View.{count_in, charged_in, paid_on, LiesIn}
-use Rattle.frame_core.proofs.Amounts.{count_none}
-use Rattle.frame_core.proofs.Blocks.{smalls_none, wholes_none}
+use Rattle.frame_model.proofs.Amounts.{count_none}
+use Rattle.frame_model.proofs.Blocks.{smalls_none, wholes_none}
+use Rattle.frame_model.specs.declared.block.FrameBlock.{FrameBlock}
+use Rattle.frame_model.specs.declared.place.Place.{Place}
+use Rattle.frame_core.specs.Steps.{Kind}
+use Rattle.frame_core.specs.Moves.{ReadsBut}
+use Rattle.frame_core.specs.Words.{bits_place}
+use Rattle.frame_core.specs.Mover.{Mover, IsApart, Ticks, Keeps, KeepsOthers, Loads, Tries, Makes, HandsOut, HandsIn}
 use Rattle.low_frames.specs.Takes.{Counts, IsAsBefore}
+use Rattle.low_frames.proofs.Counts.{none_made, one_move, at_most, both_counts, load_counts, make_counts, try_counts, out_counts, in_counts}
 
 -- a view that charges nothing and has nothing in flight has all of that in any child
 pub lies_anywhere : (v : View) (child : ℕ) → v.charged ≡ None → v.own ≡ [] → LiesIn v child
@@ -29,81 +35,84 @@ pub still_as_before : (v u w : View) (moves lost : ℕ) → IsAsBefore v u → w
 still_as_before v u w moves lost e f =
     let m : w.moves ≡ moves = ap (λ x. x.moves) f in
     let l : w.lost ≡ lost = ap (λ x. x.lost) f in
-    f ∙ ap (λ (x : View). record x { moves = moves; lost = lost }) e ∙ sym (ap (λ i. record v { moves = i; lost = w.lost }) m ∙ ap (λ i. record v { moves = moves; lost = i }) l)
+    f ∙ ap (λ (x : View). record x { moves = moves; lost = lost }) e ∙ sym (ap (λ i. record v { moves = i; lost = w.lost }) m
+    ∙ ap (λ i. record v { moves = moves; lost = i }) l)
 
-pub or_false : (b : Bool) → (b || false) ≡ b
-or_false true = refl
-or_false false = refl
+-- Counts, with their bounds told.
 
-or_true : (b : Bool) → (b || true) ≡ true
-or_true true = refl
-or_true false = refl
+module _ {T H : Type 0} (t : ℕ → ℕ) (exact : ℕ → Type 0) (ticks : Ticks t exact) where
+  pub counts_none : (a : Mover T H) → Counts exact 0 a a
+  counts_none a = none_made ticks a
 
-or_or : (a b c : Bool) → ((a || b) || c) ≡ (a || (b || c))
-or_or true b c = refl
-or_or false b c = refl
+  pub counts_one : (a b : Mover T H) → b.view.moves ≡ t a.view.moves → b.view.lost ≡ a.view.lost → b.missed ≡ a.missed
+      → Counts exact 1 a b
+  counts_one a b e f g = one_move ticks a b e f g
 
-not_below : (n : ℕ) → nat_lt n n ≡ false
-not_below n = grind (arith, nat_tests)
+  pub wider : {a b : Mover T H} (n k : ℕ) → n ≤ k → Counts exact n a b → Counts exact k a b
+  wider n k h f = at_most ticks f h
 
-below : (n m : ℕ) → n < m → nat_lt n m ≡ true
-below n m h = grind (arith, nat_tests)
+  pub then_counts : {a b c : Mover T H} (n m k : ℕ) → n + m ≤ k → Counts exact n a b → Counts exact m b c → Counts exact k a c
+  then_counts n m k h f g = at_most ticks (both_counts ticks f g) h
 
-either_rose : (a b c : ℕ) → a ≤ b → b ≤ c → (nat_lt a b || nat_lt b c) ≡ nat_lt a c
-either_rose a b c h k = grind (arith, nat_tests)
+  pub load_then : {a b c : Mover T H} {place : Place} {found : ℕ} (n k : ℕ) → n + 1 ≤ k → Counts exact n a b
+      → Loads t place found b c → Counts exact k a c
+  load_then n k h f l = at_most ticks (both_counts ticks f (load_counts ticks l)) h
 
-pub counts_none : (was : Bool) (v : View) → Counts 0 was v was v
-counts_none was v = record {
-  moves = omega arith;
-  lost = omega arith;
-  risen = λ h. omega arith;
-  missed = λ h. sym (ap (λ b. was || b) (not_below v.lost) ∙ or_false was);
+  pub make_then : {a b c : Mover T H} {kind : Kind} (n k : ℕ) → n + 1 ≤ k → Counts exact n a b → Makes t kind b c → Counts exact k a c
+  make_then n k h f l = at_most ticks (both_counts ticks f (make_counts ticks l)) h
+
+  pub try_then : {a b c : Mover T H} {kind : Kind} {seen : ℕ} {made : Bool} (n k : ℕ) → n + 1 ≤ k → Counts exact n a b
+      → Tries t kind seen made b c → Counts exact k a c
+  try_then n k h f l = at_most ticks (both_counts ticks f (try_counts ticks l)) h
+
+  pub out_then : {a b c : Mover T H} {block_of : H → FrameBlock} {d : FrameBlock} {held : H} (n k : ℕ) → n + 1 ≤ k
+      → Counts exact n a b → HandsOut t block_of d held b c → Counts exact k a c
+  out_then n k h f l = at_most ticks (both_counts ticks f (out_counts ticks l)) h
+
+  pub in_then : {a b c : Mover T H} {block_of : H → FrameBlock} {held : H} (m k : ℕ) → 1 + m ≤ k → HandsIn t block_of held a b
+      → Counts exact m b c → Counts exact k a c
+  in_then m k h l f = at_most ticks (both_counts ticks (in_counts ticks l) f) h
+
+  pub made_counts : {a b : Mover T H} {kind : Kind} (k : ℕ) → 1 ≤ k → Makes t kind a b → Counts exact k a b
+  made_counts k h l = at_most ticks (make_counts ticks l) h
+
+-- What no move changes.
+
+pub keeps_none : {T H : Type 0} (a : Mover T H) → Keeps a a
+keeps_none a = record { same_tie = refl; same_key = refl; stays_alone = λ h. h; stay_out = λ d h. h }
+
+-- what no move changes is not changed by two
+pub keeps_both : {T H : Type 0} {a b c : Mover T H} → Keeps a b → Keeps b c → Keeps a c
+keeps_both f g = record {
+  same_tie = g.same_tie ∙ f.same_tie;
+  same_key = g.same_key ∙ f.same_key;
+  stays_alone = λ h. g.stays_alone (f.stays_alone h);
+  stay_out = λ d h. g.stay_out d (f.stay_out d h);
 }
 
--- what comes after
-pub counts_both : (n k : ℕ) (was mid is : Bool) (v u w : View) → Counts n was v mid u → Counts k mid u is w → Counts (n + k) was v is w
-counts_both n k was mid is v u w a b = record {
-  moves = omega (arith, a.moves, b.moves);
-  lost = omega (arith, a.lost, b.lost);
-  risen = λ h. omega (arith, a.risen (omega arith), b.risen (omega (arith, a.lost)));
-  missed = λ h.
-      let e : mid ≡ (was || nat_lt v.lost u.lost) = a.missed (omega arith) in
-      let f : is ≡ (mid || nat_lt u.lost w.lost) = b.missed (omega (arith, a.lost)) in
-      f ∙ ap (λ x. x || nat_lt u.lost w.lost) e ∙ or_or was (nat_lt v.lost u.lost) (nat_lt u.lost w.lost)
-      ∙ ap (λ x. was || x) (either_rose v.lost u.lost w.lost (a.risen (omega arith)) (b.risen (omega (arith, a.lost))));
+-- the same after a block was taken in
+pub others_both : {T H : Type 0} {block_of : H → FrameBlock} {d : FrameBlock} {a b c : Mover T H} → KeepsOthers block_of d a b
+    → Keeps b c → KeepsOthers block_of d a c
+others_both f g = record {
+  same_tie = g.same_tie ∙ f.same_tie;
+  same_key = g.same_key ∙ f.same_key;
+  stays_alone = λ h. g.stays_alone (f.stays_alone h);
+  others_out = λ e ne h. g.stay_out e (f.others_out e ne h);
 }
 
--- a wider bound
-pub counts_within : (n k : ℕ) (was is : Bool) (v w : View) → n ≤ k → Counts n was v is w → Counts k was v is w
-counts_within n k was is v w h a = record {
-  moves = omega (arith, a.moves);
-  lost = omega (arith, a.lost);
-  risen = λ q. a.risen (omega arith);
-  missed = λ q. a.missed (omega arith);
-}
+-- what was read of other words is as before after two moves on one bit word
+pub reads_both : (key was : Key) (word : ℕ) (a b c : ℕ → Option ℕ) → key ≡ was → ReadsBut (bits_place was word) a b
+    → ReadsBut (bits_place key word) b c → ReadsBut (bits_place was word) a c
+reads_both key was word a b c e f g i ne = subst (λ (k : Key). ReadsBut (bits_place k word) b c) e g i ne ∙ f i ne
 
-module _ (t : ℕ → ℕ) (most : (n : ℕ) → t n ≤ n + 1) (up : (n : ℕ) → n < 2 ^ 63 → t n ≡ n + 1) (n : ℕ) (was mid is : Bool) (v u w : View) (before : Counts n was v mid u) where
-  -- one step more
-  pub counts_step : w.moves ≡ t u.moves → w.lost ≡ u.lost → is ≡ mid → Counts (n + 1) was v is w
-  counts_step e f g = counts_both n 1 was mid is v u w before (record {
-    moves = omega (arith, most u.moves);
-    lost = omega arith;
-    risen = λ h. omega arith;
-    missed = λ h. g ∙ sym (ap (λ i. mid || nat_lt u.lost i) f ∙ ap (λ b. mid || b) (not_below u.lost) ∙ or_false mid);
-  })
-
-  -- one lost exchange more
-  pub counts_loss : w.moves ≡ t u.moves → w.lost ≡ t u.lost → is ≡ (mid || true) → Counts (n + 1) was v is w
-  counts_loss e f g = counts_both n 1 was mid is v u w before (record {
-    moves = omega (arith, most u.moves);
-    lost = omega (arith, most u.lost);
-    risen = λ h. omega (arith, up u.lost (omega arith));
-    missed = λ h. g ∙ sym (ap (λ b. mid || b) (below u.lost w.lost (omega (arith, up u.lost (omega arith)))));
-  })
+-- what is apart under one key is so under another that is the same
+pub apart_as : {key was : Key} {v : View} → key ≡ was → IsApart key v → IsApart was v
+apart_as {key} {was} {v} e h = subst (λ k. IsApart k v) e h
 
 -- What the exchanges ask, by what was seen.
 
-pub can_charge : (key was : Key) (v w : View) (child seen entry n : ℕ) → key ≡ was → IsAsBefore v w → child < was.children → v.charged ≡ None → v.own ≡ [] → entry ≡ lane_in seen child → flag_in entry ≡ 0 → n ≤ free_in entry → CanCharge key w child seen n
+pub can_charge : (key was : Key) (v w : View) (child seen entry n : ℕ) → key ≡ was → IsAsBefore v w → child < was.children
+    → v.charged ≡ None → v.own ≡ [] → entry ≡ lane_in seen child → flag_in entry ≡ 0 → n ≤ free_in entry → CanCharge key w child seen n
 can_charge key was v w child seen entry n k b inside charged own lane no_flag enough = record {
   inside = subst (λ (k : Key). child < k.children) (sym k) inside;
   no_flag = ap flag_in (sym lane) ∙ no_flag;
@@ -111,7 +120,8 @@ can_charge key was v w child seen entry n k b inside charged own lane no_flag en
   one_child = lies_anywhere w child (ap (λ x. x.charged) b ∙ charged) (ap (λ x. x.own) b ∙ own);
 }
 
-pub run_of : (key : Key) (word seen bit order : ℕ) → word < 8 * key.children → order ≤ 6 → IsClearRun seen order bit → IsRun key word bit order
+pub run_of : (key : Key) (word seen bit order : ℕ) → word < 8 * key.children → order ≤ 6 → IsClearRun seen order bit
+    → IsRun key word bit order
 run_of key word seen bit order inside small run = record {
   inside = inside;
   small = small;
@@ -119,7 +129,9 @@ run_of key word seen bit order inside small run = record {
   fits = run.bits.inside;
 }
 
-pub can_claim : (key was : Key) (v w : View) (word seen bit order : ℕ) → key ≡ was → IsAsBefore v w → word < 8 * was.children → order ≤ 6 → 2 ^ order ≤ charged_in (word / 8) v → 2 ^ order ≤ paid_on (word / 64) v → seen < 2 ^ 64 → IsClearRun seen order bit → CanClaim key w word seen bit order
+pub can_claim : (key was : Key) (v w : View) (word seen bit order : ℕ) → key ≡ was → IsAsBefore v w → word < 8 * was.children → order ≤ 6
+    → 2 ^ order ≤ charged_in (word / 8) v → 2 ^ order ≤ paid_on (word / 64) v → seen < 2 ^ 64 → IsClearRun seen order bit
+    → CanClaim key w word seen bit order
 can_claim key was v w word seen bit order k b inside small charged paid bits run = record {
   is_run = subst (λ k. IsRun k word bit order) (sym k) (run_of was word seen bit order inside small run);
   clear = run_apart seen order bit bits run;
@@ -127,7 +139,9 @@ can_claim key was v w word seen bit order k b inside small charged paid bits run
   paid = subst (λ (x : View). 2 ^ order ≤ paid_on (word / 64) x) (sym b) paid;
 }
 
-pub can_take_huge : (key was : Key) (v w : View) (child seen entry : ℕ) → key ≡ was → IsAsBefore v w → child < was.children → v.charged ≡ None → v.own ≡ [] → 512 ≤ paid_on (tree_of_child child) v → entry ≡ lane_in seen child → entry ≡ 512 → CanTakeHuge key w child seen
+pub can_take_huge : (key was : Key) (v w : View) (child seen entry : ℕ) → key ≡ was → IsAsBefore v w → child < was.children
+    → v.charged ≡ None → v.own ≡ [] → 512 ≤ paid_on (tree_of_child child) v → entry ≡ lane_in seen child → entry ≡ 512
+    → CanTakeHuge key w child seen
 can_take_huge key was v w child seen entry k b inside charged own paid lane all = record {
   inside = subst (λ (k : Key). child < k.children) (sym k) inside;
   all_free = sym lane ∙ all;

@@ -1,28 +1,31 @@
 -- What takes of whole words do to the words where nobody else steps.
-use Rattle.std.proofs.Common.{◌≡◌, inr, ⊎_elim, length, Bool, true, false, ℕ, ◌+◌, ◌-◌, ◌*◌, ◌/◌, ◌%◌, ◌^◌, ◌<◌, ◌≤◌, List, Option, None, Some, refl, ap, sym, subst, ◌∙◌, arith}
+use Rattle.std.proofs.Common.{◌≡◌, inr, ⊎_elim, length, Bool, true, ℕ, ◌+◌, ◌-◌, ◌*◌, ◌/◌, ◌%◌, ◌^◌, ◌<◌, ◌≤◌, List, Option, None, Some}
+use Rattle.std.proofs.Common.{refl, ap, sym, subst, ◌∙◌, arith}
 use Rattle.std.specs.Prelude.{IfSome, slice_index, slice_set}
-use Rattle.std.proofs.lemmas.Bool.{cases_lt, false≢true}
+use Rattle.std.proofs.lemmas.Bool.{cases_lt}
 use Rattle.std.proofs.lemmas.List.{get_or-set_same, get_or-set_other}
 use Rattle.frame_words.specs.Runs.{IsClearGroup, HasNoClearGroup}
-use Rattle.frame_core.specs.declared.key.Key.{Key}
-use Rattle.frame_core.specs.declared.view.View.{View}
-use Rattle.frame_core.specs.declared.block.FrameBlock.{FrameBlock}
+use Rattle.frame_model.specs.declared.key.Key.{Key}
+use Rattle.frame_model.specs.declared.view.View.{View}
+use Rattle.frame_model.specs.declared.block.FrameBlock.{FrameBlock}
 use Rattle.frame_core.specs.Block.{block}
 use Rattle.frame_core.specs.Words.{bits_place, bit_word_of, huge_of, AreInRange}
 use Rattle.frame_core.specs.Report.{held_at}
 use Rattle.frame_core.specs.View.{charged_in}
 use Rattle.frame_core.specs.Moves.{Changes, Exchanges, words_after}
 use Rattle.frame_core.specs.Steps.{refund, claim}
-use Rattle.frame_core.proofs.Steps.Shared.{bit_word_is}
+use Rattle.frame_model.proofs.Steps.Shared.{bit_word_is}
 use Rattle.low_frames.specs.Alone.{IsFreeIn, HoldsMore, Turns, IsCharged, HasTaken, HasNoneIn, FindsOf}
-use Rattle.low_frames.specs.Takes.{IsBlockIn}
-use Rattle.low_frames.specs.Words.{HoldsMoreWords, HasTakenWords, WhereFree, AreFree, AreWordsOf}
+use Rattle.frame_core.specs.Mover.{Mover}
+use Rattle.low_frames.specs.Takes.{IsBlockIn, LosesNone}
+use Rattle.low_frames.specs.Groups.{HoldsMoreWords, HasTakenWords, WhereFree, AreFree, AreWordsOf}
 use Rattle.low_frames.proofs.AloneLemmas.{if_known, at_known, exchange_made}
 use Rattle.low_frames.proofs.RoomLemmas.{FitsAlone, range_alone, is_covered, refund_back}
 use Rattle.low_frames.proofs.GiveLemmas.{size_in_words, begins_in_words}
 use Rattle.low_frames.proofs.WideLemmas.{two_or_four, group_is}
 use Rattle.low_frames.proofs.FlightLemmas.{charged_no_flag, is_word}
-use Rattle.low_frames.proofs.HeldLemmas.{free_word, charge_same, same_then_more, clear_word_is_free, claimed_run, block_as_words, words_as_block, no_more_words, words_up}
+use Rattle.low_frames.proofs.HeldLemmas.{AreSame, held_same, words_else, free_word, charge_same, same_then_more, clear_word_is_free}
+use Rattle.low_frames.proofs.HeldLemmas.{claimed_run, block_as_words, words_as_block, no_more_words, words_up}
 
 -- the list has the first of the bit words of the child
 abbrev pub AreFirstOf : Key → ℕ → ℕ → List ℕ → List ℕ → Type 0
@@ -75,54 +78,56 @@ word_claimed key was v alone word i made (Some ws) mid new same inside some_char
         us,
         (
           done.1 ∙ ap (λ (k : Key). Some (words_after k (claim word 0 0 6) ws)) same,
-          block_as_words was ws us word 1 (block (64 * word + 0) 6) (omega arith) (omega arith)
+          block_as_words was ws us word 1 (block (64 * word + 0) 6) (omega arith) (omega arith) (omega arith) (omega arith)
               (claimed_run was ws word 0 6 0 range (is_word was word inside) flag (sym (bit_word_is was ws word) ∙ clear) refl),
         ),
       ),
     )
 
--- what the first try does holds
-pub then_holds : (key : Key) (old : Option (List ℕ)) (first count : ℕ) (P Q : Type 0) → (P → Q) → WhereFree key old first count P
+-- where the words are free, what follows from what holds
+pub then_holds : (key : Key) (old : Option (List ℕ)) (first count : ℕ) (P Q : Type 0) → WhereFree key old first count P → (P → Q)
     → WhereFree key old first count Q
-then_holds key None first count P Q f h = tt
-then_holds key (Some ws) first count P Q f h = λ free. f (h free)
+then_holds key None first count P Q h f = tt
+then_holds key (Some ws) first count P Q h f = λ free. f (h free)
 
--- so none is lost
-pub none_lost : (key : Key) (old : Option (List ℕ)) (first count : ℕ) (made : Bool) (P Q : Type 0) → made ≡ false
-    → WhereFree key old first count ((made ≡ true) × P) → WhereFree key old first count Q
-none_lost key old first count made P Q e h =
-    then_holds key old first count ((made ≡ true) × P) Q (λ d. absurd (false≢true (sym e ∙ d.0))) h
+pub both_hold : (key : Key) (old : Option (List ℕ)) (first count : ℕ) (P Q : Type 0) → WhereFree key old first count P
+    → WhereFree key old first count Q → WhereFree key old first count (P × Q)
+both_hold key None first count P Q g h = tt
+both_hold key (Some ws) first count P Q g h = λ free. (g free, h free)
 
-pub none_taken : (key : Key) (old : Option (List ℕ)) (first count : ℕ) → WhereFree key old first count (HasTakenWords key old old first 0)
-none_taken key None first count = tt
-none_taken key (Some ws) first count = λ free. (ws, (refl, no_more_words key ws first))
+pub none_taken : {T H : Type 0} (m : Mover T H) (first count : ℕ)
+    → WhereFree m.key m.words first count (HasTakenWords m.key m.words m.words first 0 × LosesNone m m)
+none_taken m first count = by_words m.words
+  where
+    by_words : (old : Option (List ℕ)) → WhereFree m.key old first count (HasTakenWords m.key old old first 0 × LosesNone m m)
+    by_words None = tt
+    by_words (Some ws) = λ free. ((ws, (refl, no_more_words m.key ws first)), record { missed = refl; lost = refl })
 
 -- one word more was claimed, and none was lost
-pub taken_more : (key was : Key) (first count i : ℕ) (r : Option ℕ) (old mid new : Option (List ℕ)) → key ≡ was
-    → first + count ≤ 8 * was.children → i < count → WhereFree was old first count (HasTakenWords was old mid first i)
-    → WhereFree key mid (first + i) 1 ((r ≡ None) × HasTakenWords key mid new (first + i) 1)
-    → WhereFree was old first count ((r ≡ None) × HasTakenWords was old new first (i + 1))
-taken_more key was first count i r None mid new same inside h before step = tt
-taken_more key was first count i r (Some ws) mid new same inside h before step =
+pub taken_more : (key was : Key) (first count i : ℕ) (r : Option ℕ) (old mid new : Option (List ℕ)) (P Q : Type 0) → key ≡ was
+    → first + count ≤ 8 * was.children → i < count → WhereFree was old first count (HasTakenWords was old mid first i × P)
+    → WhereFree key mid (first + i) 1 ((r ≡ None) × (HasTakenWords key mid new (first + i) 1 × Q))
+    → WhereFree was old first count ((r ≡ None) × (HasTakenWords was old new first (i + 1) × (P × Q)))
+taken_more key was first count i r None mid new P Q same inside h before step = tt
+taken_more key was first count i r (Some ws) mid new P Q same inside h before step =
     λ free.
-    let taken : (us : List ℕ) × ((mid ≡ Some us) × HoldsMoreWords was ws us first i) = before free in
+    let taken : (us : List ℕ) × ((mid ≡ Some us) × HoldsMoreWords was ws us first i) = (before free).0 in
     let us : List ℕ = taken.0 in
-    let still : AreFree was us (first + i) 1 = λ x l m. taken.1.1.others x (omega arith) (inr l) ∙ free x (omega arith) (omega arith) in
-    let made : (r ≡ None) × HasTakenWords key mid new (first + i) 1 =
-    at_known mid (λ us. AreFree key us (first + i) 1 → (r ≡ None) × HasTakenWords key mid new (first + i) 1) us taken.1.0 step
+    let still : AreFree was us (first + i) 1 = λ x l m. words_else was ws us first i x taken.1.1 (omega arith) (inr l)
+    ∙ free x (omega arith) (omega arith) in
+    let made : (r ≡ None) × (HasTakenWords key mid new (first + i) 1 × Q) =
+    at_known mid (λ us. AreFree key us (first + i) 1 → (r ≡ None) × (HasTakenWords key mid new (first + i) 1 × Q)) us taken.1.0 step
     (subst (λ k. AreFree k us (first + i) 1) (sym same) still) in
     let there : (vs : List ℕ) × ((new ≡ Some vs) × HoldsMoreWords key us vs (first + i) 1) =
-    at_known mid (λ us. (vs : List ℕ) × ((new ≡ Some vs) × HoldsMoreWords key us vs (first + i) 1)) us taken.1.0 made.1 in
+    at_known mid (λ us. (vs : List ℕ) × ((new ≡ Some vs) × HoldsMoreWords key us vs (first + i) 1)) us taken.1.0 made.1.0 in
     let more : HoldsMoreWords was us there.0 (first + i) 1 = subst (λ k. HoldsMoreWords k us there.0 (first + i) 1) same there.1.1 in
-    (made.0, (there.0, (there.1.0, words_up was ws us there.0 first i (omega arith) taken.1.1 more)))
+    let all : HasTakenWords was (Some ws) new first (i + 1) =
+    (there.0, (there.1.0, words_up was ws us there.0 first i (omega arith) taken.1.1 more)) in
+    (made.0, (all, ((before free).1, made.1.1)))
 
 -- nothing that was free was lost
-pub not_lost : {X : Type 0} (key : Key) (old : Option (List ℕ)) (first count : ℕ) (x : X) (P Q : Type 0)
-    → WhereFree key old first count ((Some x ≡ None) × P) → WhereFree key old first count Q
-not_lost key old first count x P Q h = then_holds key old first count ((Some x ≡ None) × P) Q (λ d. absurd (some_is_not_none d.0)) h
-  where
-    some_is_not_none : Some x ≡ None → ⊥
-    some_is_not_none e = cc
+pub not_lost : {X : Type 0} (x : X) (P : Type 0) → Some x ≡ None → P
+not_lost x P e = absurd (cc)
 
 -- Groups of words.
 
@@ -204,19 +209,21 @@ group_tried key was v alone child order count first tries list old now P same l 
     ))
 
 -- a clear group was taken
-pub group_taken : (key was : Key) (child order count first : ℕ) (old now new : Option (List ℕ)) (P : Type 0) → key ≡ was
-    → 64 * count ≡ 2 ^ order → IfSome old (λ ws. (now ≡ Some ws) × (P × HasTakenWords key now new (8 * child + first) count))
+pub group_taken : (key was : Key) (child order count first : ℕ) (old now new : Option (List ℕ)) (P Q : Type 0) → key ≡ was
+    → order ≤ 8 → 64 * count ≡ 2 ^ order
+    → IfSome old (λ ws. (now ≡ Some ws) × (P × (HasTakenWords key now new (8 * child + first) count × Q)))
     → HasTaken was old new (block (512 * child + 64 * first) order)
-group_taken key was child order count first old now new P same size done =
-    if_known old (λ ws. (now ≡ Some ws) × (P × HasTakenWords key now new (8 * child + first) count))
+group_taken key was child order count first old now new P Q same high size done =
+    if_known old (λ ws. (now ≡ Some ws) × (P × (HasTakenWords key now new (8 * child + first) count × Q)))
     (λ ws. (us : List ℕ) × ((new ≡ Some us) × HoldsMore was ws us (block (512 * child + 64 * first) order))) done
     (λ ws at e.
     let taken : (us : List ℕ) × ((new ≡ Some us) × HoldsMoreWords key ws us (8 * child + first) count) =
-    at_known now (λ ws. (us : List ℕ) × ((new ≡ Some us) × HoldsMoreWords key ws us (8 * child + first) count)) ws e.0 e.1.1 in (
+    at_known now (λ ws. (us : List ℕ) × ((new ≡ Some us) × HoldsMoreWords key ws us (8 * child + first) count)) ws e.0 e.1.1.0 in (
       taken.0,
       (
         taken.1.0,
-        words_as_block was ws taken.0 (8 * child + first) count (block (512 * child + 64 * first) order) (omega arith) (sym size)
+        words_as_block was ws taken.0 (8 * child + first) count (block (512 * child + 64 * first) order) (omega (arith, high))
+            (omega arith) (sym size)
             (subst (λ (k : Key). HoldsMoreWords k ws taken.0 (8 * child + first) count) same taken.1.1),
       ),
     ))
@@ -236,10 +243,7 @@ look_again key child tries list old now P h look =
 
 pub look_lost : {X : Type 0} (old now : Option (List ℕ)) (x : X) (P : Type 0) (Q : List ℕ → Type 0)
     → IfSome old (λ ws. (now ≡ Some ws) × ((Some x ≡ None) × P)) → IfSome old Q
-look_lost old now x P Q h = if_known old (λ ws. (now ≡ Some ws) × ((Some x ≡ None) × P)) Q h (λ ws at e. absurd (some_is_not_none e.1.0))
-  where
-    some_is_not_none : Some x ≡ None → ⊥
-    some_is_not_none e = cc
+look_lost old now x P Q h = if_known old (λ ws. (now ≡ Some ws) × ((Some x ≡ None) × P)) Q h (λ ws at e. not_lost x (Q ws) e.1.0)
 
 -- Takes of blocks of whole words.
 
@@ -252,9 +256,8 @@ wide_taken key mid_key v alone child n b d old mid now new same inside is fits c
     (λ ws. (vs : List ℕ) × ((new ≡ Some vs) × HoldsMore key ws vs d)) charged
     (λ ws e h.
     let us : List ℕ = h.0 in
-    let held : (x : ℕ) → held_at key us x ≡ held_at key ws x =
-    λ x. ap (λ l. held_at key l x) h.1.1.words ∙ charge_same key ws child n (range_alone alone key ws v (fits ws e))
-    inside h.1.1.no_flag x in
+    let held : AreSame key ws us =
+    subst (AreSame key ws) (sym h.1.1.words) (charge_same key ws child n (range_alone alone key ws v (fits ws e)) inside h.1.1.no_flag) in
     let there : (vs : List ℕ) × ((now ≡ Some vs) × HoldsMore mid_key us vs b) =
     at_known mid (λ us. (vs : List ℕ) × ((now ≡ Some vs) × HoldsMore mid_key us vs b)) us h.1.0 taken in (
       there.0,
@@ -277,7 +280,7 @@ wide_none key mid_key last_key v alone child order n old mid now new same last i
     let us : List ℕ = h.0 in
     let range : AreInRange key ws = range_alone alone key ws v (fits ws e) in
     let held : (x : ℕ) → held_at key us x ≡ held_at key ws x =
-    λ x. ap (λ l. held_at key l x) h.1.1.words ∙ charge_same key ws child n range inside h.1.1.no_flag x in
+    held_same key ws us (subst (AreSame key ws) (sym h.1.1.words) (charge_same key ws child n range inside h.1.1.no_flag)) in
     let found : (now ≡ Some us) × HasNoneIn mid_key child order us =
     at_known mid (λ us. (now ≡ Some us) × HasNoneIn mid_key child order us) us h.1.0 none in
     let there : new ≡ Some (words_after last_key (refund child n) us) =

@@ -1,12 +1,12 @@
 -- What takes and gives find and leave where nobody else steps.
-use Rattle.std.specs.Prelude.{◌≡◌, ◌≢◌, ◌⊎◌, ℕ, ◌/◌, ◌%◌, ◌<◌, ◌≤◌, List, Option, Some, IfSome, Bool, MatchBool, slice_index}
+use Rattle.std.specs.Prelude.{◌≡◌, ◌≢◌, ◌⊎◌, ℕ, ◌+◌, ◌/◌, ◌%◌, ◌<◌, ◌≤◌, List, Option, Some, IfSome, Bool, MatchBool, slice_index}
 use Rattle.frame_words.specs.Geometry.{child_frames}
 use Rattle.frame_words.specs.Runs.{IsClearRun, HasNoClearRun}
-use Rattle.frame_core.specs.declared.block.FrameBlock.{FrameBlock}
-use Rattle.frame_core.specs.declared.key.Key.{Key}
+use Rattle.frame_model.specs.declared.block.FrameBlock.{FrameBlock}
+use Rattle.frame_model.specs.declared.key.Key.{Key}
 use Rattle.frame_core.specs.Key.{frame_count}
-use Rattle.frame_core.specs.Block.{covers}
-use Rattle.frame_core.specs.Words.{entry_place, entry_of, free_of, huge_of, bit_word_of}
+use Rattle.frame_core.specs.Block.{covers, small_at, whole_at}
+use Rattle.frame_core.specs.Words.{entry_place, entry_of, free_of, huge_of, bit_of, bit_word_of}
 use Rattle.frame_core.specs.Report.{held_at}
 use Rattle.frame_core.specs.Moves.{words_after}
 use Rattle.frame_core.specs.Steps.{charge, claim, take_huge}
@@ -16,12 +16,12 @@ use Rattle.low_frames.specs.Takes.{IsBlockIn, IsBlockOfTree}
 abbrev pub IsFreeIn : Key → List ℕ → FrameBlock → Type 0
 IsFreeIn key words b = (x : ℕ) → covers b x ≡ 1 → held_at key words x ≡ 0
 
--- the block was free and is held, and every other frame is as it was
+-- The block was free and is held: one of order 9 by the flag of its child, another by its bits.
+-- Every other bit and flag is as it was.
 pub record HoldsMore (key : Key) (old new : List ℕ) (b : FrameBlock) : Type 0 where
   pub was_free : IsFreeIn key old b
-  pub is_held : (x : ℕ) → covers b x ≡ 1 → held_at key new x ≡ 1
-  pub others : (x : ℕ) → x < frame_count key → covers b x ≡ 0
-      → held_at key new x ≡ held_at key old x
+  pub bits : (x : ℕ) → x < frame_count key → bit_of key new x ≡ bit_of key old x + small_at x b
+  pub flags : (c : ℕ) → c < key.children → huge_of new c ≡ huge_of old c + whole_at c b
 
 -- where the words were known, they are known, and this holds of both
 abbrev pub Turns : (List ℕ → List ℕ → Type 0) → Option (List ℕ) → Option (List ℕ) → Type 0
@@ -39,15 +39,17 @@ HasTaken key old new b = Turns (λ ws us. HoldsMore key ws us b) old new
 abbrev pub HasGiven : Key → Option (List ℕ) → Option (List ℕ) → FrameBlock → Type 0
 HasGiven key old new b = Turns (λ ws us. HoldsMore key us ws b) old new
 
+-- no block of these is free
+abbrev pub HasNone : Key → (FrameBlock → Type 0) → List ℕ → Type 0
+HasNone key In words = (b : FrameBlock) → In b → ¬ IsFreeIn key words b
+
 -- no block of the order in the child is free
 abbrev pub HasNoneIn : Key → ℕ → ℕ → List ℕ → Type 0
-HasNoneIn key child order words =
-    (b : FrameBlock) → IsBlockIn key child order b → ¬ IsFreeIn key words b
+HasNoneIn key child order words = HasNone key (IsBlockIn key child order) words
 
 -- no block of the order in the tree is free
 abbrev pub HasNoneOfTree : Key → ℕ → ℕ → List ℕ → Type 0
-HasNoneOfTree key tree order words =
-    (b : FrameBlock) → IsBlockOfTree key tree order b → ¬ IsFreeIn key words b
+HasNoneOfTree key tree order words = HasNone key (IsBlockOfTree key tree order) words
 
 -- n frames of the entry of the child, which shows no huge frame and so many free, are charged
 pub record IsCharged (key : Key) (child n : ℕ) (old new : List ℕ) : Type 0 where

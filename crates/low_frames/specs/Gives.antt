@@ -1,11 +1,15 @@
 -- What a give leaves of the view of the one who gives.
-use Rattle.std.specs.Prelude.{◌≡◌, ℕ, pos, ◌^◌, ◌-ℤ◌, []}
-use Rattle.frame_core.specs.declared.block.FrameBlock.{FrameBlock}
-use Rattle.frame_core.specs.declared.view.View.{View}
+use Rattle.std.specs.Prelude.{◌≡◌, ℕ, pos, ◌^◌, ◌-ℤ◌, ◌<◌, [], None}
+use Rattle.frame_model.specs.declared.block.FrameBlock.{FrameBlock}
+use Rattle.frame_model.specs.declared.view.View.{View}
 use Rattle.frame_core.specs.Key.{tree_of, tree_of_child}
+use Rattle.frame_core.specs.View.{NoneBut}
+use Rattle.frame_core.specs.Mover.{Mover, KeepsOthers}
 use Rattle.frame_core.specs.Steps.Amounts.{more}
+use Rattle.low_frames.specs.Takes.{Counts, StaysSure}
+use Rattle.low_frames.specs.Alone.{HasGiven}
 
--- the frames of the block are paid, and one block less is lent; all else but the counts is as before
+-- the frames of the block are paid, and one less is lent; all else but the counts is as before
 abbrev pub HasTakenBack : FrameBlock → View → View → Type 0
 HasTakenBack b v w = w ≡ record v {
   paid = more (tree_of b.frame) (2 ^ b.order) v.paid;
@@ -23,3 +27,20 @@ HasReleased child n v w = w ≡ record v {
   moves = w.moves;
   lost = w.lost;
 }
+
+-- the block is out, and nothing is in flight but what is paid in its tree
+pub record MayGive {T H : Type 0} (b : FrameBlock) (block : H) (m : Mover T H) : Type 0 where
+  pub share : 0 < m.view.share
+  pub held : m.is_out block
+  pub charged : m.view.charged ≡ None
+  pub own : m.view.own ≡ []
+  pub paid : NoneBut (tree_of b.frame) m.view.paid
+
+-- in at most so many moves the view turned so; where nobody else steps the block's frames are free
+pub record Gives {T H : Type 0} (block_of : H → FrameBlock) (exact : ℕ → Type 0) (most : ℕ)
+    (V : View → View → Type 0) (given : H) (old new : Mover T H) : Type 0 where
+  pub keeps : KeepsOthers block_of (block_of given) old new
+  pub counts : Counts exact most old new
+  pub back : V old.view new.view
+  pub sure : StaysSure old new
+  pub alone_given : old.is_alone → HasGiven old.key old.words new.words (block_of given)

@@ -1,4 +1,6 @@
 pub mod Takes
 pub mod Gives
-pub mod Words
+pub mod Groups
 pub mod Alone
+pub mod Outcomes
+pub mod Parts

@@ -1,10 +1,11 @@
 -- What a take leaves of the view of the one who takes.
-use Rattle.std.specs.Prelude.{◌≡◌, ℕ, pos, ◌+◌, ◌*◌, ◌/◌, ◌^◌, ◌+ℤ◌, ◌<◌, ◌≤◌, ◌∷◌, Bool, ◌||◌, nat_lt}
-use Rattle.frame_core.specs.declared.block.FrameBlock.{FrameBlock}
-use Rattle.frame_core.specs.declared.key.Key.{Key}
-use Rattle.frame_core.specs.declared.view.View.{View}
+use Rattle.std.specs.Prelude.{◌≡◌, ℕ, pos, ◌+◌, ◌*◌, ◌/◌, ◌^◌, ◌+ℤ◌, ◌≤◌, ◌∷◌, ◌||◌, nat_lt, List, Some}
+use Rattle.frame_model.specs.declared.block.FrameBlock.{FrameBlock}
+use Rattle.frame_model.specs.declared.key.Key.{Key}
+use Rattle.frame_model.specs.declared.view.View.{View}
 use Rattle.frame_core.specs.Key.{child_of, tree_of, tree_of_child}
 use Rattle.frame_core.specs.Block.{block, IsBlock}
+use Rattle.frame_core.specs.Mover.{Mover}
 use Rattle.frame_core.specs.Steps.Amounts.{more, less}
 
 -- the view is as before, but for its counts of moves and of lost exchanges
@@ -61,12 +62,28 @@ pub record IsBlockIn (key : Key) (child order : ℕ) (b : FrameBlock) : Type 0 w
   pub in_child : child_of b.frame ≡ child
 
 -- At most n moves were made, and an exchange is known to be lost exactly where one was before or
--- the count of losses rose; counts below 2 ^ 63 are exact.
-pub record Counts (n : ℕ) (was : Bool) (v : View) (is : Bool) (w : View) : Type 0 where
-  pub moves : w.moves ≤ v.moves + n
-  pub lost : w.lost ≤ v.lost + n
-  pub risen : v.lost + n < 2 ^ 63 → v.lost ≤ w.lost
-  pub missed : v.lost + n < 2 ^ 63 → is ≡ (was || nat_lt v.lost w.lost)
+-- the count of losses rose, as far as counts are exact.
+pub record Counts {T H : Type 0} (exact : ℕ → Type 0) (n : ℕ) (old new : Mover T H) : Type 0 where
+  pub moves : new.view.moves ≤ old.view.moves + n
+  pub lost : new.view.lost ≤ old.view.lost + n
+  pub rises : exact (old.view.moves + n) → old.view.moves ≤ new.view.moves
+  pub risen : exact (old.view.lost + n) → old.view.lost ≤ new.view.lost
+  pub missed : exact (old.view.lost + n)
+      → new.missed ≡ (old.missed || nat_lt old.view.lost new.view.lost)
+
+-- nobody else steps, and the words are known
+abbrev pub IsSure : {T H : Type 0} → Mover T H → Type 0
+IsSure m = m.is_alone × ((ws : List ℕ) × (m.words ≡ Some ws))
+
+-- no exchange was lost in between
+pub record LosesNone {T H : Type 0} (old new : Mover T H) : Type 0 where
+  pub missed : new.missed ≡ old.missed
+  pub lost : new.view.lost ≡ old.view.lost
+
+-- who is sure of the words stays so, and loses no exchange
+pub record StaysSure {T H : Type 0} (old new : Mover T H) : Type 0 where
+  pub is_sure : IsSure old → IsSure new
+  pub loses_none : IsSure old → LosesNone old new
 
 -- a block of this order in the tree
 pub record IsBlockOfTree (key : Key) (tree order : ℕ) (b : FrameBlock) : Type 0 where

@@ -5,7 +5,6 @@ mod attempts;
 mod gives;
 mod huge;
 mod in_tree;
-mod orders;
 mod small;
 #[cfg(test)]
 mod tests;

@@ -1,11 +1,12 @@
 //! The image of a memory that nobody used yet: first the bits, then the counters from them.
 
-ghost use Rattle.std.specs.Prelude.{◌≡◌, ℕ, ◌+◌, ◌-◌, ◌<◌, ◌≤◌, IfOk, IfErr};
+ghost use Rattle.std.specs.Prelude.{◌≡◌, ℕ, ◌+◌, ◌-◌, ◌*◌, ◌<◌, ◌≤◌, IfOk, IfErr};
 ghost use Rattle.std.specs.List.{sum_by};
-ghost use Rattle.frame_core.specs.Key.{key_of, sealed_key, frame_count, tree_count, children_of, size_of, AreRanges};
-ghost use Rattle.frame_core.specs.Words.{run, bit_of, free_of, set_of};
-ghost use Rattle.frame_core.specs.Image.{key_in, IsImage, IsAllFree, IsCountedBelow, HasSameBits, SetsRun, SetsRanges};
-ghost use Rattle.frame_core.specs.Openings.{IsSealedOpening};
+ghost use Rattle.frame_model.specs.Key.{key_of, sealed_key, frame_count, tree_count, children_of, size_of, AreRanges};
+ghost use Rattle.frame_model.specs.Words.{run, free_of, set_of};
+ghost use Rattle.frame_core.specs.Image.{key_in, IsImage, IsAllFree, IsUncounted, IsCountedBelow, HasSameBits, SetsRun, SetsRanges};
+ghost use Rattle.frame_core.specs.Image.{blank_words, bits_past as the_bits_past};
+ghost use Rattle.frame_model.specs.Openings.{IsSealedOpening};
 
 use super::Image;
 use crate::layout::{bits_place, word_count};
@@ -48,71 +49,35 @@ impl Image {
         ensures in_range { IfOk result (λ i. IsImage (key_of geometry.now) i.words) }
         ensures err { IfErr result (λ e. e ≡ Fault.NoMemory) }
     {
-        let mut image = Image::zero(alloc, *geometry)?;
+        let mut words = vec![in alloc; 0; word_count(*geometry)]?;
         let frames = geometry.frames();
-        image.hold(frames, CHILD_FRAMES * geometry.children() - frames);
-        image.hold_ranges(ranges);
+        let past = CHILD_FRAMES * geometry.children() - frames;
+        hold(&mut words, *geometry, frames, past);
+        hold_ranges(&mut words, *geometry, ranges);
+        let mut image = Image {
+            geometry: *geometry,
+            words,
+        };
         image.count_children();
         image.count_trees();
         Ok(image)
     }
 
-    /// All frames of all children are free, also those past the end. Refused only for want of
-    /// memory.
-    pub fn all_free(alloc: Global, geometry: &Geometry) -> Result<Image, Fault>
+    /// Nothing is said of any part, but that the frames past the end are held: every counter is 0.
+    /// Refused only for want of memory.
+    pub fn blank(alloc: Global, geometry: &Geometry) -> Result<Image, Fault>
         ensures geometry { IfOk result (λ i. i.geometry ≡ geometry.now) }
-        ensures all_free { IfOk result (λ i. IsAllFree (key_of geometry.now) i.words) }
-        ensures in_range { IfOk result (λ i. IsImage (key_of geometry.now) i.words) }
+        ensures words { IfOk result (λ i. i.words ≡ blank_words (key_of geometry.now)) }
         ensures err { IfErr result (λ e. e ≡ Fault.NoMemory) }
     {
-        let mut image = Image::zero(alloc, *geometry)?;
-        image.count_children();
-        image.count_trees();
-        Ok(image)
-    }
-
-    // All words 0: nothing is free, and nothing is held.
-    fn zero(alloc: Global, geometry: Geometry) -> Result<Image, Fault>
-        ensures geometry { IfOk result (λ i. i.geometry ≡ geometry) }
-        ensures zero { IfOk result (λ i. (x : ℕ) → bit_of (key_of geometry) i.words x ≡ 0) }
-        ensures uncounted { IfOk result (λ i. IsCountedBelow (key_of geometry) i.words 0 0) }
-        ensures err { IfErr result (λ e. e ≡ Fault.NoMemory) }
-    {
-        let words = vec![in alloc; 0; word_count(geometry)]?;
-        Ok(Image { geometry, words })
-    }
-
-    // Sets the bits of the frames of the ranges.
-    fn hold_ranges(&mut self, ranges: &[(u32, u32)])
-        requires uncounted { IsCountedBelow (key_in self.old) self.old.words 0 0 }
-        requires ranges { AreRanges 0 self.old.geometry.frames ranges.now }
-        ensures geometry { self.new.geometry ≡ self.old.geometry }
-        ensures uncounted { IsCountedBelow (key_in self.old) self.new.words 0 0 }
-        ensures set { SetsRanges (key_in self.old) ranges.now self.old.words self.new.words }
-    {
-        for &(from, count) in ranges {
-            self.hold(from, count);
+        let mut words = vec![in alloc; 0; bits_place(*geometry, 0)]?;
+        for word in 0..CHILD_WORDS * geometry.children() {
+            words.push(bits_past(*geometry, word))?;
         }
-    }
-
-    // Sets the bits of these frames.
-    fn hold(&mut self, from: u32, count: u32)
-        requires uncounted { IsCountedBelow (key_in self.old) self.old.words 0 0 }
-        requires inside { from + count ≤ frame_count (key_in self.old) }
-        ensures geometry { self.new.geometry ≡ self.old.geometry }
-        ensures uncounted { IsCountedBelow (key_in self.old) self.new.words 0 0 }
-        ensures set { SetsRun (key_in self.old) from (from + count) self.old.words self.new.words }
-    {
-        let geometry = self.geometry();
-        let end = from + count;
-        for word in from / WORD_FRAMES..end.div_ceil(WORD_FRAMES) {
-            let first = WORD_FRAMES * word;
-            let low = from.max(first) - first;
-            let high = end.min(first + WORD_FRAMES) - first;
-            let place = bits_place(geometry, word);
-            let bits = self.word_at(place) | ones(low, high);
-            self.put(place, bits);
-        }
+        Ok(Image {
+            geometry: *geometry,
+            words,
+        })
     }
 
     // Each child counts as free what is not set.
@@ -146,8 +111,8 @@ impl Image {
         }
     }
 
-    // How many frames of the child are set.
-    fn set_frames(&self, child: u32) -> u32
+    /// How many frames of the child are set.
+    pub fn set_frames(&self, child: u32) -> u32
         requires { child < self.now.geometry.children }
         ensures value { result ≡ set_of (key_in self.now) self.now.words child }
         ensures limit { result ≤ 512 }
@@ -159,8 +124,8 @@ impl Image {
         set
     }
 
-    // How many frames the children of the tree count as free.
-    fn free_frames(&self, tree: u32) -> u32
+    /// How many frames the children of the tree count as free.
+    pub fn free_frames(&self, tree: u32) -> u32
         requires { tree < tree_count (key_in self.now) }
         ensures value { result
             ≡ sum_by (free_of self.now.words) (children_of (key_in self.now) tree) }
@@ -174,6 +139,45 @@ impl Image {
         }
         free
     }
+}
+
+// Sets the bits of the frames of the ranges.
+fn hold_ranges(words: &mut Vec<u64>, geometry: Geometry, ranges: &[(u32, u32)])
+    requires uncounted { IsUncounted (key_of geometry) words.old.items }
+    requires ranges { AreRanges 0 geometry.frames ranges.now }
+    ensures uncounted { IsUncounted (key_of geometry) words.new.items }
+    ensures set { SetsRanges (key_of geometry) ranges.now words.old.items words.new.items }
+{
+    for &(from, count) in ranges {
+        hold(words, geometry, from, count);
+    }
+}
+
+// Sets the bits of these frames.
+fn hold(words: &mut Vec<u64>, geometry: Geometry, from: u32, count: u32)
+    requires uncounted { IsUncounted (key_of geometry) words.old.items }
+    requires inside { from + count ≤ frame_count (key_of geometry) }
+    ensures uncounted { IsUncounted (key_of geometry) words.new.items }
+    ensures set { SetsRun (key_of geometry) from (from + count) words.old.items words.new.items }
+{
+    let end = from + count;
+    for word in from / WORD_FRAMES..end.div_ceil(WORD_FRAMES) {
+        let first = WORD_FRAMES * word;
+        let low = from.max(first) - first;
+        let high = end.min(first + WORD_FRAMES) - first;
+        let place = bits_place(geometry, word);
+        words[place] |= ones(low, high);
+    }
+}
+
+// The bits of a bit word that lie past the end.
+#[tactic(auto, unfolding(crate::specs::Image::bits_past))]
+fn bits_past(geometry: Geometry, word: u32) -> u64
+    requires { word < 8 * geometry.children }
+    ensures { result ≡ the_bits_past (key_of geometry) word }
+{
+    let inside = WORD_FRAMES.min(geometry.frames().saturating_sub(WORD_FRAMES * word));
+    ones(inside, WORD_FRAMES)
 }
 
 // The word with ones from one bit up to another.

@@ -1,13 +1,13 @@
 //! Amounts of frames in one place, and how moves change them.
 
 ghost use Rattle.std.specs.Prelude.{◌≡◌, ◌+◌, ◌<◌, ◌^◌};
-ghost use Rattle.frame_core.specs.View.{counted, count_in};
-ghost use Rattle.frame_core.specs.Steps.Amounts.{more, less, rest_amount, rest_tree};
+ghost use Rattle.frame_model.specs.View.{counted, count_in};
+ghost use Rattle.frame_model.specs.Steps.Amounts.{more, less, rest_amount, rest_tree};
 
-use crate::view::Amount;
+use frame_model::Amount;
 
 /// So many frames of the place; none of them is no amount.
-#[tactic(auto, unfolding(crate::specs::View::counted))]
+#[tactic(auto, unfolding(frame_model::specs::View::counted))]
 pub(crate) fn amount_of(place: u32, count: u32) -> Option<Amount>
     ensures { result ≡ counted place count }
 {
@@ -18,7 +18,7 @@ pub(crate) fn amount_of(place: u32, count: u32) -> Option<Amount>
 }
 
 /// `n` frames more in the place.
-#[tactic(auto, unfolding(crate::specs::View::count_in, crate::specs::Steps::Amounts::more))]
+#[tactic(auto, unfolding(frame_model::specs::View::count_in, frame_model::specs::Steps::Amounts::more))]
 pub(crate) fn with_more(amount: Option<Amount>, place: u32, n: u32) -> Option<Amount>
     requires { count_in place amount + n < 2 ^ 32 }
     ensures { result ≡ more place n amount }
@@ -31,7 +31,7 @@ pub(crate) fn with_more(amount: Option<Amount>, place: u32, n: u32) -> Option<Am
 }
 
 /// `n` frames less in the place.
-#[tactic(auto, unfolding(crate::specs::Steps::Amounts::less))]
+#[tactic(auto, unfolding(frame_model::specs::Steps::Amounts::less))]
 pub(crate) fn with_less(amount: Option<Amount>, place: u32, n: u32) -> Option<Amount>
     ensures { result ≡ less place n amount }
 {
@@ -42,7 +42,7 @@ pub(crate) fn with_less(amount: Option<Amount>, place: u32, n: u32) -> Option<Am
 }
 
 /// The frames of a reservation, as an amount of its tree.
-#[tactic(auto, unfolding(crate::specs::Steps::Amounts::rest_amount))]
+#[tactic(auto, unfolding(frame_model::specs::Steps::Amounts::rest_amount))]
 pub(crate) fn amount_in(rest: Option<(u32, u32)>) -> Option<Amount>
     ensures { result ≡ rest_amount rest }
 {

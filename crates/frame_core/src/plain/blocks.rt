@@ -3,8 +3,8 @@
 ghost use Rattle.std.specs.Prelude.{◌≡◌, ◌+◌, ◌≤◌, ◌<◌, ◌^◌, ◌∷◌, [], ◌++◌, length, flat_map, not, ◌&&◌, ◌||◌, if◌then◌else◌};
 ghost use Rattle.std.specs.List.{All};
 ghost use Rattle.std.specs.VecDeque.{deque_capacity};
-ghost use Rattle.frame_core.specs.Block.{block};
-ghost use Rattle.frame_core.specs.Without.{
+ghost use Rattle.frame_model.specs.Block.{block};
+ghost use Rattle.frame_model.specs.Without.{
   is_same,
   is_apart,
   is_inside,
@@ -15,13 +15,13 @@ ghost use Rattle.frame_core.specs.Without.{
 };
 ghost use Rattle.frame_core.specs.Plain.{IsLow};
 
-use crate::block::FrameBlock;
+use frame_model::FrameBlock;
 use std::collections::VecDeque;
 
 const HUGE_ORDER: u8 = 9;
 
 /// The block leaves the list.
-#[tactic(auto, unfolding(crate::specs::Without::without))]
+#[tactic(auto, unfolding(frame_model::specs::Without::without))]
 pub(crate) fn leave(list: &mut VecDeque<FrameBlock>, b: FrameBlock)
     requires block { IsLow b }
     requires list { All IsLow list.old.items }
@@ -91,7 +91,7 @@ fn push_other(
 }
 
 // Puts last what remains of one block without the frames of another.
-#[tactic(auto, unfolding(crate::specs::Without::remainder))]
+#[tactic(auto, unfolding(frame_model::specs::Without::remainder))]
 fn push_remainder(list: &mut VecDeque<FrameBlock>, b: FrameBlock, whole: FrameBlock)
     requires block { IsLow b }
     requires whole { IsLow whole }
@@ -107,7 +107,7 @@ fn push_remainder(list: &mut VecDeque<FrameBlock>, b: FrameBlock, whole: FrameBl
 }
 
 // Puts last what remains of `2^order` frames without those of the block.
-#[tactic(auto, unfolding(crate::specs::Without::remains))]
+#[tactic(auto, unfolding(frame_model::specs::Without::remains))]
 fn push_remains(list: &mut VecDeque<FrameBlock>, b: FrameBlock, order: u8, frame: u32)
     requires block { IsLow b }
     requires whole { IsLow (block frame order) }
@@ -127,14 +127,14 @@ fn push_remains(list: &mut VecDeque<FrameBlock>, b: FrameBlock, order: u8, frame
     push_remains(list, b, order - 1, frame + (1 << (order - 1)));
 }
 
-#[tactic(auto, unfolding(crate::specs::Without::is_same))]
+#[tactic(auto, unfolding(frame_model::specs::Without::is_same))]
 fn are_same(a: FrameBlock, b: FrameBlock) -> bool
     ensures { result ≡ is_same a b }
 {
     a.frame == b.frame && a.order == b.order
 }
 
-#[tactic(auto, unfolding(crate::specs::Without::is_apart))]
+#[tactic(auto, unfolding(frame_model::specs::Without::is_apart))]
 fn are_apart(a: FrameBlock, b: FrameBlock) -> bool
     requires a { IsLow a }
     requires b { IsLow b }
@@ -143,7 +143,7 @@ fn are_apart(a: FrameBlock, b: FrameBlock) -> bool
     a.frame + (1 << a.order) <= b.frame || b.frame + (1 << b.order) <= a.frame
 }
 
-#[tactic(auto, unfolding(crate::specs::Without::is_inside))]
+#[tactic(auto, unfolding(frame_model::specs::Without::is_inside))]
 fn lies_inside(a: FrameBlock, b: FrameBlock) -> bool
     requires a { IsLow a }
     requires b { IsLow b }

@@ -3,23 +3,23 @@
 ghost use Rattle.std.specs.Prelude.{◌≡◌, ℕ, ◌+◌, ◌*◌, ◌^◌, ◌<◌, ◌≤◌, Bool, true, vec_len, slice_index, slice_get};
 ghost use Rattle.std.specs.VecDeque.{deque_len, deque_capacity};
 ghost use Rattle.frame_words.specs.Geometry.{most_children};
-ghost use Rattle.frame_core.specs.Steps.Amounts.{put_in};
-ghost use Rattle.frame_core.specs.Block.{block};
-ghost use Rattle.frame_core.specs.Words.{run, word_count};
+ghost use Rattle.frame_model.specs.Steps.Amounts.{put_in};
+ghost use Rattle.frame_model.specs.Block.{block};
+ghost use Rattle.frame_model.specs.Words.{run, word_count};
 ghost use Rattle.frame_core.specs.Moves.{place_of, IsPlace, OfRun};
 ghost use Rattle.frame_core.specs.Plain.{plain_key};
 
 use super::PlainMoves;
 use super::amounts::{amount_in, amount_of, tree_in, with_less, with_more};
 use super::blocks::leave;
-use crate::block::{FrameBlock, HeldBlock, PlainBlock};
 use crate::layout::{bits_place, entry_place, local_place, tree_place};
 use crate::moves::Moves;
-use crate::place::Place;
-use frame_words::{
-    Geometry, entry, entry_free, lane, local, local_of, tree as tree_word, tree_free,
-    tree_reserved, with_lane,
+use crate::turns::{
+    charged, collected, dropped, given_whole, local_paid, local_refunded, refunded, reserved,
+    taken_whole, tree_paid, unreserved,
 };
+use frame_model::{FrameBlock, HeldBlock, Place, PlainBlock};
+use frame_words::{Geometry, local, local_of, tree_free};
 use std::collections::VecDeque;
 
 const HUGE_ORDER: u8 = 9;
@@ -28,11 +28,9 @@ const CHILD_FRAMES: u32 = 512;
 
 const TREE_CHILDREN: u32 = 8;
 
-const FLAG: u64 = 32768;
-
 // The number of the word in a table of these sizes.
-#[tactic(auto, unfolding(crate::specs::Words::entry_place, crate::specs::Words::tree_place, crate::specs::Words::local_place, crate::specs::Words::bits_place, crate::specs::Words::word_count))]
-fn number_of(geometry: Geometry, place: Place) -> usize
+#[tactic(auto, unfolding(frame_model::specs::Words::entry_place, frame_model::specs::Words::tree_place, frame_model::specs::Words::local_place, frame_model::specs::Words::bits_place, frame_model::specs::Words::word_count))]
+pub(crate) fn number_of(geometry: Geometry, place: Place) -> usize
     requires { IsPlace (plain_key geometry true) place }
     ensures number { (sealed : Bool) → result ≡ place_of (plain_key geometry sealed) place }
     ensures inside { (sealed : Bool) → result < word_count (plain_key geometry sealed) }
@@ -46,13 +44,13 @@ fn number_of(geometry: Geometry, place: Place) -> usize
 }
 
 // The word as it stands.
-fn plain_word(words: &Vec<u64>, geometry: Geometry, place: Place) -> u64
+pub(crate) fn plain_word(words: &Vec<u64>, geometry: Geometry, place: Place) -> u64
     requires place { IsPlace (plain_key geometry true) place }
     requires length { vec_len words.now ≡ word_count (plain_key geometry true) }
-    ensures value { (sealed : Bool) → slice_index words.now.items (place_of (plain_key geometry sealed) place)
-        ≡ result }
-    ensures found { (sealed : Bool) → slice_get words.now.items (place_of (plain_key geometry sealed) place)
-        ≡ Some result }
+    ensures value { (sealed : Bool) → slice_index words.now.items
+        (place_of (plain_key geometry sealed) place) ≡ result }
+    ensures found { (sealed : Bool) → slice_get words.now.items
+        (place_of (plain_key geometry sealed) place) ≡ Some result }
 {
     words[number_of(geometry, place)]
 }
@@ -69,7 +67,8 @@ fn huge_block(child: u32) -> FrameBlock
 
 // The first bit and the order of the run with these bits.
 fn run_of(mask: u64) -> (u32, u8)
-    requires { (from : ℕ) × ((order : ℕ) × ((mask ≡ run from (2 ^ order)) × (from + 2 ^ order ≤ 64))) }
+    requires { (from : ℕ) × ((order : ℕ) × ((mask ≡ run from (2 ^ order))
+        × (from + 2 ^ order ≤ 64))) }
     ensures { OfRun mask (λ from order. (result.0 ≡ from) × (result.1 ≡ order)) }
 {
     (
@@ -91,48 +90,28 @@ fn add_word(list: &mut VecDeque<u32>, word: u32)
 }
 
 impl Moves for PlainMoves {
-    ghost use Rattle.std.specs.Prelude.{Some, false, slice_get, refl};
-    ghost use Rattle.frame_core.specs.Plain.{
-      plain_key,
-      plain_view,
-      plain_tick,
-      IsOutIn,
+    ghost use Rattle.frame_core.specs.declared.plain.party.Company.{Company};
+    ghost use Rattle.frame_core.specs.Plain.{plain_mover, plain_tick, is_plain_exact};
+    ghost use Rattle.frame_core.specs.PlainLaws.{
       plain_fits,
       plain_outs,
       plain_fills,
       plain_sizes,
-      plain_tick_most,
-      plain_tick_up,
+      plain_ticks,
     };
+    ghost use Rattle.frame_core.specs.PlainState.{key_by, words_by, view_by};
 
     type Held = PlainBlock;
 
-    ghost Tie = { Unit {0} };
+    ghost Tie = { Company };
 
-    ghost tie = { λ _. tt };
-
-    ghost key = { λ m. plain_key m.geometry m.sealed };
-
-    ghost view = { λ m. plain_view (plain_key m.geometry m.sealed) m.outs.items m.paid m.charged m.reserving
-        m.own.items m.filled.items m.moves };
-
-    ghost read = { λ m i. slice_get m.words.items i };
-
-    ghost words = { λ m. Some m.words.items };
-
-    ghost undisturbed = { λ _. Unit {0} };
-
-    ghost alone = { λ _. Unit {0} };
-
-    ghost loses_at_will = { λ _. ⊥ };
-
-    ghost has_missed = { λ _. false };
-
-    ghost is_out = { λ m b. IsOutIn m.outs.items b };
+    ghost at = { λ m. plain_mover (key_by m) m.them (words_by m) m.outs.items (view_by m) };
 
     ghost tick = { plain_tick };
 
-    ghost fits = { λ m ws e. plain_fits _ _ _ _ ws refl m.agrees e };
+    ghost is_exact = { is_plain_exact };
+
+    ghost fits = { λ m ws e. plain_fits _ _ _ _ _ ws m.agrees e };
 
     ghost outs_are_blocks = { λ m b o. plain_outs _ _ _ _ b m.agrees o };
 
@@ -142,9 +121,7 @@ impl Moves for PlainMoves {
 
     ghost fills_own = { λ m none. plain_fills _ _ _ _ m.agrees none };
 
-    ghost counts_at_most = { plain_tick_most };
-
-    ghost counts_up = { plain_tick_up };
+    ghost ticks = { plain_ticks };
 
     fn geometry(&self) -> Geometry {
         self.geometry
@@ -162,18 +139,17 @@ impl Moves for PlainMoves {
     }
 
     fn charge(&mut self, child: u32, seen: u64, n: u32) -> bool {
-        let left = entry(entry_free(lane(seen, child)) - n, false);
         self.charged = with_more(self.charged, child, n);
-        self.words[number_of(self.geometry, Place::Entry(child))] = with_lane(seen, child, left);
+        self.words[number_of(self.geometry, Place::Entry(child))] = charged(seen, child, n);
         self.moves = self.moves.saturating_add(1);
         true
     }
 
     fn refund(&mut self, child: u32, n: u32) {
         let found = plain_word(&self.words, self.geometry, Place::Entry(child));
-        let left = lane(found, child) + u64::from(n);
+        let left = found.wrapping_add(refunded(child, n));
         self.charged = with_less(self.charged, child, n);
-        self.words[number_of(self.geometry, Place::Entry(child))] = with_lane(found, child, left);
+        self.words[number_of(self.geometry, Place::Entry(child))] = left;
         self.moves = self.moves.saturating_add(1);
     }
 
@@ -207,20 +183,19 @@ impl Moves for PlainMoves {
     }
 
     fn take_huge(&mut self, child: u32, seen: u64) -> bool {
-        let left = entry(0, true);
         self.paid = with_less(self.paid, child / TREE_CHILDREN, CHILD_FRAMES);
         self.own.push_front_reserved(huge_block(child));
-        self.words[number_of(self.geometry, Place::Entry(child))] = with_lane(seen, child, left);
+        self.words[number_of(self.geometry, Place::Entry(child))] = taken_whole(seen, child);
         self.moves = self.moves.saturating_add(1);
         true
     }
 
     fn give_huge(&mut self, child: u32) {
         let found = plain_word(&self.words, self.geometry, Place::Entry(child));
-        let left = lane(found, child) - (FLAG - u64::from(CHILD_FRAMES));
+        let left = found.wrapping_sub(given_whole(child));
         self.paid = with_more(self.paid, child / TREE_CHILDREN, CHILD_FRAMES);
         leave(&mut self.own, huge_block(child));
-        self.words[number_of(self.geometry, Place::Entry(child))] = with_lane(found, child, left);
+        self.words[number_of(self.geometry, Place::Entry(child))] = left;
         self.moves = self.moves.saturating_add(1);
     }
 
@@ -240,25 +215,24 @@ impl Moves for PlainMoves {
     }
 
     fn tree_pay(&mut self, tree: u32, seen: u64, n: u32) -> bool {
-        let left = tree_word(tree_free(seen) - n, tree_reserved(seen));
         self.paid = with_more(self.paid, tree, n);
-        self.words[number_of(self.geometry, Place::Tree(tree))] = left;
+        self.words[number_of(self.geometry, Place::Tree(tree))] = tree_paid(seen, n);
         self.moves = self.moves.saturating_add(1);
         true
     }
 
     fn tree_refund(&mut self, tree: u32, n: u32) {
         let found = plain_word(&self.words, self.geometry, Place::Tree(tree));
+        let left = found.wrapping_add(u64::from(n));
         self.paid = with_less(self.paid, tree, n);
-        self.words[number_of(self.geometry, Place::Tree(tree))] = found + u64::from(n);
+        self.words[number_of(self.geometry, Place::Tree(tree))] = left;
         self.moves = self.moves.saturating_add(1);
     }
 
     fn reserve(&mut self, tree: u32, seen: u64) -> bool {
-        let left = tree_word(0, true);
         self.paid = amount_of(tree, tree_free(seen));
         self.reserving = Some(tree);
-        self.words[number_of(self.geometry, Place::Tree(tree))] = left;
+        self.words[number_of(self.geometry, Place::Tree(tree))] = reserved();
         self.moves = self.moves.saturating_add(1);
         true
     }
@@ -274,34 +248,32 @@ impl Moves for PlainMoves {
 
     fn unreserve(&mut self, tree: u32, n: u32) {
         let found = plain_word(&self.words, self.geometry, Place::Tree(tree));
+        let left = found.wrapping_sub(unreserved(n));
         self.paid = with_less(self.paid, tree, n);
         self.reserving = None;
-        self.words[number_of(self.geometry, Place::Tree(tree))] = found - (FLAG - u64::from(n));
+        self.words[number_of(self.geometry, Place::Tree(tree))] = left;
         self.moves = self.moves.saturating_add(1);
     }
 
     fn local_pay(&mut self, core: u32, seen: u64, n: u32) -> bool {
-        let (tree, resting) = local_of(seen).unwrap();
-        let left = local(Some((tree, resting - n)));
+        let (tree, _) = local_of(seen).unwrap();
         self.paid = with_more(self.paid, tree, n);
-        self.words[number_of(self.geometry, Place::Local(core))] = left;
+        self.words[number_of(self.geometry, Place::Local(core))] = local_paid(seen, n);
         self.moves = self.moves.saturating_add(1);
         true
     }
 
     fn local_refund(&mut self, core: u32, seen: u64, n: u32) -> bool {
-        let (tree, resting) = local_of(seen).unwrap();
-        let left = local(Some((tree, resting + n)));
+        let (tree, _) = local_of(seen).unwrap();
         self.paid = with_less(self.paid, tree, n);
-        self.words[number_of(self.geometry, Place::Local(core))] = left;
+        self.words[number_of(self.geometry, Place::Local(core))] = local_refunded(seen, n);
         self.moves = self.moves.saturating_add(1);
         true
     }
 
     fn collect(&mut self, tree: u32, seen: u64) -> bool {
-        let left = tree_word(0, tree_reserved(seen));
         self.paid = with_more(self.paid, tree, tree_free(seen));
-        self.words[number_of(self.geometry, Place::Tree(tree))] = left;
+        self.words[number_of(self.geometry, Place::Tree(tree))] = collected(seen);
         self.moves = self.moves.saturating_add(1);
         true
     }
@@ -314,8 +286,7 @@ impl Moves for PlainMoves {
 
     fn drop_flag(&mut self, child: u32) {
         let found = plain_word(&self.words, self.geometry, Place::Entry(child));
-        let entry = lane(found, child);
-        let left = entry - FLAG;
+        let left = found.wrapping_sub(dropped(child));
         let frame = CHILD_FRAMES * child;
         let order = HUGE_ORDER - 1;
         leave(&mut self.own, huge_block(child));
@@ -325,7 +296,7 @@ impl Moves for PlainMoves {
         });
         self.own.push_front_reserved(FrameBlock { frame, order });
         self.filled.clear();
-        self.words[number_of(self.geometry, Place::Entry(child))] = with_lane(found, child, left);
+        self.words[number_of(self.geometry, Place::Entry(child))] = left;
         self.moves = self.moves.saturating_add(1);
     }
 }

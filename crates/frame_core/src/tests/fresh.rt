@@ -38,7 +38,7 @@ fn frames_past_the_end_are_held(rt: HostRuntime) -> Result<(), Fail> {
 
 // Frame 0, frames 70 to 199, and frames 511 and 512: the last of child 0 and the first of child 1.
 #[test]
-#[tactic(auto, unfolding(crate::specs::Key::AreRanges))]
+#[tactic(auto, unfolding(frame_model::specs::Key::AreRanges))]
 fn frames_of_the_ranges_are_held(rt: HostRuntime) -> Result<(), Fail> {
     let ranges = [(0, 1), (70, 130), (511, 2)];
     let image = Image::with_ranges(rt.alloc(), &two_children(), &ranges)?;
@@ -53,15 +53,5 @@ fn frames_of_the_ranges_are_held(rt: HostRuntime) -> Result<(), Fail> {
     assert_eq!(rt; (image.free(0), image.free(1)), (512 - 132, 88 - 1));
     assert_eq!(rt; image.tree_free(0), 600 - 133);
     assert!(rt; !image.huge(0) && !image.huge(1));
-    Ok(())
-}
-
-#[test]
-fn all_frames_of_a_child_are_free_where_asked(rt: HostRuntime) -> Result<(), Fail> {
-    let image = Image::all_free(rt.alloc(), &two_children())?;
-    for word in 0..8u32 {
-        assert_eq!(rt; image.word(1, word), 0);
-    }
-    assert_eq!(rt; (image.free(1), image.tree_free(0)), (512, 1024));
     Ok(())
 }

@@ -1,13 +1,13 @@
 //! Plain moves by hand: what each leaves in its word.
 
 ghost use Rattle.std.specs.Prelude.{◌≡◌, ℕ, ◌<◌, ◌≤◌, [], ◌∷◌, None, false, IfOk};
-ghost use Rattle.frame_core.specs.Block.{block};
-ghost use Rattle.frame_core.specs.View.{names};
-ghost use Rattle.frame_core.specs.Rebuilt.{IsRebuilt};
-ghost use Rattle.frame_core.specs.WorkedRuns.{one_child, words_of_one};
+ghost use Rattle.frame_model.specs.Block.{block};
+ghost use Rattle.frame_model.specs.View.{names};
+ghost use Rattle.frame_model.specs.Rebuilt.{IsRebuilt};
+ghost use Rattle.frame_model.specs.WorkedRuns.{one_child, words_of_one};
 ghost use Rattle.frame_core.specs.Plain.{plain_key};
 
-use crate::{HeldBlock, Image, Moves, Place, PlainMoves};
+use crate::{Image, Moves, Place, PlainMoves};
 use frame_words::{Fault, Geometry};
 use std::alloc::Global;
 use std::test::Fail;
@@ -46,32 +46,15 @@ fn a_reservation_goes_into_the_local_word_and_back(rt: HostRuntime) -> Result<()
     Ok(())
 }
 
-#[test]
-fn a_reserved_tree_is_collected_and_stays_reserved(rt: HostRuntime) -> Result<(), Fail> {
-    let geometry = Geometry::new(1, 1)?;
-    let mut m = PlainMoves::new(rt.alloc(), &geometry)?;
-    let tree = m.load(Place::Tree(0));
-    assert!(rt; tree == 512);
-    assert!(rt; m.reserve(0, tree));
-    m.tree_refund(0, 512);
-    let given = m.load(Place::Tree(0));
-    assert!(rt; given == FLAG + 512);
-    assert!(rt; m.collect(0, given));
-    assert_eq!(rt; m.load(Place::Tree(0)), FLAG);
-    m.unreserve(0, 512);
-    assert_eq!(rt; m.load(Place::Tree(0)), 512);
-    Ok(())
-}
-
 // Sets all bits of the first child, which is in flight as a huge frame.
 fn fill_child(m: &mut PlainMoves)
-    requires child { 0 < (⟦<PlainMoves as Moves>⟧.key m.old).children }
-    requires share { 0 < (⟦<PlainMoves as Moves>⟧.view m.old).share }
-    requires own { (⟦<PlainMoves as Moves>⟧.view m.old).own ≡ block 0 9 ∷ [] }
-    ensures key { ⟦<PlainMoves as Moves>⟧.key m.new ≡ ⟦<PlainMoves as Moves>⟧.key m.old }
-    ensures share { 0 < (⟦<PlainMoves as Moves>⟧.view m.new).share }
-    ensures own { (⟦<PlainMoves as Moves>⟧.view m.new).own ≡ block 0 9 ∷ [] }
-    ensures filled { (w : ℕ) → w < 8 → names w (⟦<PlainMoves as Moves>⟧.view m.new).filled ≡ 1 }
+    requires child { 0 < (⟦<PlainMoves as Moves>⟧.at m.old).key.children }
+    requires share { 0 < (⟦<PlainMoves as Moves>⟧.at m.old).view.share }
+    requires own { (⟦<PlainMoves as Moves>⟧.at m.old).view.own ≡ block 0 9 ∷ [] }
+    ensures key { (⟦<PlainMoves as Moves>⟧.at m.new).key ≡ (⟦<PlainMoves as Moves>⟧.at m.old).key }
+    ensures share { 0 < (⟦<PlainMoves as Moves>⟧.at m.new).view.share }
+    ensures own { (⟦<PlainMoves as Moves>⟧.at m.new).view.own ≡ block 0 9 ∷ [] }
+    ensures filled { (w : ℕ) → w < 8 → names w (⟦<PlainMoves as Moves>⟧.at m.new).view.filled ≡ 1 }
 {
     for word in 0..8u32 {
         m.fill_word(word);
@@ -101,38 +84,33 @@ fn a_huge_frame_becomes_set_bits(rt: HostRuntime) -> Result<(), Fail> {
     Ok(())
 }
 
-// Hands out the huge frame of the first child, which is in flight, takes it in and gives it back.
-fn give_back(m: &mut PlainMoves) -> (u32, u8)
-    requires child { 0 < (⟦<PlainMoves as Moves>⟧.key m.old).children }
-    requires share { 0 < (⟦<PlainMoves as Moves>⟧.view m.old).share }
-    requires paid { (⟦<PlainMoves as Moves>⟧.view m.old).paid ≡ None }
-    requires charged { (⟦<PlainMoves as Moves>⟧.view m.old).charged ≡ None }
-    requires own { (⟦<PlainMoves as Moves>⟧.view m.old).own ≡ block 0 9 ∷ [] }
-    requires filled { (⟦<PlainMoves as Moves>⟧.view m.old).filled ≡ [] }
+fn small_memory() -> Geometry
+    ensures { (result.children ≡ 1) × (result.frames ≡ 300) }
 {
-    let held = m.hand_out(0, 9);
-    let answer = (held.frame(), held.order());
-    m.hand_in(held);
-    m.give_huge(0);
-    m.tree_refund(0, 512);
-    answer
+    Geometry {
+        children: 1,
+        cores: 1,
+        frames: 300,
+    }
 }
 
+// Frame 299 is bit 43 of word 4.
 #[test]
-fn a_huge_frame_goes_out_and_back(rt: HostRuntime) -> Result<(), Fail> {
-    let geometry = Geometry::new(1, 1)?;
-    let mut m = PlainMoves::new(rt.alloc(), &geometry)?;
-    let tree = m.load(Place::Tree(0));
-    assert!(rt; tree == 512);
-    assert!(rt; m.tree_pay(0, tree, 512));
-    let entry = m.load(Place::Entry(0));
-    assert!(rt; entry == 512);
-    assert!(rt; m.take_huge(0, entry));
-    assert_eq!(rt; give_back(&mut m), (0, 9));
+fn no_frame_past_the_end_is_free(rt: HostRuntime) -> Result<(), Fail> {
+    let m = PlainMoves::new(rt.alloc(), &small_memory())?;
     let image = m.image(rt.alloc())?;
-    assert_eq!(rt; (image.free(0), image.huge(0)), (512, false));
-    assert_eq!(rt; image.tree_free(0), 512);
-    assert_eq!(rt; m.moves(), 8);
+    for (word, bits) in [
+        (0, 0),
+        (3, 0),
+        (4, u64::MAX << 44),
+        (5, u64::MAX),
+        (7, u64::MAX),
+    ] {
+        assert!(rt; word < 8);
+        assert_eq!(rt; image.word(0, word), bits);
+    }
+    assert_eq!(rt; (image.free(0), image.huge(0)), (300, false));
+    assert_eq!(rt; image.tree_free(0), 300);
     Ok(())
 }
 

@@ -1,15 +1,16 @@
 //! What a closing asks, and what it gives where a block is out.
 
-use crate::{bring_back, close, next_seat, open, take_one};
+use super::seats::{bring_back, next_seat};
+use crate::take_one;
 use frame_core::HeldBlock;
-use frame_table::TableFault;
+use frame_table::{TableFault, close_table, open_table};
 use frame_words::{Fault, Geometry};
 use std::test::Fail;
 
 #[test]
 fn closing_wants_each_core(rt: HostRuntime) -> Result<(), Fail> {
     let geometry = Geometry::new(1, 2)?;
-    let (table, mut seats) = open(rt.alloc(), &geometry)?;
+    let (table, mut seats) = open_table(rt.alloc(), &geometry)?;
     let last = next_seat(&table, &mut seats).ok_or("a seat")?;
     let Err(
         TableFault {
@@ -17,14 +18,14 @@ fn closing_wants_each_core(rt: HostRuntime) -> Result<(), Fail> {
             table,
             seats,
         },
-    ) = close(rt.alloc(), table, seats)
+    ) = close_table(rt.alloc(), table, seats)
     else {
         panic!(rt; "it closed without a core");
     };
     assert_eq!(rt; fault, Fault::MissingCores);
     assert_eq!(rt; seats.len(), 1);
     let seats = bring_back(&table, seats, last)?;
-    let image = close(rt.alloc(), table, seats).map_err(|e| e.fault)?;
+    let image = close_table(rt.alloc(), table, seats).map_err(|e| e.fault)?;
     assert_eq!(rt; image.geometry(), geometry);
     Ok(())
 }
@@ -40,13 +41,13 @@ fn a_dropped_block_stays_held(rt: HostRuntime) -> Result<(), Fail> {
         (9, 0, true, [0, 0]),
     ] {
         let geometry = Geometry::new(1, 1)?;
-        let (table, mut seats) = open(rt.alloc(), &geometry)?;
+        let (table, mut seats) = open_table(rt.alloc(), &geometry)?;
         let mut core = next_seat(&table, &mut seats).ok_or("a seat")?;
         let block = take_one(&table, &mut core, 0, order).ok_or("a block")?;
         assert_eq!(rt; block.frame(), 0);
         drop(block);
         let seats = bring_back(&table, seats, core)?;
-        let image = close(rt.alloc(), table, seats).map_err(|e| e.fault)?;
+        let image = close_table(rt.alloc(), table, seats).map_err(|e| e.fault)?;
         assert!(rt; image.geometry().children() == 1, "one child");
         assert_eq!(rt; image.free(0), free, "order {order}");
         assert_eq!(rt; image.huge(0), is_huge, "order {order}");

@@ -1,16 +1,14 @@
 //! Two threads on one table.
 
-ghost use Rattle.std.specs.Prelude.{◌≡◌, ◌<◌, ◌≤◌, IfOk, IfSome};
-ghost use Rattle.std.specs.List.{All};
+ghost use Rattle.std.specs.Prelude.{◌<◌, ◌≤◌, IfSome};
 ghost use Rattle.frame_core.specs.Key.{tree_count};
-ghost use Rattle.frame_table.specs.Seats.{key_at, IsOut};
-ghost use Rattle.frame_trials.specs.Work.{IsReady};
+ghost use Rattle.frame_table.specs.Seats.{key_at, IsIdleSeat, IsOut};
 
-use crate::{bring_back, close, give_one, next_seat, open, take_one, work};
+use super::seats::{closed, next_seat};
+use crate::{give_one, take_one, work};
 use frame_core::Image;
-use frame_table::{Block, CoreSeat, FrameTable};
-use frame_words::{Fault, Geometry};
-use std::alloc::Global;
+use frame_table::{Block, CoreSeat, FrameTable, open_table};
+use frame_words::Geometry;
 use std::process::Abort;
 use std::test::Fail;
 use std::thread::{Threads, join};
@@ -27,8 +25,8 @@ pub(super) struct Task {
 
 fn run(table: &FrameTable, mut core: CoreSeat, task: Task) -> CoreSeat
     requires tree { 0 < tree_count (key_at table.now) }
-    requires ready { IsReady table.now core }
-    ensures { IsReady table.entry.now result }
+    requires ready { IsIdleSeat table.now core }
+    ensures { IsIdleSeat table.entry.now result }
 {
     work(table, &mut core, 0, task.order, task.pairs);
     for _i in 0..task.tries {
@@ -41,8 +39,8 @@ fn run(table: &FrameTable, mut core: CoreSeat, task: Task) -> CoreSeat
 
 fn run_and_take(table: &FrameTable, core: CoreSeat, task: Task) -> (CoreSeat, Option<Block>)
     requires tree { 0 < tree_count (key_at table.now) }
-    requires ready { IsReady table.now core }
-    ensures core { IsReady table.entry.now result.0 }
+    requires ready { IsIdleSeat table.now core }
+    ensures core { IsIdleSeat table.entry.now result.0 }
     ensures block { IfSome result.1 (IsOut table.entry.now) }
 {
     let mut core = run(table, core, task);
@@ -57,9 +55,9 @@ pub(super) fn give_and_run(
     task: Task,
 ) -> CoreSeat
     requires tree { 0 < tree_count (key_at table.now) }
-    requires ready { IsReady table.now core }
+    requires ready { IsIdleSeat table.now core }
     requires block { IfSome block (IsOut table.now) }
-    ensures { IsReady table.entry.now result }
+    ensures { IsIdleSeat table.entry.now result }
 {
     if let Some(block) = block {
         give_one(table, &mut core, block);
@@ -75,36 +73,21 @@ fn both<R: Threads + Sync>(
     tasks: (Task, Task),
 ) -> (CoreSeat, CoreSeat)
     requires tree { 0 < tree_count (key_at table.now) }
-    requires ready { IsReady table.now cores.0 × IsReady table.now cores.1 }
-    ensures { IsReady table.entry.now result.0 × IsReady table.entry.now result.1 }
+    requires ready { IsIdleSeat table.now cores.0 × IsIdleSeat table.now cores.1 }
+    ensures { IsIdleSeat table.entry.now result.0 × IsIdleSeat table.entry.now result.1 }
 {
     let (first, second) = cores;
     join(
         rt,
         move || -> CoreSeat
-            requires { IsReady table.now first × (0 < tree_count (key_at table.now)) }
-            ensures { IsReady table.entry.now result }
+            requires { IsIdleSeat table.now first × (0 < tree_count (key_at table.now)) }
+            ensures { IsIdleSeat table.entry.now result }
         { run(table, first, tasks.0) },
         move || -> CoreSeat
-            requires { IsReady table.now second × (0 < tree_count (key_at table.now)) }
-            ensures { IsReady table.entry.now result }
+            requires { IsIdleSeat table.now second × (0 < tree_count (key_at table.now)) }
+            ensures { IsIdleSeat table.entry.now result }
         { run(table, second, tasks.1) },
     )
-}
-
-// The words of the table, once both cores are back.
-pub(super) fn closed(
-    alloc: Global,
-    table: FrameTable,
-    seats: Vec<CoreSeat>,
-    cores: (CoreSeat, CoreSeat),
-) -> Result<Image, Fault>
-    requires seats { All (IsReady table) seats.items }
-    requires ready { IsReady table cores.0 × IsReady table cores.1 }
-{
-    let seats = bring_back(&table, seats, cores.0)?;
-    let seats = bring_back(&table, seats, cores.1)?;
-    close(alloc, table, seats).map_err(|e| e.fault)
 }
 
 fn assert_all_free(rt: &impl Abort, image: &Image) {
@@ -139,7 +122,7 @@ fn two_threads_leave_all_frames_free(rt: HostRuntime) -> Result<(), Fail> {
         (2, (3, 9), 500, 500),
     ] {
         let geometry = Geometry::new(children, 2)?;
-        let (table, mut seats) = open(rt.alloc(), &geometry)?;
+        let (table, mut seats) = open_table(rt.alloc(), &geometry)?;
         let first = next_seat(&table, &mut seats).ok_or("a seat")?;
         let second = next_seat(&table, &mut seats).ok_or("a seat")?;
         let tasks = (
@@ -165,7 +148,7 @@ fn two_threads_leave_all_frames_free(rt: HostRuntime) -> Result<(), Fail> {
 #[test]
 fn a_block_crosses_to_the_other_thread(rt: HostRuntime) -> Result<(), Fail> {
     let geometry = Geometry::new(8, 2)?;
-    let (table, mut seats) = open(rt.alloc(), &geometry)?;
+    let (table, mut seats) = open_table(rt.alloc(), &geometry)?;
     let shared = &table;
     let first = next_seat(shared, &mut seats).ok_or("a seat")?;
     let second = next_seat(shared, &mut seats).ok_or("a seat")?;
@@ -177,25 +160,25 @@ fn a_block_crosses_to_the_other_thread(rt: HostRuntime) -> Result<(), Fail> {
     let ((first, block), second) = join(
         &rt,
         move || -> (CoreSeat, Option<Block>)
-            requires { IsReady shared.now first × (0 < tree_count (key_at shared.now)) }
-            ensures { IsReady shared.entry.now result.0
+            requires { IsIdleSeat shared.now first × (0 < tree_count (key_at shared.now)) }
+            ensures { IsIdleSeat shared.entry.now result.0
                 × IfSome result.1 (IsOut shared.entry.now) }
         { run_and_take(shared, first, task) },
         move || -> CoreSeat
-            requires { IsReady shared.now second × (0 < tree_count (key_at shared.now)) }
-            ensures { IsReady shared.entry.now result }
+            requires { IsIdleSeat shared.now second × (0 < tree_count (key_at shared.now)) }
+            ensures { IsIdleSeat shared.entry.now result }
         { run(shared, second, task) },
     );
     let cores = join(
         &rt,
         move || -> CoreSeat
-            requires { IsReady shared.now first × (0 < tree_count (key_at shared.now)) }
-            ensures { IsReady shared.entry.now result }
+            requires { IsIdleSeat shared.now first × (0 < tree_count (key_at shared.now)) }
+            ensures { IsIdleSeat shared.entry.now result }
         { run(shared, first, task) },
         move || -> CoreSeat
-            requires { IsReady shared.now second × (0 < tree_count (key_at shared.now))
+            requires { IsIdleSeat shared.now second × (0 < tree_count (key_at shared.now))
                 × IfSome block (IsOut shared.now) }
-            ensures { IsReady shared.entry.now result }
+            ensures { IsIdleSeat shared.entry.now result }
         { give_and_run(shared, second, block, task) },
     );
     let image = closed(rt.alloc(), table, seats, cores)?;

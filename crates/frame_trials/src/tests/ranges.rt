@@ -3,12 +3,12 @@
 ghost use Rattle.std.specs.Prelude.{◌≡◌, ◌<◌, ◌≤◌, IfOk, length};
 ghost use Rattle.std.specs.List.{All};
 ghost use Rattle.frame_core.specs.Key.{sealed_key, tree_count, most_ranges, AreRanges};
-ghost use Rattle.frame_table.specs.Seats.{key_at, IsOut};
-ghost use Rattle.frame_trials.specs.Work.{IsReady};
+ghost use Rattle.frame_table.specs.Seats.{key_at, IsIdleSeat, IsOut};
 
-use crate::{bring_back, close, give_one, next_seat, take_one};
+use super::seats::{bring_back, next_seat};
+use crate::{give_one, take_one};
 use frame_core::{HeldBlock, Image};
-use frame_table::{Block, CoreSeat, FrameTable, open_table_with};
+use frame_table::{Block, CoreSeat, FrameTable, close_table, open_table_with};
 use frame_words::{Fault, Geometry};
 use std::alloc::Global;
 use std::test::Fail;
@@ -24,7 +24,7 @@ fn open_with(
     requires ranges { AreRanges 0 geometry.now.frames ranges.now }
     requires few { length ranges.now ≤ most_ranges }
     ensures table { IfOk result (λ r. key_at r.0 ≡ sealed_key geometry.now ranges.now) }
-    ensures seats { IfOk result (λ r. All (IsReady r.0) r.1.items) }
+    ensures seats { IfOk result (λ r. All (IsIdleSeat r.0) r.1.items) }
 {
     open_table_with(alloc, geometry, ranges)
 }
@@ -32,8 +32,8 @@ fn open_with(
 // Frames of tree 0, one after another, until none is left.
 fn take_all(alloc: Global, table: &FrameTable, core: &mut CoreSeat) -> Result<Vec<Block>, Fault>
     requires tree { 0 < tree_count (key_at table.now) }
-    requires ready { IsReady table.now core.old }
-    ensures ready { IsReady table.now core.new }
+    requires ready { IsIdleSeat table.now core.old }
+    ensures ready { IsIdleSeat table.now core.new }
     ensures out { IfOk result (λ blocks. All (IsOut table.now) blocks.items) }
 {
     let mut blocks = Vec::new(alloc);
@@ -50,8 +50,8 @@ fn take_all(alloc: Global, table: &FrameTable, core: &mut CoreSeat) -> Result<Ve
 
 fn give_all(table: &FrameTable, core: &mut CoreSeat, mut blocks: Vec<Block>)
     requires blocks { All (IsOut table.now) blocks.items }
-    requires ready { IsReady table.now core.old }
-    ensures ready { IsReady table.now core.new }
+    requires ready { IsIdleSeat table.now core.old }
+    ensures ready { IsIdleSeat table.now core.new }
 {
     while let Some(block) = blocks.pop() {
         give_one(table, core, block);
@@ -79,7 +79,7 @@ fn no_frame_of_a_range_is_given_out(rt: HostRuntime) -> Result<(), Fail> {
     }
     give_all(&table, &mut core, blocks);
     let seats = bring_back(&table, seats, core)?;
-    let image = close(rt.alloc(), table, seats).map_err(|e| e.fault)?;
+    let image = close_table(rt.alloc(), table, seats).map_err(|e| e.fault)?;
     let fresh = Image::with_ranges(rt.alloc(), &geometry, &ranges)?;
     assert_eq!(rt; image.words(), fresh.words());
     Ok(())

@@ -6,11 +6,10 @@ ghost use Rattle.frame_core.specs.Key.{tree_count};
 ghost use Rattle.frame_core.specs.Rebuilt.{IsRebuilt};
 ghost use Rattle.frame_core.specs.Words.{bit_of, huge_of};
 ghost use Rattle.frame_table.specs.Openings.{unsealed_key};
-ghost use Rattle.frame_table.specs.Seats.{key_at, IsOut};
-ghost use Rattle.frame_trials.specs.Work.{IsReady};
+ghost use Rattle.frame_table.specs.Seats.{key_at, IsIdleSeat, IsOut};
 
-use super::crossing::{Task, closed, give_and_run};
-use crate::next_seat;
+use super::crossing::{Task, give_and_run};
+use super::seats::{closed, next_seat};
 use frame_core::{HeldBlock, Image};
 use frame_table::{Block, CoreSeat, FrameTable, open_table_at};
 use frame_words::{Fault, Geometry};
@@ -23,11 +22,12 @@ fn image_in_use(alloc: Global) -> Result<Image, Fault>
     ensures sizes { IfOk result (λ i. (i.geometry.children ≡ 2)
         × ((i.geometry.cores ≡ 2) × (i.geometry.frames ≡ 1024))) }
     ensures exact { IfOk result (λ i. IsRebuilt (unsealed_key i.geometry) i.words i.words) }
-    ensures set { IfOk result (λ i. (x : ℕ) → x < 8 → bit_of (unsealed_key i.geometry) i.words x ≡ 1) }
+    ensures set { IfOk result (λ i. (x : ℕ) → x < 8
+        → bit_of (unsealed_key i.geometry) i.words x ≡ 1) }
     ensures huge { IfOk result (λ i. huge_of i.words 1 ≡ 1) }
 {
     let geometry = Geometry::new(2, 2)?;
-    let mut image = Image::all_free(alloc, &geometry)?;
+    let mut image = Image::new(alloc, &geometry)?;
     image.set_entry(0, 504, false);
     image.set_word(0, 0, 0xff);
     image.set_entry(1, 0, true);
@@ -47,7 +47,7 @@ struct Reopened {
 // Half of the eight frames, and the huge frame.
 fn open_in_use(alloc: Global) -> Result<Reopened, Fault>
     ensures tree { IfOk result (λ r. 0 < tree_count (key_at r.table)) }
-    ensures seats { IfOk result (λ r. All (IsReady r.table) r.seats.items) }
+    ensures seats { IfOk result (λ r. All (IsIdleSeat r.table) r.seats.items) }
     ensures blocks { IfOk result (λ r. IsOut r.table r.small × IsOut r.table r.huge) }
 {
     let image = image_in_use(alloc)?;
@@ -89,14 +89,14 @@ fn frames_held_before_the_opening_are_given_by_two_threads(rt: HostRuntime) -> R
     let cores = join(
         &rt,
         move || -> CoreSeat
-            requires { IsReady shared.now first × (0 < tree_count (key_at shared.now))
+            requires { IsIdleSeat shared.now first × (0 < tree_count (key_at shared.now))
                 × IfSome small (IsOut shared.now) }
-            ensures { IsReady shared.entry.now result }
+            ensures { IsIdleSeat shared.entry.now result }
         { give_and_run(shared, first, small, frames) },
         move || -> CoreSeat
-            requires { IsReady shared.now second × (0 < tree_count (key_at shared.now))
+            requires { IsIdleSeat shared.now second × (0 < tree_count (key_at shared.now))
                 × IfSome huge (IsOut shared.now) }
-            ensures { IsReady shared.entry.now result }
+            ensures { IsIdleSeat shared.entry.now result }
         { give_and_run(shared, second, huge, children) },
     );
     let image = closed(rt.alloc(), table, seats, cores)?;

@@ -1,6 +1,6 @@
 //! Which blocks takes answer, and what they leave of the words.
 
-ghost use Rattle.frame_core.specs.declared.block.FrameBlock.{FrameBlock};
+ghost use Rattle.frame_model.specs.declared.block.FrameBlock.{FrameBlock};
 ghost use Rattle.frame_core.specs.View.{IsIdle};
 
 use super::calls::{give, open, take};
@@ -13,10 +13,10 @@ const FULL: u64 = u64::MAX;
 
 // Takes in tree 0, one after the other: the order, the first frame of the block, and the moves.
 pub(crate) fn assert_takes(rt: &impl Abort, m: &mut PlainMoves, rows: &[(u8, Option<u32>, u64)])
-    requires idle { IsIdle (⟦<PlainMoves as Moves>⟧.view m.old) }
-    ensures idle { IsIdle (⟦<PlainMoves as Moves>⟧.view m.new) }
-    ensures out { (b : FrameBlock) → ⟦<PlainMoves as Moves>⟧.is_out m.old b
-        → ⟦<PlainMoves as Moves>⟧.is_out m.new b }
+    requires idle { IsIdle (⟦<PlainMoves as Moves>⟧.at m.old).view }
+    ensures idle { IsIdle (⟦<PlainMoves as Moves>⟧.at m.new).view }
+    ensures out { (b : FrameBlock) → (⟦<PlainMoves as Moves>⟧.at m.old).is_out b
+        → (⟦<PlainMoves as Moves>⟧.at m.new).is_out b }
 {
     for (order, frame, moves) in rows {
         m.clear_missed();

@@ -1,53 +1,52 @@
 //! Takes and gives of one core alone, paid before and refunded behind.
 
 ghost use Rattle.std.specs.Prelude.{◌≡◌, ◌≢◌, ◌/◌, ◌<◌, ◌≤◌, ◌^◌, [], IfOk, IfSome, IfNone};
-ghost use Rattle.frame_core.specs.declared.block.FrameBlock.{FrameBlock};
+ghost use Rattle.frame_model.specs.declared.block.FrameBlock.{FrameBlock};
 ghost use Rattle.frame_core.specs.Key.{tree_count};
 ghost use Rattle.frame_core.specs.View.{IsIdle, paid_on};
 ghost use Rattle.low_frames.specs.Takes.{IsAsBefore, HasHandedOut};
 
-use crate::orders::frames_of;
 use crate::{give_low, take_huge, take_in_tree, take_small, take_wide};
 use frame_core::{HeldBlock, Moves, Place, PlainBlock, PlainMoves};
-use frame_words::{Fault, Geometry, tree_free, tree_of};
+use frame_words::{Fault, Geometry, frames_of, tree_free, tree_of};
 use std::alloc::Global;
 
 // All frames are free.
 pub(crate) fn open(alloc: Global, children: u32) -> Result<PlainMoves, Fault>
-    ensures idle { IfOk result (λ m. IsIdle (⟦<PlainMoves as Moves>⟧.view m)) }
+    ensures idle { IfOk result (λ m. IsIdle (⟦<PlainMoves as Moves>⟧.at m).view) }
 {
     PlainMoves::new(alloc, &Geometry::new(children, 1)?)
 }
 
 // A block of the order in the tree, if there is one, and how many moves the take made.
 pub(crate) fn take(m: &mut PlainMoves, tree: u32, order: u8) -> (Option<PlainBlock>, u64)
-    requires idle { IsIdle (⟦<PlainMoves as Moves>⟧.view m.old) }
-    ensures idle { IsIdle (⟦<PlainMoves as Moves>⟧.view m.new) }
-    ensures held { IfSome result.0 (⟦<PlainMoves as Moves>⟧.is_out m.new) }
-    ensures out { (b : FrameBlock) → ⟦<PlainMoves as Moves>⟧.is_out m.old b
-        → ⟦<PlainMoves as Moves>⟧.is_out m.new b }
+    requires idle { IsIdle (⟦<PlainMoves as Moves>⟧.at m.old).view }
+    ensures idle { IsIdle (⟦<PlainMoves as Moves>⟧.at m.new).view }
+    ensures held { IfSome result.0 ((⟦<PlainMoves as Moves>⟧.at m.new).is_out) }
+    ensures out { (b : FrameBlock) → (⟦<PlainMoves as Moves>⟧.at m.old).is_out b
+        → (⟦<PlainMoves as Moves>⟧.at m.new).is_out b }
 {
     pay_and_take(m, tree, None, order)
 }
 
 // A block of the order in the child, if there is one, and how many moves the take made.
 pub(crate) fn take_at(m: &mut PlainMoves, child: u32, order: u8) -> (Option<PlainBlock>, u64)
-    requires idle { IsIdle (⟦<PlainMoves as Moves>⟧.view m.old) }
-    ensures idle { IsIdle (⟦<PlainMoves as Moves>⟧.view m.new) }
-    ensures held { IfSome result.0 (⟦<PlainMoves as Moves>⟧.is_out m.new) }
-    ensures out { (b : FrameBlock) → ⟦<PlainMoves as Moves>⟧.is_out m.old b
-        → ⟦<PlainMoves as Moves>⟧.is_out m.new b }
+    requires idle { IsIdle (⟦<PlainMoves as Moves>⟧.at m.old).view }
+    ensures idle { IsIdle (⟦<PlainMoves as Moves>⟧.at m.new).view }
+    ensures held { IfSome result.0 ((⟦<PlainMoves as Moves>⟧.at m.new).is_out) }
+    ensures out { (b : FrameBlock) → (⟦<PlainMoves as Moves>⟧.at m.old).is_out b
+        → (⟦<PlainMoves as Moves>⟧.at m.new).is_out b }
 {
     pay_and_take(m, child / 8, Some(child), order)
 }
 
 // Gives the block, and answers how many moves the give made.
 pub(crate) fn give(m: &mut PlainMoves, held: PlainBlock) -> u64
-    requires idle { IsIdle (⟦<PlainMoves as Moves>⟧.view m.old) }
-    requires held { ⟦<PlainMoves as Moves>⟧.is_out m.old held }
-    ensures idle { IsIdle (⟦<PlainMoves as Moves>⟧.view m.new) }
-    ensures out { (b : FrameBlock) → b ≢ held → ⟦<PlainMoves as Moves>⟧.is_out m.old b
-        → ⟦<PlainMoves as Moves>⟧.is_out m.new b }
+    requires idle { IsIdle (⟦<PlainMoves as Moves>⟧.at m.old).view }
+    requires held { (⟦<PlainMoves as Moves>⟧.at m.old).is_out held }
+    ensures idle { IsIdle (⟦<PlainMoves as Moves>⟧.at m.new).view }
+    ensures out { (b : FrameBlock) → b ≢ held → (⟦<PlainMoves as Moves>⟧.at m.old).is_out b
+        → (⟦<PlainMoves as Moves>⟧.at m.new).is_out b }
 {
     let (frame, order) = (held.frame(), held.order());
     let before = m.moves();
@@ -57,7 +56,7 @@ pub(crate) fn give(m: &mut PlainMoves, held: PlainBlock) -> u64
     moves
 }
 
-// Where the tree counts too few free frames, nothing is paid and nothing searched. What was paid for
+// Where the tree counts too few free frames, nothing is paid or searched. What was paid for
 // nothing goes back.
 fn pay_and_take(
     m: &mut PlainMoves,
@@ -65,11 +64,11 @@ fn pay_and_take(
     child: Option<u32>,
     order: u8,
 ) -> (Option<PlainBlock>, u64)
-    requires idle { IsIdle (⟦<PlainMoves as Moves>⟧.view m.old) }
-    ensures idle { IsIdle (⟦<PlainMoves as Moves>⟧.view m.new) }
-    ensures held { IfSome result.0 (⟦<PlainMoves as Moves>⟧.is_out m.new) }
-    ensures out { (b : FrameBlock) → ⟦<PlainMoves as Moves>⟧.is_out m.old b
-        → ⟦<PlainMoves as Moves>⟧.is_out m.new b }
+    requires idle { IsIdle (⟦<PlainMoves as Moves>⟧.at m.old).view }
+    ensures idle { IsIdle (⟦<PlainMoves as Moves>⟧.at m.new).view }
+    ensures held { IfSome result.0 ((⟦<PlainMoves as Moves>⟧.at m.new).is_out) }
+    ensures out { (b : FrameBlock) → (⟦<PlainMoves as Moves>⟧.at m.old).is_out b
+        → (⟦<PlainMoves as Moves>⟧.at m.new).is_out b }
 {
     let geometry = m.geometry();
     if order > 9 || tree >= geometry.trees() {
@@ -97,22 +96,22 @@ fn pay_and_take(
 }
 
 fn take_paid(m: &mut PlainMoves, tree: u32, child: Option<u32>, order: u8) -> Option<PlainBlock>
-    requires tree { tree < tree_count (⟦<PlainMoves as Moves>⟧.key m.old) }
+    requires tree { tree < tree_count (⟦<PlainMoves as Moves>⟧.at m.old).key }
     requires child { IfSome child (λ c. (c / 8 ≡ tree)
-        × (c < (⟦<PlainMoves as Moves>⟧.key m.old).children)) }
+        × (c < (⟦<PlainMoves as Moves>⟧.at m.old).key.children)) }
     requires order { order ≤ 9 }
-    requires share { 0 < (⟦<PlainMoves as Moves>⟧.view m.old).share }
-    requires charged { (⟦<PlainMoves as Moves>⟧.view m.old).charged ≡ None }
-    requires own { (⟦<PlainMoves as Moves>⟧.view m.old).own ≡ [] }
-    requires paid { 2 ^ order ≤ paid_on tree (⟦<PlainMoves as Moves>⟧.view m.old) }
-    ensures key { ⟦<PlainMoves as Moves>⟧.key m.new ≡ ⟦<PlainMoves as Moves>⟧.key m.old }
+    requires share { 0 < (⟦<PlainMoves as Moves>⟧.at m.old).view.share }
+    requires charged { (⟦<PlainMoves as Moves>⟧.at m.old).view.charged ≡ None }
+    requires own { (⟦<PlainMoves as Moves>⟧.at m.old).view.own ≡ [] }
+    requires paid { 2 ^ order ≤ paid_on tree (⟦<PlainMoves as Moves>⟧.at m.old).view }
+    ensures key { (⟦<PlainMoves as Moves>⟧.at m.new).key ≡ (⟦<PlainMoves as Moves>⟧.at m.old).key }
     ensures some { IfSome result (λ held. HasHandedOut tree order
-        (⟦<PlainMoves as Moves>⟧.view m.old) (⟦<PlainMoves as Moves>⟧.view m.new)) }
-    ensures held { IfSome result (⟦<PlainMoves as Moves>⟧.is_out m.new) }
+        (⟦<PlainMoves as Moves>⟧.at m.old).view (⟦<PlainMoves as Moves>⟧.at m.new).view) }
+    ensures held { IfSome result ((⟦<PlainMoves as Moves>⟧.at m.new).is_out) }
     ensures none { IfNone result (IsAsBefore
-        (⟦<PlainMoves as Moves>⟧.view m.old) (⟦<PlainMoves as Moves>⟧.view m.new)) }
-    ensures out { (b : FrameBlock) → ⟦<PlainMoves as Moves>⟧.is_out m.old b
-        → ⟦<PlainMoves as Moves>⟧.is_out m.new b }
+        (⟦<PlainMoves as Moves>⟧.at m.old).view (⟦<PlainMoves as Moves>⟧.at m.new).view) }
+    ensures out { (b : FrameBlock) → (⟦<PlainMoves as Moves>⟧.at m.old).is_out b
+        → (⟦<PlainMoves as Moves>⟧.at m.new).is_out b }
 {
     match child {
         None => take_in_tree(m, tree, order),

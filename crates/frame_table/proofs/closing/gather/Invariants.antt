@@ -1,16 +1,15 @@
-use Rattle.std.proofs.Common.{vec_len}
+use Rattle.std.proofs.Common.{map, vec_len}
 use Rattle.std.specs.List.{All}
-use Rattle.frame_table.specs.Seats.{key_at, id_of, IsSeat}
-use Rattle.frame_table.specs.Closing.{IsClosable}
+use Rattle.frame_table.specs.Seats.{key_at, id_of, IsSeat, IsIdleSeat}
 use Rattle.frame_table.proofs.Gathering.{IsGathering}
 use Rattle.frame_table.proofs.closing.gather.Given as goal
 
-abbrev pub invariant-loop-seat : goal.invariant-loop-seat
-invariant-loop-seat l = record {
+abbrev pub invariant-loop-next : goal.invariant-loop-next
+invariant-loop-next g l = let S = g.S.Seated in record {
   at : IsSeat (id_of l.table) (key_at l.table) l.all.table_id l.all.me;
-  gathering : IsGathering l.fn.seats.items l.seats.items l.all.me.0.view;
-  others : All (IsClosable l.table) l.seats.items;
+  gathering : IsGathering (map S.seat_of l.fn.seats.items) (map S.seat_of l.seats.items) l.all.me.0.view;
+  others : All (λ s. IsIdleSeat l.table (S.seat_of s)) l.seats.items;
 }
 
-abbrev pub decreases-loop-seat : goal.decreases-loop-seat
-decreases-loop-seat l = vec_len l.seats
+abbrev pub decreases-loop-next : goal.decreases-loop-next
+decreases-loop-next g l = vec_len l.seats

@@ -1,7 +1,7 @@
 use Rattle.std.proofs.Common.{◌≡◌, ℕ, ◌+◌, ◌-◌, ap, ◌∙◌, sym, subst, arith}
 use Rattle.std.specs.List.{All}
 use Rattle.std.proofs.lemmas.List.Elements.{All-push}
-use Rattle.frame_core.specs.declared.view.View.{View}
+use Rattle.frame_model.specs.declared.view.View.{View}
 use Rattle.frame_core.specs.View.{idle}
 use Rattle.frame_table.specs.declared.seats.CoreSeat.{CoreSeat}
 use Rattle.frame_table.specs.Seats.{key_at}
@@ -40,7 +40,7 @@ returns-clause-new c =
     let is : v ≡ moved v.moves (idle (key_at t) 1) = inv.view ∙ ap (λ n. moved v.moves (idle (key_at t) n)) last in
     let seat : CoreSeat = record { seat = c.loop-core.seat } in
     let fresh : IsNew t seat = record {
-      sits = record { at = inv.at; one = ap (λ (u : View). u.share) is };
+      sits = record { at = inv.at; one = ap (λ (u : View). u.share) is; not_ground = ap (λ (u : View). u.is_ground) is };
       moves = omega (arith, inv.moves, t.sizes.1, t.geometry.few_cores, t.geometry.some_cores, c.loop-core.auto._core-end);
       view = is;
     } in

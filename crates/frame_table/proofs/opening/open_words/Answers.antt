@@ -1,7 +1,7 @@
 use Rattle.std.proofs.Common.{[], ◌∷◌, ap, refl, ◌∙◌, sym, subst, Some}
-use Rattle.frame_core.specs.declared.key.Key.{Key}
+use Rattle.frame_model.specs.declared.key.Key.{Key}
 use Rattle.frame_core.specs.View.{IsViewOf}
-use Rattle.frame_core.proofs.Steps.Shared.{view_of}
+use Rattle.frame_model.proofs.Steps.Shared.{view_of}
 use Rattle.frame_table.specs.Rule.{key_from, first_view}
 use Rattle.frame_table.specs.Seats.{key_at, id_of}
 use Rattle.frame_table.proofs.Dealing.{fresh_seat}

@@ -1,8 +1,8 @@
 use Rattle.std.proofs.Common.{ap, ◌∙◌, Option, true}
 use Rattle.atomic_table.specs.Table.{Me}
-use Rattle.frame_core.specs.declared.key.Key.{Key}
-use Rattle.frame_core.specs.declared.view.Eye.{Eye}
-use Rattle.frame_core.specs.declared.view.View.{View}
+use Rattle.frame_model.specs.declared.key.Key.{Key}
+use Rattle.frame_model.specs.declared.view.Eye.{Eye}
+use Rattle.frame_model.specs.declared.view.View.{View}
 use Rattle.frame_core.specs.View.{spent}
 use Rattle.frame_table.proofs.opening.part_ground_off.Goals as goal
 

@@ -1,8 +1,8 @@
 use Rattle.std.proofs.Common.{ap, ◌∙◌, Option}
 use Rattle.atomic_table.specs.Table.{Me}
-use Rattle.frame_core.specs.declared.key.Key.{Key}
-use Rattle.frame_core.specs.declared.view.Eye.{Eye}
-use Rattle.frame_core.specs.declared.view.View.{View}
+use Rattle.frame_model.specs.declared.key.Key.{Key}
+use Rattle.frame_model.specs.declared.view.Eye.{Eye}
+use Rattle.frame_model.specs.declared.view.View.{View}
 use Rattle.frame_core.specs.View.{spent}
 use Rattle.frame_table.proofs.opening.part_share_off.Goals as goal
 
@@ -16,6 +16,7 @@ returns-clause-new c =
       record {
         at = cut.ensures.other;
         one = ap (λ (u : View). u.share) is;
+        not_ground = ap (λ (u : View). u.is_ground) is;
       },
       is ∙ ap (λ (a : Option Key). record spent { about = a; share = 1 }) c.requires.seat.about,
     )

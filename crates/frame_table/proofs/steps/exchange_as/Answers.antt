@@ -1,12 +1,14 @@
 use Rattle.std.proofs.Common.{◌≡◌, ℕ, Bool, true, false, eqb, Some, None, arith, ◌∙◌, ap, sym, subst, refl, eq-eqb}
 use Rattle.std.specs.Prelude.{MatchBool}
 use Rattle.atomic_table.specs.Table.{Allows, step}
-use Rattle.frame_core.specs.declared.view.View.{View}
+use Rattle.frame_model.specs.declared.view.View.{View}
 use Rattle.frame_core.specs.Steps.{effect, after_loss, next}
 use Rattle.frame_core.specs.Events.{last_seen}
 use Rattle.frame_core.specs.Moves.{ReadsBut}
-use Rattle.frame_table.specs.Rule.{Holds, Exchanges}
+use Rattle.frame_core.specs.Mover.{IsApart}
+use Rattle.frame_table.specs.Rule.{Holds, IsExchangedAs}
 use Rattle.frame_table.specs.Seats.{key_at, id_of, view_of, reads_of}
+use Rattle.frame_model.proofs.Stopping.Between.{effect_ground}
 use Rattle.frame_table.proofs.Effects.{effect_share, place_inside}
 use Rattle.frame_table.proofs.Lifting.{exchange_allows}
 use Rattle.frame_table.proofs.Becoming.{Stepped, exchanged}
@@ -21,7 +23,7 @@ compare_exchange-found-requires g c =
     let kind = g.P.Stepping.kind in
     let slots = t.grid.shared.table_id.slots in
     let inside = place_inside (key_at t) kind (view_of c.args.seat.now) c.requires.may in
-    let At : ℕ → Type 0 = λ i. Allows (Holds t.grid.shared.key) slots seat.id seat.me i (λ n. prog.Atomic.either (eqb n c.args.seen) c.args.left n) (Exchanges kind (step slots i c.args.seen c.args.left mathlib.Core.Option.none) seat.me) in (
+    let At : ℕ → Type 0 = λ i. Allows (Holds t.grid.shared.key) slots seat.id seat.me i (λ n. prog.Atomic.either (eqb n c.args.seen) c.args.left n) (IsExchangedAs kind (step slots i c.args.seen c.args.left mathlib.Core.Option.none) seat.me) in (
       sits.table,
       omega (arith, t.words, c.requires.word, inside),
       subst At (sym c.requires.word)
@@ -43,17 +45,26 @@ pub returns-clause-seat : goal.returns-clause-seat
 returns-clause-seat g c = by (eqb c.compare_exchange-found.result c.args.seen) (after g c (eqb c.compare_exchange-found.result c.args.seen) refl)
   where
     by : (won : Bool) → After g c won → Rattle.frame_table.specs.Seats.Sits c.args.table.now (record { seat = c.compare_exchange-found.new.seat })
-    by true a = record { at = a.sits; one = ap (λ (v : View). v.share) a.view ∙ (effect_share next g.P.Stepping.kind c.args.seen (view_of c.args.seat.now) ∙ c.requires.seat.one) }
-    by false a = record { at = a.sits; one = ap (λ (v : View). v.share) a.view ∙ c.requires.seat.one }
+    by true a = record { at = a.sits; one = ap (λ (v : View). v.share) a.view ∙ (effect_share next g.P.Stepping.kind c.args.seen (view_of c.args.seat.now) ∙ c.requires.seat.one); not_ground = ap (λ (v : View). v.is_ground) a.view ∙ (effect_ground next g.P.Stepping.kind c.args.seen (view_of c.args.seat.now) ∙ c.requires.seat.not_ground) }
+    by false a = record { at = a.sits; one = ap (λ (v : View). v.share) a.view ∙ c.requires.seat.one; not_ground = ap (λ (v : View). v.is_ground) a.view ∙ c.requires.seat.not_ground }
 
 pub returns-clause-lost : goal.returns-clause-lost
-returns-clause-lost g c is here =
+returns-clause-lost g c is =
     let found : ℕ = c.compare_exchange-found.result in
-    let a = after g c false is in
-    let read : Some found ≡ Some c.args.seen = sym a.here ∙ (ap (last_seen c.compare_exchange-found.new.seat.me.0.read) c.requires.word ∙ here) in
-    let same : found ≡ c.args.seen = (cc) in
-    let won : eqb found c.args.seen ≡ true = eq-eqb found c.args.seen same in
-    absurd (cc)
+    let a = after g c false is in (
+      found,
+      (
+        λ (same : found ≡ c.args.seen). (let won : eqb found c.args.seen ≡ true = eq-eqb found c.args.seen same in absurd (cc)),
+        ap (last_seen c.compare_exchange-found.new.seat.me.0.read) (sym c.requires.word) ∙ a.here,
+      ),
+    )
+
+pub returns-clause-apart : goal.returns-clause-apart
+returns-clause-apart g c = by (eqb c.compare_exchange-found.result c.args.seen) (after g c (eqb c.compare_exchange-found.result c.args.seen) refl)
+  where
+    by : (won : Bool) → After g c won → IsApart (key_at c.args.table.now) c.compare_exchange-found.new.seat.me.0.view
+    by true a = a.apart
+    by false a = a.apart
 
 pub returns-clause-read : goal.returns-clause-read
 returns-clause-read g c = subst (λ i. ReadsBut i (reads_of c.args.seat.now) (last_seen c.compare_exchange-found.new.seat.me.0.read)) c.requires.word (by (eqb c.compare_exchange-found.result c.args.seen) (after g c (eqb c.compare_exchange-found.result c.args.seen) refl))

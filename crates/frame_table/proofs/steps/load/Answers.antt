@@ -22,10 +22,13 @@ after c =
     looked (id_of t) (key_at t) seat.table_id c.load.new.seat.table_id seat.me c.load.new.seat.me c.requires.seat.at c.load.ensures.0 c.args.word t.grid.shared.table_id.slots c.load.result c.load.ensures.2
 
 pub returns-clause-seat : goal.returns-clause-seat
-returns-clause-seat c = record { at = (after c).sits; one = Rattle.std.proofs.Common.ap (λ (v : Rattle.frame_core.specs.declared.view.View.View). v.share) (after c).view ∙ c.requires.seat.one }
+returns-clause-seat c = record { at = (after c).sits; one = Rattle.std.proofs.Common.ap (λ (v : Rattle.frame_model.specs.declared.view.View.View). v.share) (after c).view ∙ c.requires.seat.one; not_ground = Rattle.std.proofs.Common.ap (λ (v : Rattle.frame_model.specs.declared.view.View.View). v.is_ground) (after c).view ∙ c.requires.seat.not_ground }
 
 pub returns-clause-found : goal.returns-clause-found
 returns-clause-found c = (after c).here
 
 pub returns-clause-read : goal.returns-clause-read
 returns-clause-read c = (after c).others
+
+pub returns-clause-apart : goal.returns-clause-apart
+returns-clause-apart c = (after c).apart

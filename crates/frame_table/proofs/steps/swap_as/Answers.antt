@@ -1,11 +1,12 @@
 use Rattle.std.proofs.Common.{ℕ, None, arith, ◌∙◌, ap, sym, subst}
 use Rattle.atomic_table.specs.Table.{Allows, step}
-use Rattle.frame_core.specs.declared.view.View.{View}
+use Rattle.frame_model.specs.declared.view.View.{View}
 use Rattle.frame_core.specs.Steps.{effect, next}
 use Rattle.frame_core.specs.Events.{last_seen}
 use Rattle.frame_core.specs.Moves.{ReadsBut}
-use Rattle.frame_table.specs.Rule.{Holds, Changes}
+use Rattle.frame_table.specs.Rule.{Holds, IsChangedAs}
 use Rattle.frame_table.specs.Seats.{key_at, id_of, view_of, reads_of}
+use Rattle.frame_model.proofs.Stopping.Between.{effect_ground}
 use Rattle.frame_table.proofs.Effects.{effect_share, place_inside}
 use Rattle.frame_table.proofs.Lifting.{change_allows}
 use Rattle.frame_table.proofs.Becoming.{Stepped, changed}
@@ -21,7 +22,7 @@ swap-requires g c =
     let slots = t.grid.shared.table_id.slots in
     let turn : ℕ → ℕ = λ old. c.args.left in
     let inside = place_inside (key_at t) kind (view_of c.args.seat.now) c.requires.may in
-    let At : ℕ → Type 0 = λ i. Allows (Holds t.grid.shared.key) slots seat.id seat.me i turn (Changes kind (step slots i c.args.left 0 mathlib.Core.Option.none) seat.me) in (
+    let At : ℕ → Type 0 = λ i. Allows (Holds t.grid.shared.key) slots seat.id seat.me i turn (IsChangedAs kind (step slots i c.args.left 0 mathlib.Core.Option.none) seat.me) in (
       sits.table,
       omega (arith, t.words, c.requires.word, inside),
       subst At (sym c.requires.word)
@@ -39,7 +40,11 @@ pub returns-clause-seat : goal.returns-clause-seat
 returns-clause-seat g c = record {
   at = (after g c).sits;
   one = ap (λ (v : View). v.share) (after g c).view ∙ (effect_share next g.P.Stepping.kind c.swap.result (view_of c.args.seat.now) ∙ c.requires.seat.one);
+  not_ground = ap (λ (v : View). v.is_ground) (after g c).view ∙ (effect_ground next g.P.Stepping.kind c.swap.result (view_of c.args.seat.now) ∙ c.requires.seat.not_ground);
 }
 
 pub returns-clause-read : goal.returns-clause-read
 returns-clause-read g c = subst (λ i. ReadsBut i (reads_of c.args.seat.now) (last_seen c.swap.new.seat.me.0.read)) c.requires.word (after g c).others
+
+pub returns-clause-apart : goal.returns-clause-apart
+returns-clause-apart g c = (after g c).apart

@@ -1,14 +1,32 @@
-use Rattle.std.proofs.Common.{◌^◌, ap, arith}
-use Rattle.frame_core.specs.declared.view.View.{View}
-use Rattle.frame_trials.proofs.PayLemmas.{paid_there, rests_after_take}
+use Rattle.std.proofs.Common.{◌^◌, ◌∙◌, ap, arith, rules}
+use Rattle.frame_model.specs.declared.view.View.{View}
+use Rattle.frame_trials.proofs.PayLemmas.{paid_there, lends_one}
 use Rattle.frame_trials.proofs.blocks.take_paid.Goals as goal
 
-pub take_in_tree-requires-clause-paid : goal.take_in_tree-requires-clause-paid
-take_in_tree-requires-clause-paid g c =
-    let w = g.M.Moves.view c.pay.new.m in
-    omega (arith, paid_there c.args.tree (2 ^ c.args.order) w (ap (λ (v : View). v.paid) c.if-not-pay.ensures.view))
+pub take_in_tree-requires : goal.take_in_tree-requires
+take_in_tree-requires g c =
+    let w = (g.M.Moves.at c.pay.new.m).view in
+    record {
+      tree = search rules;
+      order = c.requires.order;
+      share = search rules;
+      charged = search rules;
+      own = search rules;
+      paid = omega (arith, paid_there c.args.tree (2 ^ c.args.order) w (ap (λ (v : View). v.paid) c.if-not-pay.ensures.view));
+    }
 
-pub returns-clause-rests : goal.returns-clause-rests
-returns-clause-rests g c =
+pub returns : goal.returns
+returns g c =
     let M = g.M.Moves in
-    rests_after_take c.args.tree c.args.order (M.view c.args.m.now) (M.view c.pay.new.m) (M.view c.take_in_tree.new.m) c.requires.rests c.if-not-pay.ensures.view c.in-Some.ensures.some
+    let paid = c.if-not-pay.ensures in
+    let took = c.in-Some.ensures in
+    record {
+      there = record {
+        same_tie = took.keeps.same_tie ∙ paid.keeps.same_tie;
+        same_key = took.keeps.same_key ∙ paid.keeps.same_key;
+      };
+      block = record { out = took.some.is_out; order = took.some.is_one.has_order; tree = took.some.is_one.in_tree };
+      some = lends_one c.args.tree c.args.order (M.at c.args.m.now).view (M.at c.pay.new.m).view (M.at c.take_in_tree.new.m).view
+          c.requires.idle.paid paid.view took.some.view;
+      none = tt;
+    }

@@ -1,23 +1,46 @@
-use Rattle.std.proofs.Common.{◌^◌, arith}
+use Rattle.std.proofs.Common.{◌^◌, ◌∙◌, arith, rules}
 use Rattle.frame_core.specs.Key.{tree_of}
 use Rattle.frame_trials.proofs.PayLemmas.{paid_there, none_but_none, taken_none_paid, pair_as_before}
 use Rattle.frame_trials.proofs.pair_work.pair.Goals as goal
 
-pub take_in_tree-requires-clause-paid : goal.take_in_tree-requires-clause-paid
-take_in_tree-requires-clause-paid g c =
-    let M = g.M.Moves in
-    omega (arith, paid_there c.args.tree (2 ^ c.args.order) (M.view c.args.m.now) c.requires.paid.paid)
+pub take_in_tree-requires : goal.take_in_tree-requires
+take_in_tree-requires g c =
+    let m = g.M.Moves.at c.args.m.now in
+    record {
+      tree = search rules;
+      order = c.requires.order;
+      share = search rules;
+      charged = search rules;
+      own = search rules;
+      paid = omega (arith, paid_there c.args.tree (2 ^ c.args.order) m.view c.requires.paid);
+    }
 
-pub give_low-requires-clause-paid : goal.give_low-requires-clause-paid
-give_low-requires-clause-paid g c =
+pub give_low-requires : goal.give_low-requires
+give_low-requires g c =
     let M = g.M.Moves in
-    let v = M.view c.args.m.now in
-    let u = M.view c.take_in_tree.new.m in
-    none_but_none (tree_of (g.M.Held.HeldBlock.block_of c.in-Some.block).frame) u.paid (taken_none_paid c.args.tree c.args.order v u c.requires.paid.paid c.in-Some.ensures.some)
+    let v = (M.at c.args.m.now).view in
+    let u = (M.at c.take_in_tree.new.m).view in
+    let b = g.M.Held.HeldBlock.block_of c.in-Some.block in
+    record {
+      share = search rules;
+      held = search rules;
+      charged = search rules;
+      own = search rules;
+      paid = none_but_none (tree_of b.frame) u.paid
+          (taken_none_paid c.args.tree c.args.order v u c.requires.paid c.in-Some.ensures.some.view);
+    }
 
-pub returns-clause-view : goal.returns-clause-view
-returns-clause-view g c =
+pub returns : goal.returns
+returns g c =
     let M = g.M.Moves in
     let b = g.M.Held.HeldBlock.block_of c.in-Some.block in
-    let is = c.in-Some.ensures.held.1 in
-    pair_as_before c.args.tree c.args.order b (M.view c.args.m.now) (M.view c.take_in_tree.new.m) (M.view c.give_low.new.m) is.has_order is.in_tree c.requires.paid.paid c.in-Some.ensures.some c.give_low.ensures.back
+    let took = c.in-Some.ensures in
+    let gave = c.give_low.ensures in
+    record {
+      there = record {
+        same_tie = gave.keeps.same_tie ∙ took.keeps.same_tie;
+        same_key = gave.keeps.same_key ∙ took.keeps.same_key;
+      };
+      view = pair_as_before c.args.tree c.args.order b (M.at c.args.m.now).view (M.at c.take_in_tree.new.m).view
+          (M.at c.give_low.new.m).view took.some.is_one.has_order took.some.is_one.in_tree c.requires.paid took.some.view gave.back;
+    }

@@ -1,4 +1,4 @@
-use Rattle.std.proofs.Common.{◌≡◌}
+use Rattle.frame_core.specs.Mover.{Keeps}
 use Rattle.low_frames.specs.Takes.{IsAsBefore}
 use Rattle.frame_trials.proofs.pair_work.pay.Given as goal
 
@@ -6,7 +6,6 @@ abbrev pub invariant-loop-i : goal.invariant-loop-i
 invariant-loop-i g l =
     let M = g.M.Moves in
     record {
-      tie : M.tie l.m ≡ M.tie l.fn.m;
-      key : M.key l.m ≡ M.key l.fn.m;
-      view : IsAsBefore (M.view l.fn.m) (M.view l.m);
+      keeps : Keeps (M.at l.fn.m) (M.at l.m);
+      view : IsAsBefore (M.at l.fn.m).view (M.at l.m).view;
     }

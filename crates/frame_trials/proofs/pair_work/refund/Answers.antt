@@ -1,13 +1,21 @@
-use Rattle.std.proofs.Common.{◌^◌}
+use Rattle.std.proofs.Common.{◌^◌, rules}
 use Rattle.frame_trials.proofs.PayLemmas.{can_refund, refunds}
 use Rattle.frame_trials.proofs.pair_work.refund.Goals as goal
 
-pub tree_refund-requires-clause-may : goal.tree_refund-requires-clause-may
-tree_refund-requires-clause-may g c =
-    let M = g.M.Moves in
-    can_refund (M.key c.args.m.now) c.args.tree c.frames_of.result (2 ^ c.args.order) (M.view c.args.m.now) c.frames_of.ensures c.requires.tree c.requires.paid.paid
+pub tree_refund-requires : goal.tree_refund-requires
+tree_refund-requires g c =
+    let m = g.M.Moves.at c.args.m.now in
+    record {
+      share = search rules;
+      may = can_refund m.key c.args.tree c.frames_of.result (2 ^ c.args.order) m.view c.frames_of.ensures.value c.requires.tree
+          c.requires.paid;
+    }
 
-pub returns-clause-view : goal.returns-clause-view
-returns-clause-view g c =
+pub returns : goal.returns
+returns g c =
     let M = g.M.Moves in
-    refunds M.tick c.args.tree c.frames_of.result (2 ^ c.args.order) (M.view c.args.m.now) (M.view c.tree_refund.new.self) c.frames_of.ensures c.requires.paid.paid c.tree_refund.ensures.view
+    record {
+      keeps = c.tree_refund.ensures.keeps;
+      view = refunds M.tick c.args.tree c.frames_of.result (2 ^ c.args.order) (M.at c.args.m.now).view
+          (M.at c.tree_refund.new.self).view c.frames_of.ensures.value c.requires.paid c.tree_refund.ensures.view;
+    }

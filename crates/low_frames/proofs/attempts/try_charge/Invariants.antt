@@ -1,5 +1,6 @@
 use Rattle.std.proofs.Common.{◌≡◌, ◌*◌}
-use Rattle.low_frames.specs.Takes.{Counts, IsAsBefore}
+use Rattle.frame_core.specs.Mover.{Keeps}
+use Rattle.low_frames.specs.Takes.{Counts, IsAsBefore, StaysSure}
 use Rattle.low_frames.proofs.AloneLemmas.{IsFirstTry}
 use Rattle.low_frames.proofs.attempts.try_charge.Given as goal
 
@@ -7,11 +8,9 @@ abbrev pub invariant-loop-i : goal.invariant-loop-i
 invariant-loop-i g l =
     let M = g.M.Moves in
     record {
-      tie : M.tie l.m ≡ M.tie l.fn.m;
-      key : M.key l.m ≡ M.key l.fn.m;
-      view : IsAsBefore (M.view l.fn.m) (M.view l.m);
-      counts : Counts (2 * l._i) (M.has_missed l.fn.m) (M.view l.fn.m) (M.has_missed l.m) (M.view l.m);
-      alone : M.alone l.fn.m → M.alone l.m;
-      first : M.alone l.fn.m → IsFirstTry l._i (M.words l.fn.m) (M.words l.m);
-      out : (b : g.row.M-Held.Denot) → M.is_out l.fn.m b → M.is_out l.m b;
+      keeps : Keeps (M.at l.fn.m) (M.at l.m);
+      view : IsAsBefore (M.at l.fn.m).view (M.at l.m).view;
+      counts : Counts M.is_exact (2 * l._i) (M.at l.fn.m) (M.at l.m);
+      first : (M.at l.fn.m).is_alone → IsFirstTry l._i (M.at l.fn.m).words (M.at l.m).words;
+      sure : l._i ≡ 0 → StaysSure (M.at l.fn.m) (M.at l.m);
     }

@@ -1,50 +1,111 @@
-use Rattle.std.proofs.Common.{◌∙◌}
+use Rattle.std.proofs.Common.{◌∙◌, sym, subst, arith, rules}
+use Rattle.frame_model.specs.declared.key.Key.{Key}
 use Rattle.frame_core.specs.Words.{bits_place}
 use Rattle.low_frames.specs.Takes.{IsAsBefore}
-use Rattle.low_frames.proofs.TakeLemmas.{still_as_before, can_claim}
-use Rattle.low_frames.proofs.AloneLemmas.{seen_first, no_run_seen, claimed_first}
+use Rattle.low_frames.proofs.TakeLemmas.{still_as_before, can_claim, run_of, keeps_both, apart_as}
+use Rattle.low_frames.proofs.Counts.{at_most, both_counts, load_counts, try_counts}
+use Rattle.low_frames.proofs.Sure.{sure_where, sure_both, sure_load, sure_made}
+use Rattle.low_frames.proofs.AloneLemmas.{IsSeen, seen_by, never_lost, no_run_seen, claimed_first}
 use Rattle.low_frames.proofs.attempts.try_claim.Goals as goal
 
-pub claim-requires-clause-may : goal.claim-requires-clause-may
-claim-requires-clause-may g c =
+pub claim-requires : goal.claim-requires
+claim-requires g c =
     let M = g.M.Moves in
-    let v = M.view c.args.m.now in
-    let u = M.view c.loop-i.m in
-    let w = M.view c.load-seen.new.self in
-    let before : IsAsBefore v w = still_as_before v u w (M.tick u.moves) u.lost c.loop-i.invariant.view c.load-seen.ensures.view in (
-      c.in-Some.bit,
-      (
-        c.args.order,
-        (
-          c.mask.ensures.value,
-          can_claim (M.key c.load-seen.new.self) (M.key c.args.m.now) v w c.args.word c.load-seen.result c.in-Some.bit c.args.order
-              (c.load-seen.ensures.tie.1 ∙ c.loop-i.invariant.key) before c.requires.word c.requires.order c.requires.charged
-              c.requires.paid c.load-seen.type_inv
-              c.in-Some.ensures.found.run,
-        ),
-      ),
-    )
+    let v = (M.at c.args.m.now).view in
+    let u = (M.at c.loop-i.m).view in
+    let w = (M.at c.load-seen.new.self).view in
+    let was = c.loop-i.invariant in
+    let load = c.load-seen.ensures in
+    let before : IsAsBefore v w = still_as_before v u w (M.tick u.moves) u.lost was.view load.view in
+    let may = can_claim (M.at c.load-seen.new.self).key (M.at c.args.m.now).key v w c.args.word c.load-seen.result c.in-Some.bit
+    c.args.order (load.keeps.same_key ∙ was.keeps.same_key) before c.requires.word c.requires.order c.requires.charged c.requires.paid
+    c.load-seen.type_inv c.in-Some.ensures.found.run in
+    (c.in-Some.bit, (c.args.order, (c.mask.ensures.value, record { share = search rules; seen = search rules; may = may })))
 
-pub returns-in_default-clause-alone_none : goal.returns-in_default-clause-alone_none
-returns-in_default-clause-alone_none g c alone =
+pub returns-in_default : goal.returns-in_default
+returns-in_default g c =
     let M = g.M.Moves in
-    let place = bits_place (M.key c.loop-i.m) c.args.word in
-    let mid = c.loop-i.invariant.alone alone in
-    let seen = seen_first c.loop-i._i place c.load-seen.result (M.words c.args.m.now) (M.words c.loop-i.m)
-    (M.words c.load-seen.new.self) (c.loop-i.invariant.first alone)
-    (c.load-seen.ensures.words (g.met.M.Moves.stays_alone c.loop-i.m mid)) in
-    no_run_seen (M.key c.loop-i.m) (M.key c.args.m.now) c.args.word c.load-seen.result c.args.order (M.words c.args.m.now)
-    (M.words c.load-seen.new.self) c.loop-i.invariant.key c.in_default.ensures.none seen
+    let ticks = g.met.M.Moves.ticks in
+    let was = c.loop-i.invariant in
+    let load = c.load-seen.ensures in
+    let still = g.met.M.Moves.stays_alone c.loop-i.m in
+    record {
+      keeps = keeps_both was.keeps load.keeps;
+      counts = at_most ticks (both_counts ticks was.counts (load_counts ticks load)) (omega (arith, c.loop-i-test.true));
+      sure = sure_both (sure_where was.first (λ ws d. was.sure d.0)) (sure_load still load);
+      some = search rules;
+      apart = search rules;
+      none = search rules;
+      alone_some = λ alone. search rules;
+      alone_none = λ alone.
+          no_run_seen (M.at c.loop-i.m).key (M.at c.args.m.now).key c.args.word c.load-seen.result c.args.order (M.at c.args.m.now).words
+          (M.at c.load-seen.new.self).words was.keeps.same_key c.in_default.ensures.none
+          (seen_by _ still was.keeps load was.first alone);
+    }
 
-pub returns-then-claim-clause-alone_some : goal.returns-then-claim-clause-alone_some
-returns-then-claim-clause-alone_some g c alone =
+pub returns-then-claim : goal.returns-then-claim
+returns-then-claim g c =
     let M = g.M.Moves in
-    let mid = c.loop-i.invariant.alone alone in
-    let place = bits_place (M.key c.loop-i.m) c.args.word in
-    let seen = seen_first c.loop-i._i place c.load-seen.result (M.words c.args.m.now) (M.words c.loop-i.m)
-    (M.words c.load-seen.new.self) (c.loop-i.invariant.first alone)
-    (c.load-seen.ensures.words (g.met.M.Moves.stays_alone c.loop-i.m mid)) in
-    let made = c.claim.ensures.words (g.met.M.Moves.stays_alone c.load-seen.new.self (c.load-seen.ensures.alone mid)) in
-    claimed_first (M.key c.load-seen.new.self) (M.key c.loop-i.m) (M.key c.args.m.now) c.args.word c.load-seen.result c.in-Some.bit
-    c.args.order c.mask.result c.claim.result (M.words c.args.m.now) (M.words c.load-seen.new.self) (M.words c.claim.new.self)
-    c.load-seen.ensures.tie.1 c.loop-i.invariant.key c.mask.ensures.value c.in-Some.ensures.found.run seen made
+    let ticks = g.met.M.Moves.ticks in
+    let was = c.loop-i.invariant in
+    let load = c.load-seen.ensures in
+    let tried = c.claim.ensures c.in-Some.bit c.args.order c.mask.ensures.value in
+    let still = g.met.M.Moves.stays_alone in
+    let run = c.in-Some.ensures.found.run in
+    record {
+      keeps = keeps_both was.keeps (keeps_both load.keeps tried.keeps);
+      counts = at_most ticks (both_counts ticks was.counts (both_counts ticks (load_counts ticks load) (try_counts ticks tried)))
+          (omega (arith, c.loop-i-test.true));
+      sure = sure_both (sure_where was.first (λ ws d. was.sure d.0))
+          (sure_both (sure_load (still c.loop-i.m) load) (sure_made c.if-claim.true (still c.load-seen.new.self) tried));
+      some = (
+        run_of (M.at c.args.m.now).key c.args.word c.load-seen.result c.in-Some.bit c.args.order c.requires.word c.requires.order run,
+        search rules,
+      );
+      apart = apart_as (load.keeps.same_key ∙ was.keeps.same_key) tried.apart;
+      none = search rules;
+      alone_some = λ alone.
+          let now = load.keeps.stays_alone (was.keeps.stays_alone alone) in
+          claimed_first (M.at c.load-seen.new.self).key (M.at c.loop-i.m).key (M.at c.args.m.now).key c.args.word c.load-seen.result
+          c.in-Some.bit c.args.order c.mask.result c.claim.result (M.at c.args.m.now).words (M.at c.load-seen.new.self).words
+          (M.at c.claim.new.self).words load.keeps.same_key was.keeps.same_key c.mask.ensures.value run
+          (seen_by _ (still c.loop-i.m) was.keeps load was.first alone)
+          (λ from order e. (c.claim.ensures from order e).words (still c.load-seen.new.self now));
+      alone_none = search rules;
+    }
+
+pub loop-i-preserved : goal.loop-i-preserved
+loop-i-preserved g c =
+    let M = g.M.Moves in
+    let ticks = g.met.M.Moves.ticks in
+    let was = c.loop-i.invariant in
+    let load = c.load-seen.ensures in
+    let tried = c.claim.ensures c.in-Some.bit c.args.order c.mask.ensures.value in
+    let still = g.met.M.Moves.stays_alone in
+    record {
+      keeps = keeps_both was.keeps (keeps_both load.keeps tried.keeps);
+      view = search rules;
+      counts = at_most ticks (both_counts ticks was.counts (both_counts ticks (load_counts ticks load) (try_counts ticks tried)))
+          (omega arith);
+      first = λ alone.
+          let seen = seen_by _ (still c.loop-i.m) was.keeps load was.first alone in
+          never_lost _ _ c.if-claim.false (still c.load-seen.new.self (load.keeps.stays_alone (was.keeps.stays_alone alone))) tried
+          (subst (λ (k : Key). IsSeen (bits_place k c.args.word) c.load-seen.result (M.at c.args.m.now).words
+          (M.at c.load-seen.new.self).words) (sym load.keeps.same_key) seen);
+      sure = λ e. absurd (omega (arith, e));
+    }
+
+pub returns : goal.returns
+returns g c =
+    let ticks = g.met.M.Moves.ticks in
+    let was = c.loop-i.invariant in
+    record {
+      keeps = was.keeps;
+      counts = at_most ticks was.counts (omega (arith, c.loop-i.auto._i-end));
+      sure = sure_where was.first (λ ws d. was.sure d.0);
+      some = search rules;
+      apart = search rules;
+      none = was.view;
+      alone_some = search rules;
+      alone_none = search rules;
+    }

@@ -1,5 +1,6 @@
-use Rattle.std.proofs.Common.{◌≡◌, ◌*◌}
-use Rattle.low_frames.specs.Takes.{Counts, IsAsBefore}
+use Rattle.std.proofs.Common.{◌*◌}
+use Rattle.frame_core.specs.Mover.{Keeps}
+use Rattle.low_frames.specs.Takes.{Counts, IsAsBefore, StaysSure}
 use Rattle.low_frames.specs.Alone.{FindsOf}
 use Rattle.low_frames.proofs.AloneLemmas.{HasNoRunsBelow}
 use Rattle.low_frames.proofs.small.claim_in.Given as goal
@@ -8,11 +9,10 @@ abbrev pub invariant-loop-i : goal.invariant-loop-i
 invariant-loop-i g l =
     let M = g.M.Moves in
     record {
-      tie : M.tie l.m ≡ M.tie l.fn.m;
-      key : M.key l.m ≡ M.key l.fn.m;
-      view : IsAsBefore (M.view l.fn.m) (M.view l.m);
-      counts : Counts (8 * l.i) (M.has_missed l.fn.m) (M.view l.fn.m) (M.has_missed l.m) (M.view l.m);
-      alone : M.alone l.fn.m → M.alone l.m;
-      none : M.alone l.fn.m → FindsOf (HasNoRunsBelow (M.key l.fn.m) (8 * l.fn.child) l.i l.fn.order) (M.words l.fn.m) (M.words l.m);
-      out : (b : g.row.M-Held.Denot) → M.is_out l.fn.m b → M.is_out l.m b;
+      keeps : Keeps (M.at l.fn.m) (M.at l.m);
+      view : IsAsBefore (M.at l.fn.m).view (M.at l.m).view;
+      counts : Counts M.is_exact (8 * l.i) (M.at l.fn.m) (M.at l.m);
+      sure : StaysSure (M.at l.fn.m) (M.at l.m);
+      none : (M.at l.fn.m).is_alone → FindsOf (HasNoRunsBelow (M.at l.fn.m).key (8 * l.fn.child) l.i l.fn.order)
+          (M.at l.fn.m).words (M.at l.m).words;
     }

@@ -1,20 +1,22 @@
-use Rattle.std.proofs.Common.{◌≡◌, ◌+◌, ◌-◌, ◌*◌}
-use Rattle.low_frames.specs.Takes.{Counts}
-use Rattle.low_frames.specs.Words.{HoldsWords, HasClaimedWords, WasReadClear, ReadsOutside, HasTakenWords, WhereFree}
+use Rattle.std.proofs.Common.{◌+◌, ◌-◌, ◌*◌, ◌<◌}
+use Rattle.frame_core.specs.Mover.{Keeps, IsApart}
+use Rattle.low_frames.specs.Takes.{Counts, LosesNone}
+use Rattle.low_frames.specs.Groups.{HoldsWords, HasClaimedWords, WasReadClear, ReadsOutside, HasTakenWords, WhereFree}
 use Rattle.low_frames.proofs.wide.claim_words.Given as goal
 
 abbrev pub invariant-loop-i : goal.invariant-loop-i
 invariant-loop-i g l =
     let M = g.M.Moves in
+    let m = M.at l.fn.m in
+    let now = M.at l.m in
+    let first = 8 * l.child + l.first in
     record {
-      tie : M.tie l.m ≡ M.tie l.fn.m;
-      key : M.key l.m ≡ M.key l.fn.m;
-      view : HasClaimedWords l.child (64 * l.i) (M.view l.fn.m) (M.view l.m);
-      own : HoldsWords (M.key l.fn.m) (M.view l.m).own (8 * l.child + l.first) l.i;
-      seen : WasReadClear (M.key l.fn.m) (M.read l.m) (8 * l.child + l.first + l.i) (l.count - l.i);
-      read : ReadsOutside (M.key l.fn.m) (8 * l.child + l.first) l.count (M.read l.fn.m) (M.read l.m);
-      counts : Counts (7 * l.i) (M.has_missed l.fn.m) (M.view l.fn.m) (M.has_missed l.m) (M.view l.m);
-      alone : M.alone l.fn.m → M.alone l.m;
-      taken : M.alone l.fn.m → WhereFree (M.key l.fn.m) (M.words l.fn.m) (8 * l.child + l.first) l.count (HasTakenWords (M.key l.fn.m) (M.words l.fn.m) (M.words l.m) (8 * l.child + l.first) l.i);
-      out : (b : g.row.M-Held.Denot) → M.is_out l.fn.m b → M.is_out l.m b;
+      keeps : Keeps m now;
+      view : HasClaimedWords l.child (64 * l.i) m.view now.view;
+      own : HoldsWords m.key now.view.own first l.i;
+      seen : WasReadClear m.key now.read (first + l.i) (l.count - l.i);
+      read : ReadsOutside m.key first l.count m.read now.read;
+      counts : Counts M.is_exact (7 * l.i) m now;
+      apart : 0 < l.i → IsApart m.key now.view;
+      taken : m.is_alone → WhereFree m.key m.words first l.count (HasTakenWords m.key m.words now.words first l.i × LosesNone m now);
     }

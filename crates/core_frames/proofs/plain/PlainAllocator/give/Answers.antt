@@ -1,50 +1,64 @@
-use Rattle.std.proofs.Common.{◌≡◌, ℕ, ◌/◌, min, ◌∷◌, ap, sym, subst, ◌∙◌, set, arith}
+use Rattle.std.proofs.Common.{◌≡◌, ℕ, ◌<◌, ◌∷◌, refl, ap, sym, subst, ◌∙◌, set, arith}
 use Rattle.std.specs.List.{Contains}
 use Rattle.std.specs.List.Sorted.{IsPermutation}
-use Rattle.frame_core.specs.declared.block.FrameBlock.{FrameBlock}
-use Rattle.frame_core.specs.Block.{block}
-use Rattle.frame_core.specs.Key.{key_of}
-use Rattle.frame_core.specs.Image.{key_in}
+use Rattle.frame_model.specs.declared.block.FrameBlock.{FrameBlock}
+use Rattle.frame_core.specs.Key.{sealed_key}
+use Rattle.core_frames.specs.declared.habit.Habit.{Habit}
 use Rattle.core_frames.specs.PlainBytes.{out_of, kept_of}
-use Rattle.core_frames.specs.PlainFit.{HoldMore, IsTaken}
 use Rattle.core_frames.specs.PlainState.{PlainState}
 use Rattle.core_frames.proofs.PlainBytes.{out_byte, out_given, kept_given}
-use Rattle.core_frames.proofs.PlainSteps.{is_taken, given, renamed}
+use Rattle.core_frames.proofs.PlainCalls.{same_geometry, renamed, moved, given, is_out, with_core}
 use Rattle.core_frames.proofs.plain.PlainAllocator.give.Goals as goal
 
-pub release_block-requires-clause-taken : goal.release_block-requires-clause-taken
-release_block-requires-clause-taken c =
+pub give_by-requires : goal.give_by-requires
+give_by-requires c =
     let a = c.self.inside in
+    let key = sealed_key a.moves.geometry a.ranges.items in
     let b : FrameBlock = c.args.block in
     let has : Contains (out_of a.starts.items) b = subst (λ (s : PlainState). Contains s.out b) (sym c.self.view_is) c.requires.out in
-    let it : block c.frame-frame.result c.order.result ≡ b = ap (λ (x : ℕ). block x c.order.result)
-    c.frame-frame.ensures ∙ ap (block b.frame) c.order.ensures in
-    subst (λ (d : FrameBlock). IsTaken (key_in a.image) a.image.words d) (sym it)
-    (is_taken (key_in a.image) a.image.words a.starts.items a.lowest c.self.invariant b has)
+    let inside : c.args.core < a.moves.geometry.cores = omega (arith, c.requires.core, ap (λ (s : PlainState). s.geometry.cores) c.self.view_is) in
+    let same = ap (λ (h : Habit). h.core) c.index.ensures ∙ c.self.invariant.cores.1 c.args.core c.index.result.now inside in
+    record {
+      core = omega (arith, same, inside);
+      idle = c.self.invariant.idle;
+      held = is_out key _ a.moves.words.items a.starts.items a.habits.items a.refused c.self.invariant b has;
+    }
 
-pub index_mut-requires : goal.index_mut-requires
-index_mut-requires c =
+pub index_mut-requires-2 : goal.index_mut-requires-2
+index_mut-requires-2 c =
     let a = c.self.inside in
     let b : FrameBlock = c.args.block in
     let has : Contains (out_of a.starts.items) b = subst (λ (s : PlainState). Contains s.out b) (sym c.self.view_is) c.requires.out in
     omega (arith, out_byte a.starts.items b has, c.frame-frame.ensures, a.starts.ok.0)
 
+-- the core has a place
+inside : (c : goal.After-self-3-1) → c.args.core < c.self.inside.moves.geometry.cores
+inside c = omega (arith, c.requires.core, ap (λ (s : PlainState). s.geometry.cores) c.self.view_is)
+
+-- the geometry stays
+stays : (c : goal.After-self-3-1) → c.give_by.new.m.geometry ≡ c.self.inside.moves.geometry
+stays c =
+    let m = c.self.inside.moves in
+    let n = c.give_by.new.m in
+    same_geometry n.geometry m.geometry n.sealed m.sealed c.give_by.ensures.gives.keeps.same_key
+
 pub invariant_of-self : goal.invariant_of-self
 invariant_of-self c =
     let a = c.self.inside in
+    let m = a.moves in
+    let n = c.give_by.new.m in
+    let key = sealed_key m.geometry a.ranges.items in
     let b : FrameBlock = c.args.block in
-    let new = c.release_block.new.image in
     let has : Contains (out_of a.starts.items) b = subst (λ (s : PlainState). Contains s.out b) (sym c.self.view_is) c.requires.out in
-    let it : block c.frame-frame.result c.order.result ≡ b = ap (λ (x : ℕ). block x c.order.result)
-    c.frame-frame.ensures ∙ ap (block b.frame) c.order.ensures in
-    let less = subst (λ (d : FrameBlock). HoldMore (key_in a.image) d new.words a.image.words) it c.release_block.ensures.less in
-    let made = given (key_in a.image) a.image.words a.starts.items a.lowest c.self.invariant b has new.words less
-    c.release_block.ensures.exact in
-    let lowest : min a.lowest (b.frame / 4096) ≡ c.min-self-inside.result = omega
-    (arith, c.min-self-inside.ensures, c.tree_of.ensures, c.frame-frame.ensures) in
-    renamed (key_in a.image) (key_of new.geometry) new.words (set a.starts.items b.frame 0)
-    (set a.starts.items c.frame-frame.result 0) (min a.lowest (b.frame / 4096)) c.min-self-inside.result made
-    (ap key_of (sym c.release_block.ensures.geometry)) (ap (λ (x : ℕ). set a.starts.items x 0) (sym c.frame-frame.ensures)) lowest
+    moved m.geometry n.geometry a.ranges.items (sym (stays c))
+    (with_core key _ n.words.items (set a.starts.items c.frame-frame.result 0) a.habits.items 10
+    (renamed (set a.starts.items b.frame 0) (set a.starts.items c.frame-frame.result 0)
+    (ap (λ (x : ℕ). set a.starts.items x 0) (sym c.frame-frame.ensures))
+    (given key _ _ m.words.items n.words.items a.starts.items a.habits.items a.refused c.self.invariant refl b has _ 32
+    c.give_by.ensures.gives))
+    c.args.core c.give_by.new.habit (inside c)
+    (c.give_by.ensures.habit ∙ ap (λ (h : Habit). h.core) c.index.ensures
+    ∙ c.self.invariant.cores.1 c.args.core c.index.result.now (inside c)))
 
 pub returns-clause-out : goal.returns-clause-out
 returns-clause-out c =
@@ -62,3 +76,7 @@ returns-clause-kept c =
     let has : Contains (out_of a.starts.items) b = subst (λ (s : PlainState). Contains s.out b) (sym c.self.view_is) c.requires.out in
     ap (λ (x : ℕ). kept_of (set a.starts.items x 0)) c.frame-frame.ensures ∙ kept_given a.starts.items b has
     ∙ ap (λ (s : PlainState). s.kept) c.self.view_is
+
+pub returns-clause-geometry : goal.returns-clause-geometry
+returns-clause-geometry c =
+    (stays c ∙ ap (λ (s : PlainState). s.geometry) c.self.view_is, ap (λ (s : PlainState). s.ranges) c.self.view_is)

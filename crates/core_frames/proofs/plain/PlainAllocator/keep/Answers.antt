@@ -1,13 +1,15 @@
 use Rattle.std.proofs.Common.{◌≡◌, ℕ, ◌+◌, List, ◌∷◌, ◌++◌, ap, sym, subst, ◌∙◌, set, arith}
 use Rattle.std.specs.List.{Contains}
 use Rattle.std.specs.List.Sorted.{IsPermutation}
-use Rattle.frame_core.specs.declared.block.FrameBlock.{FrameBlock}
-use Rattle.frame_core.specs.Image.{key_in}
+use Rattle.std.proofs.lemmas.List.Sorted.{IsPermutation-append_left}
+use Rattle.frame_model.specs.declared.block.FrameBlock.{FrameBlock}
+use Rattle.frame_core.specs.Key.{sealed_key}
+use Rattle.frame_core.specs.View.{boot_blocks}
+use Rattle.core_frames.specs.PlainAgree.{named_by}
 use Rattle.core_frames.specs.PlainBytes.{out_of, kept_of, first_kept}
-use Rattle.core_frames.specs.PlainFit.{AgreeWith}
 use Rattle.core_frames.specs.PlainState.{PlainState, held_by}
 use Rattle.core_frames.proofs.PlainBytes.{out_byte, out_kept, kept_kept}
-use Rattle.core_frames.proofs.PlainSteps.{kept, held_same}
+use Rattle.core_frames.proofs.PlainCalls.{renamed, keeps, held_same}
 use Rattle.core_frames.proofs.plain.PlainAllocator.keep.Goals as goal
 
 pub kept_byte-requires : goal.kept_byte-requires
@@ -36,10 +38,11 @@ bytes_are c =
 pub invariant_of-self : goal.invariant_of-self
 invariant_of-self c =
     let a = c.self.inside in
+    let key = sealed_key a.moves.geometry a.ranges.items in
     let b : FrameBlock = c.args.block in
     let has : Contains (out_of a.starts.items) b = subst (λ (s : PlainState). Contains s.out b) (sym c.self.view_is) c.requires.out in
-    subst (λ (bytes : List ℕ). AgreeWith (key_in a.image) a.image.words bytes a.lowest) (sym (bytes_are c))
-    (kept (key_in a.image) a.image.words a.starts.items a.lowest c.self.invariant b has)
+    renamed (set a.starts.items b.frame (first_kept + b.order)) (set a.starts.items c.frame-frame.result c.kept_byte.result) (sym (bytes_are c))
+    (keeps key _ a.moves.words.items a.starts.items a.habits.items a.refused c.self.invariant b has)
 
 pub returns-clause-out : goal.returns-clause-out
 returns-clause-out c =
@@ -63,11 +66,13 @@ returns-clause-kept c =
 pub returns-clause-held : goal.returns-clause-held
 returns-clause-held c =
     let a = c.self.inside in
+    let key = sealed_key a.moves.geometry a.ranges.items in
     let b : FrameBlock = c.args.block in
     let has : Contains (out_of a.starts.items) b =
     subst (λ (s : PlainState). Contains s.out b) (sym c.self.view_is) c.requires.out in
-    let same = held_same (key_in a.image) a.image.words a.starts.items a.lowest c.self.invariant b has in
+    let same = held_same key _ a.moves.words.items a.starts.items a.habits.items a.refused c.self.invariant b has in
     let now = set a.starts.items c.frame-frame.result c.kept_byte.result in
-    subst (λ (s : PlainState). IsPermutation (held_by s) (out_of now ++ kept_of now)) c.self.view_is
-    (subst (λ (bytes : List ℕ). IsPermutation (out_of a.starts.items ++ kept_of a.starts.items) (out_of bytes ++ kept_of bytes))
-    (sym (bytes_are c)) same)
+    let boot = boot_blocks key in
+    subst (λ (s : PlainState). IsPermutation (held_by s) (named_by now ++ boot)) c.self.view_is
+    (IsPermutation-append_left boot (named_by a.starts.items) (named_by now)
+    (subst (λ (bytes : List ℕ). IsPermutation (named_by a.starts.items) (named_by bytes)) (sym (bytes_are c)) same))

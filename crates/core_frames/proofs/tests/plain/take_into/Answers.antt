@@ -1,7 +1,7 @@
 use Rattle.std.proofs.Common.{◌≡◌, List, subst, sym}
 use Rattle.std.specs.List.Sorted.{IsPermutation}
 use Rattle.std.proofs.lemmas.List.Sorted.{IsPermutation-push_more}
-use Rattle.frame_core.specs.declared.block.FrameBlock.{FrameBlock}
+use Rattle.frame_model.specs.declared.block.FrameBlock.{FrameBlock}
 use Rattle.core_frames.proofs.tests.plain.take_into.Goals as goal
 
 pub returns-in_ok-push-in-Ok-clause-same : goal.returns-in_ok-push-in-Ok-clause-same

@@ -1,10 +1,10 @@
 use Rattle.std.proofs.Common.{◌≡◌, ◌+◌, ◌-◌, ◌<◌, ℕ, List, arith, ap, sym, subst, ◌∙◌}
 use Rattle.frame_words.specs.declared.geometry.Geometry.{Geometry}
 use Rattle.frame_words.specs.Words.{entry_word}
-use Rattle.frame_core.specs.declared.key.Key.{Key}
+use Rattle.frame_model.specs.declared.key.Key.{Key}
 use Rattle.frame_core.specs.Image.{Contents, key_in, IsImage, IsCountedBelow}
-use Rattle.frame_core.specs.Key.{key_of}
-use Rattle.frame_core.specs.Words.{bit_of, set_of, with_entry}
+use Rattle.frame_model.specs.Key.{key_of}
+use Rattle.frame_model.specs.Words.{bit_of, set_of, with_entry}
 use Rattle.frame_core.proofs.Counters.{child_counted}
 use Rattle.frame_core.proofs.image.Image.count_children.Goals as goal
 

@@ -2,10 +2,10 @@ use Rattle.std.proofs.Common.{◌≡◌, ◌+◌, ◌<◌, ◌≤◌, ℕ, List,
 use Rattle.frame_words.specs.declared.geometry.Geometry.{Geometry}
 use Rattle.frame_words.specs.Words.{entry_word}
 use Rattle.std.specs.List.{sum_by}
-use Rattle.frame_core.specs.declared.key.Key.{Key}
+use Rattle.frame_model.specs.declared.key.Key.{Key}
 use Rattle.frame_core.specs.Image.{Contents, key_in, IsImage, IsCountedBelow}
-use Rattle.frame_core.specs.Key.{key_of, tree_count, children_of, size_of}
-use Rattle.frame_core.specs.Words.{bit_of, free_of, with_tree}
+use Rattle.frame_model.specs.Key.{key_of, tree_count, children_of, size_of}
+use Rattle.frame_model.specs.Words.{bit_of, free_of, with_tree}
 use Rattle.frame_core.proofs.Counters.{tree_counted}
 use Rattle.frame_core.proofs.image.Image.count_trees.Goals as goal
 

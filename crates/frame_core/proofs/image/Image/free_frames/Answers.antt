@@ -1,7 +1,7 @@
 use Rattle.std.proofs.Common.{◌≡◌, ◌+◌, ◌-◌, ◌*◌, ℕ, arith, ap}
 use Rattle.std.specs.List.{sum_by, range_with_len}
-use Rattle.frame_core.specs.Words.{free_of}
-use Rattle.frame_core.proofs.Sums.{range_more}
+use Rattle.frame_model.specs.Words.{free_of}
+use Rattle.frame_model.proofs.Sums.{range_more}
 use Rattle.frame_core.proofs.image.Image.free_frames.Goals as goal
 
 pub loop-child-preserved : goal.loop-child-preserved

@@ -1,6 +1,6 @@
 use Rattle.std.proofs.Common.{◌≡◌, ◌*◌, ◌-◌, ◌≤◌}
 use Rattle.std.specs.List.{sum_by, range_with_len}
-use Rattle.frame_core.specs.Words.{free_of}
+use Rattle.frame_model.specs.Words.{free_of}
 use Rattle.frame_core.proofs.image.Image.free_frames.Given as goal
 
 abbrev pub invariant-loop-child : goal.invariant-loop-child

@@ -1,9 +1,9 @@
 use Rattle.std.proofs.Common.{◌≡◌, refl}
 use Rattle.std.proofs.lemmas.Result.{IfOk-weaker}
-use Rattle.frame_core.specs.declared.key.Key.{Key}
+use Rattle.frame_model.specs.declared.key.Key.{Key}
 use Rattle.frame_core.specs.Image.{Contents, IsAllFree}
-use Rattle.frame_core.specs.Key.{key_of, frame_count, AreRanges}
-use Rattle.frame_core.specs.Openings.{IsSealedOpening}
+use Rattle.frame_model.specs.Key.{key_of, frame_count, AreRanges}
+use Rattle.frame_model.specs.Openings.{IsSealedOpening}
 use Rattle.frame_core.proofs.Counters.{whole_all_free}
 use Rattle.frame_core.proofs.image.Image.new.Goals as goal
 

@@ -2,8 +2,8 @@ use Rattle.std.proofs.Common.{◌≡◌, ◌<◌, ◌+◌, ◌*◌, ℕ, List, l
 use Rattle.std.proofs.lemmas.List.{take_more}
 use Rattle.frame_words.specs.Words.{flag, entry_word}
 use Rattle.frame_core.specs.Image.{Contents, key_in, with_bit_list}
-use Rattle.frame_core.specs.declared.key.Key.{Key}
-use Rattle.frame_core.specs.Words.{with_entry, with_bits}
+use Rattle.frame_model.specs.declared.key.Key.{Key}
+use Rattle.frame_model.specs.Words.{with_entry, with_bits}
 use Rattle.frame_core.proofs.ImageLemmas.{with_bit_list-push}
 use Rattle.frame_core.proofs.image.Image.set_child.Goals as goal
 

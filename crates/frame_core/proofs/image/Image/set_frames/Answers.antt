@@ -1,11 +1,11 @@
 use Rattle.std.proofs.Common.{◌≡◌, ◌*◌, take, drop, arith, ap, ◌∙◌}
 use Rattle.std.specs.List.{sum_by}
 use Rattle.std.specs.Int.Count.{ones}
-use Rattle.frame_core.specs.declared.key.Key.{Key}
+use Rattle.frame_model.specs.declared.key.Key.{Key}
 use Rattle.frame_core.specs.Image.{key_in}
-use Rattle.frame_core.specs.Words.{bits_place, set_of}
-use Rattle.frame_core.proofs.Bits.{ones-le}
-use Rattle.frame_core.proofs.Sets.{set_more}
+use Rattle.frame_model.specs.Words.{bits_place, set_of}
+use Rattle.frame_model.proofs.Bits.{ones-le}
+use Rattle.frame_model.proofs.Sets.{set_more}
 use Rattle.frame_core.proofs.image.Image.set_frames.Goals as goal
 
 pub loop-word-preserved : goal.loop-word-preserved

@@ -2,7 +2,7 @@ use Rattle.std.proofs.Common.{◌≡◌, ◌*◌, ◌≤◌, take, drop}
 use Rattle.std.specs.List.{sum_by}
 use Rattle.std.specs.Int.Count.{ones}
 use Rattle.frame_core.specs.Image.{key_in}
-use Rattle.frame_core.specs.Words.{bits_place}
+use Rattle.frame_model.specs.Words.{bits_place}
 use Rattle.frame_core.proofs.image.Image.set_frames.Given as goal
 
 abbrev pub invariant-loop-word : goal.invariant-loop-word

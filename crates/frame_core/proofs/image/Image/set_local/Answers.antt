@@ -3,7 +3,7 @@ use Rattle.std.specs.Option.{ForSome}
 use Rattle.frame_words.specs.Words.{local_word}
 use Rattle.frame_core.specs.Image.{FitsTree}
 use Rattle.frame_core.specs.Image.{Contents, key_in, IsImage}
-use Rattle.frame_core.specs.Words.{local_place}
+use Rattle.frame_model.specs.Words.{local_place}
 use Rattle.frame_core.proofs.ImageLemmas.{place_in, local_place-lt, set-with_local, IsImage-with_local}
 use Rattle.frame_core.proofs.image.Image.set_local.Goals as goal
 

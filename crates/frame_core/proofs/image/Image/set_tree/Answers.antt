@@ -1,7 +1,7 @@
 use Rattle.std.proofs.Common.{ℕ, List, arith, ap, sym, subst, ◌∙◌, refl}
 use Rattle.frame_words.proofs.WordLemmas.{flag-le}
 use Rattle.frame_core.specs.Image.{Contents, key_in, IsImage}
-use Rattle.frame_core.specs.Words.{tree_place}
+use Rattle.frame_model.specs.Words.{tree_place}
 use Rattle.frame_core.proofs.ImageLemmas.{place_in, tree_place-lt, set-with_tree, IsImage-with_tree}
 use Rattle.frame_core.proofs.image.Image.set_tree.Goals as goal
 

@@ -1,8 +1,8 @@
 use Rattle.std.proofs.Common.{ℕ, List, ◌+◌, ◌*◌, arith, ap, sym, subst, ◌∙◌}
 use Rattle.frame_core.specs.Image.{Contents, key_in, IsImage}
-use Rattle.frame_core.specs.Words.{bits_place}
+use Rattle.frame_model.specs.Words.{bits_place}
 use Rattle.frame_core.proofs.ImageLemmas.{place_in, set-with_bits, IsImage-with_bits}
-use Rattle.frame_core.proofs.Words.{bits-lt-count}
+use Rattle.frame_model.proofs.Words.{bits-lt-count}
 use Rattle.frame_core.proofs.image.Image.set_word.Goals as goal
 
 pub put-requires-clause-place : goal.put-requires-clause-place
@@ -17,7 +17,7 @@ put-requires-clause-in_range c =
     let at = place_in bits_place c.geometry.result c.args.self.now.geometry w c.bits_place-place.result c.bits_place-place.ensures.value c.geometry.ensures.value in
     subst (IsImage (key_in c.args.self.now))
     (sym (set-with_bits (key_in c.args.self.now) c.args.self.now.words c.bits_place-place.result w c.args.bits at))
-    (IsImage-with_bits (key_in c.args.self.now) c.args.self.now.words c.geometry.ensures.in_range w c.args.bits (omega (arith, c.requires.child, c.requires.word)) (omega arith))
+    (IsImage-with_bits (key_in c.args.self.now) c.args.self.now.words c.geometry.ensures.in_range w c.args.bits (omega (arith, c.requires.child, c.requires.word)) (omega arith) c.requires.past_end)
 
 pub returns : goal.returns
 returns c =

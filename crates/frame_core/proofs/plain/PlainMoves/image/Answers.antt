@@ -1,5 +1,5 @@
 use Rattle.std.proofs.Common.{ℕ, List, true, sym, subst, ◌∙◌}
-use Rattle.frame_core.specs.Key.{key_of}
+use Rattle.frame_model.specs.Key.{key_of}
 use Rattle.frame_core.specs.Image.{IsImage}
 use Rattle.frame_core.proofs.PlainImage.{image_known, image_resealed}
 use Rattle.frame_core.proofs.plain.PlainMoves.image.Goals as goal

@@ -1,5 +1,6 @@
-use Rattle.std.proofs.Common.{ℕ, List, sym, subst, arith}
-use Rattle.frame_core.specs.Plain.{plain_key, AreApart}
+use Rattle.std.proofs.Common.{ℕ, List, ◌∙◌, sym, subst, arith}
+use Rattle.frame_core.specs.Apart.{AreApart}
+use Rattle.frame_core.specs.Plain.{plain_key}
 use Rattle.frame_core.proofs.PlainOpening.{starts, opened}
 use Rattle.frame_core.proofs.plain.PlainMoves.of.Goals as goal
 
@@ -7,8 +8,10 @@ pub invariant_of-result-clause-agrees : goal.invariant_of-result-clause-agrees
 invariant_of-result-clause-agrees c =
     let key = plain_key c.args.geometry c.args.sealed in
     let zero = c.in_ok-outs.ensures.items_if_clones_equal (λ y e. e) in
-    opened key c.args.words.items c.in_ok-outs.outs.items _ _ c.requires.fits zero
-    (starts key c.in_ok-outs.outs.items c.in_ok-own.own.items c.in_ok-filled.filled.items _ zero
+    opened key (record { parties = c.new.result; outs = c.new-2.result }) c.args.words.items c.in_ok-outs.outs.items _ _
+    c.new.ensures.items c.new-2.ensures.items c.requires.fits zero
+    (starts key c.from.result c.in_ok-outs.outs.items c.in_ok-own.own.items c.in_ok-filled.filled.items _ (c.from.ensures
+    ∙ c.cores.ensures.value) zero
     c.in_ok-own.ensures.items c.in_ok-filled.ensures.items)
 
 pub invariant_of-result-clause-distinct : goal.invariant_of-result-clause-distinct
@@ -19,6 +22,7 @@ invariant_of-result-clause-distinct c =
 pub returns-clause-idle : goal.returns-clause-idle
 returns-clause-idle c =
     let key = plain_key c.args.geometry c.args.sealed in
-    starts key c.in_ok-outs.outs.items c.in_ok-own.own.items c.in_ok-filled.filled.items _
+    starts key c.from.result c.in_ok-outs.outs.items c.in_ok-own.own.items c.in_ok-filled.filled.items _ (c.from.ensures
+    ∙ c.cores.ensures.value)
     (c.in_ok-outs.ensures.items_if_clones_equal (λ y e. e)) c.in_ok-own.ensures.items
     c.in_ok-filled.ensures.items

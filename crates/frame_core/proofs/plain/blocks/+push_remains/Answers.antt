@@ -1,8 +1,8 @@
 use Rattle.std.proofs.Common.{◌≡◌, ◌⊎◌, inl, inr, ◌+◌, ◌-◌, ◌^◌, ◌<◌, List, ◌++◌, true, length, ap, sym, ◌∙◌, append-nil, arith}
 use Rattle.std.proofs.lemmas.List.{length-append}
-use Rattle.frame_core.specs.declared.block.FrameBlock.{FrameBlock}
-use Rattle.frame_core.specs.Block.{block}
-use Rattle.frame_core.specs.Without.{is_inside, remains}
+use Rattle.frame_model.specs.declared.block.FrameBlock.{FrameBlock}
+use Rattle.frame_model.specs.Block.{block}
+use Rattle.frame_model.specs.Without.{is_inside, remains}
 use Rattle.frame_core.proofs.PlainBlocks.{remains_apart, remains_inside, remains_halves, halved}
 use Rattle.frame_core.proofs.plain.blocks.+push_remains.Goals as goal
 use Rattle.frame_core.proofs.plain.blocks.+push_remains.Goals.{then-order-eq0-via-then-order-eq0, then-order-eq0-via-else-order-eq0+then-lies_inside}

@@ -1,6 +1,6 @@
 use Rattle.std.proofs.Common.{◌+◌, ◌<◌, ◌++◌, List, length, drop, take, flat_map, ap, sym, ◌∙◌, append_assoc, arith}
-use Rattle.frame_core.specs.declared.block.FrameBlock.{FrameBlock}
-use Rattle.frame_core.specs.Without.{remainder}
+use Rattle.frame_model.specs.declared.block.FrameBlock.{FrameBlock}
+use Rattle.frame_model.specs.Without.{remainder}
 use Rattle.frame_core.specs.Plain.{IsLow}
 use Rattle.frame_core.proofs.PlainBlocks.{one_less, cut_more, cut_room, cut_done, some_left, All-at_drop}
 use Rattle.frame_core.proofs.plain.blocks.cut_all.Goals as goal

@@ -1,6 +1,6 @@
 use Rattle.std.proofs.Common.{◌≡◌, ◌++◌, drop, take, flat_map}
 use Rattle.std.specs.VecDeque.{deque_capacity}
-use Rattle.frame_core.specs.Without.{remainder}
+use Rattle.frame_model.specs.Without.{remainder}
 use Rattle.frame_core.proofs.plain.blocks.cut_all.Given as goal
 
 abbrev pub invariant-loop-i : goal.invariant-loop-i

@@ -1,6 +1,6 @@
 use Rattle.std.proofs.Common.{◌+◌, ◌<◌, ◌∷◌, [], ◌++◌, length, drop, ◌∙◌, cond, arith}
 use Rattle.std.specs.Prelude.{not, ◌&&◌}
-use Rattle.frame_core.specs.Without.{is_same, less_one}
+use Rattle.frame_model.specs.Without.{is_same, less_one}
 use Rattle.frame_core.proofs.PlainBlocks.{one_less, once_more, turned_once, once_done, some_left}
 use Rattle.frame_core.proofs.plain.blocks.leave_once.Goals as goal
 use Rattle.frame_core.proofs.plain.blocks.leave_once.Goals.{in-Some, in_default}

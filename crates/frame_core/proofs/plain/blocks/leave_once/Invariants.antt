@@ -1,7 +1,7 @@
 use Rattle.std.proofs.Common.{◌≡◌, ◌++◌, List, drop, cond}
 use Rattle.std.specs.VecDeque.{deque_capacity}
-use Rattle.frame_core.specs.declared.block.FrameBlock.{FrameBlock}
-use Rattle.frame_core.specs.Without.{less_one}
+use Rattle.frame_model.specs.declared.block.FrameBlock.{FrameBlock}
+use Rattle.frame_model.specs.Without.{less_one}
 use Rattle.frame_core.proofs.plain.blocks.leave_once.Given as goal
 
 abbrev pub invariant-loop-i : goal.invariant-loop-i

@@ -1,6 +1,6 @@
 use Rattle.std.proofs.Common.{◌^◌, ap, ◌∙◌, arith}
 use Rattle.std.specs.Int.Count.{ones}
-use Rattle.frame_core.proofs.Bits.{ones_run}
+use Rattle.frame_model.proofs.Bits.{ones_run}
 use Rattle.frame_core.proofs.PlainOwn.{run_from, run_order}
 use Rattle.frame_core.proofs.plain.moves.run_of.Goals as goal
 

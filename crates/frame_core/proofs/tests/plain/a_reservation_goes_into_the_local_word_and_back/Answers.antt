@@ -1,32 +1,37 @@
 use Rattle.std.proofs.Common.{rules, Some, None, refl, ◌∙◌, arith}
-use Rattle.frame_core.specs.View.{counted}
-use Rattle.frame_core.specs.Steps.Amounts.{more}
+use Rattle.frame_model.specs.View.{counted}
+use Rattle.frame_model.specs.Steps.Amounts.{more}
 use Rattle.frame_core.specs.Plain.{plain_tick}
 use Rattle.frame_core.proofs.ByHand.{made, pays_none, rest_seen, none_again, more_none, loaded, reserved}
 use Rattle.frame_core.proofs.ByHand.{swapped_in, swapped_out, local_paid, local_refunded, becomes}
 use Rattle.frame_core.proofs.ByHand.{may_reserve, may_swap_in, may_swap_out, may_local_pay, may_local_refund, may_end}
 use Rattle.frame_core.proofs.tests.plain.a_reservation_goes_into_the_local_word_and_back.Goals as goal
 
-pub reserve-requires-clause-may : goal.reserve-requires-clause-may
-reserve-requires-clause-may g c =
+pub reserve-requires : goal.reserve-requires
+reserve-requires g c =
+    let may =
     let m = c.load-tree.new.self in
-    let first = pays_none _ _ _ c.in_ok-geometry.geometry.some_cores c.in_ok-m.ensures.idle in
+    let first = pays_none _ _ _ c.in_ok-geometry.geometry.some_cores c.in_ok-m.ensures.begins.view in
     let before = loaded plain_tick _ _ None None first c.load-tree.ensures.view in
-    may_reserve _ _ c.load-tree.result m.geometry.some_children before.paid before.reserving (search rules)
+    may_reserve _ _ c.load-tree.result m.geometry.some_children before.paid before.reserving (search rules) in
+    record { share = search rules; seen = search rules; may = may }
 
-pub swap_local-before-requires-clause-may : goal.swap_local-before-requires-clause-may
-swap_local-before-requires-clause-may g c =
+pub swap_local-before-requires : goal.swap_local-before-requires
+swap_local-before-requires g c =
+    let may =
     let m = c.reserve.new.self in
-    let first = pays_none _ _ _ c.in_ok-geometry.geometry.some_cores c.in_ok-m.ensures.idle in
+    let first = pays_none _ _ _ c.in_ok-geometry.geometry.some_cores c.in_ok-m.ensures.begins.view in
     let before = loaded plain_tick _ _ None None first c.load-tree.ensures.view in
     let held = reserved plain_tick _ _ None None before c.load-tree.result (search rules)
     (made c.reserve.result _ _ (search rules) c.reserve.ensures.view) in
-    may_swap_in _ _ _ _ held m.geometry.some_children m.geometry.some_cores refl refl
+    may_swap_in _ _ _ _ held m.geometry.some_children m.geometry.some_cores refl refl in
+    record { share = search rules; may = may }
 
-pub local_pay-requires-clause-may : goal.local_pay-requires-clause-may
-local_pay-requires-clause-may g c =
+pub local_pay-requires : goal.local_pay-requires
+local_pay-requires g c =
+    let may =
     let m = c.load-resting.new.self in
-    let first = pays_none _ _ _ c.in_ok-geometry.geometry.some_cores c.in_ok-m.ensures.idle in
+    let first = pays_none _ _ _ c.in_ok-geometry.geometry.some_cores c.in_ok-m.ensures.begins.view in
     let before = loaded plain_tick _ _ None None first c.load-tree.ensures.view in
     let held = reserved plain_tick _ _ None None before c.load-tree.result (search rules)
     (made c.reserve.result _ _ (search rules) c.reserve.ensures.view) in
@@ -34,12 +39,14 @@ local_pay-requires-clause-may g c =
     c.swap_local-before.ensures.view.0 (c.swap_local-before.ensures.view.1 ∙ search rules) c.swap_local-before.ensures.view.2 in
     let seen = loaded plain_tick _ _ None None put c.load-resting.ensures.view in
     let all = rest_seen c.load-resting.result 512 (search rules) (omega arith) in
-    may_local_pay _ _ _ _ seen m.geometry.some_children m.geometry.some_cores c.load-resting.result 512 8 all (omega arith) refl
+    may_local_pay _ _ _ _ seen m.geometry.some_children m.geometry.some_cores c.load-resting.result 512 8 all (omega arith) refl in
+    record { share = search rules; seen = search rules; may = may }
 
-pub local_refund-requires-clause-may : goal.local_refund-requires-clause-may
-local_refund-requires-clause-may g c =
+pub local_refund-requires : goal.local_refund-requires
+local_refund-requires g c =
+    let may =
     let m = c.load-left.new.self in
-    let first = pays_none _ _ _ c.in_ok-geometry.geometry.some_cores c.in_ok-m.ensures.idle in
+    let first = pays_none _ _ _ c.in_ok-geometry.geometry.some_cores c.in_ok-m.ensures.begins.view in
     let before = loaded plain_tick _ _ None None first c.load-tree.ensures.view in
     let held = reserved plain_tick _ _ None None before c.load-tree.result (search rules)
     (made c.reserve.result _ _ (search rules) c.reserve.ensures.view) in
@@ -52,12 +59,14 @@ local_refund-requires-clause-may g c =
     let again = loaded plain_tick _ _ (more 0 8 None) None paid c.load-left.ensures.view in
     let less = rest_seen c.load-left.result 504 (search rules) (omega arith) in
     may_local_refund _ _ _ _ again m.geometry.some_children m.geometry.some_cores
-    c.load-left.result 504 8 less (omega (arith, more_none 8))
+    c.load-left.result 504 8 less (omega (arith, more_none 8)) in
+    record { share = search rules; seen = search rules; may = may }
 
-pub swap_local-requires-clause-may : goal.swap_local-requires-clause-may
-swap_local-requires-clause-may g c =
+pub swap_local-requires : goal.swap_local-requires
+swap_local-requires g c =
+    let may =
     let m = c.load.new.self in
-    let first = pays_none _ _ _ c.in_ok-geometry.geometry.some_cores c.in_ok-m.ensures.idle in
+    let first = pays_none _ _ _ c.in_ok-geometry.geometry.some_cores c.in_ok-m.ensures.begins.view in
     let before = loaded plain_tick _ _ None None first c.load-tree.ensures.view in
     let held = reserved plain_tick _ _ None None before c.load-tree.result (search rules)
     (made c.reserve.result _ _ (search rules) c.reserve.ensures.view) in
@@ -73,12 +82,14 @@ swap_local-requires-clause-may g c =
     (made c.local_refund.result _ _ (search rules) c.local_refund.ensures.view) in
     let none = becomes _ _ None None (none_again 8) back in
     let last = loaded plain_tick _ _ None None none c.load.ensures.view in
-    may_swap_out _ _ _ _ last m.geometry.some_children m.geometry.some_cores refl refl
+    may_swap_out _ _ _ _ last m.geometry.some_children m.geometry.some_cores refl refl in
+    record { share = search rules; may = may }
 
-pub unreserve-requires-clause-may : goal.unreserve-requires-clause-may
-unreserve-requires-clause-may g c =
+pub unreserve-requires : goal.unreserve-requires
+unreserve-requires g c =
+    let may =
     let m = c.load-3.new.self in
-    let first = pays_none _ _ _ c.in_ok-geometry.geometry.some_cores c.in_ok-m.ensures.idle in
+    let first = pays_none _ _ _ c.in_ok-geometry.geometry.some_cores c.in_ok-m.ensures.begins.view in
     let before = loaded plain_tick _ _ None None first c.load-tree.ensures.view in
     let held = reserved plain_tick _ _ None None before c.load-tree.result (search rules)
     (made c.reserve.result _ _ (search rules) c.reserve.ensures.view) in
@@ -98,4 +109,5 @@ unreserve-requires-clause-may g c =
     c.swap_local.ensures.view.0 (c.swap_local.ensures.view.1 ∙ search rules) c.swap_local.ensures.view.2 in
     let one = loaded plain_tick _ _ (counted 0 512) (Some 0) out c.load-2.ensures.view in
     let two = loaded plain_tick _ _ (counted 0 512) (Some 0) one c.load-3.ensures.view in
-    may_end _ _ _ _ two m.geometry.some_children m.geometry.some_cores refl refl
+    may_end _ _ _ _ two m.geometry.some_children m.geometry.some_cores refl refl in
+    record { share = search rules; may = may }

@@ -1,7 +1,7 @@
 use Rattle.std.proofs.Common.{◌≡◌, arith}
 use Rattle.std.specs.Int.Count.{ones}
-use Rattle.frame_core.proofs.Bits.{ones_run, ones_zero}
-use Rattle.frame_core.proofs.WorkedRuns.Rebuilding.{rebuilt_by_bits, no_bits}
+use Rattle.frame_model.proofs.Bits.{ones_run, ones_zero}
+use Rattle.frame_model.proofs.WorkedRuns.Rebuilding.{rebuilt_by_bits, no_bits}
 use Rattle.frame_core.proofs.tests.plain.an_image_with_set_bits_is_opened_again.Goals as goal
 
 pub image_of_one-requires-clause-exact : goal.image_of_one-requires-clause-exact

@@ -1,6 +1,6 @@
 use Rattle.std.proofs.Common.{◌≡◌, ℕ, ◌<◌, [], ◌∷◌}
-use Rattle.frame_core.specs.Block.{block}
-use Rattle.frame_core.specs.View.{names}
+use Rattle.frame_model.specs.Block.{block}
+use Rattle.frame_model.specs.View.{names}
 use Rattle.frame_core.specs.Plain.{plain_key}
 use Rattle.frame_core.proofs.tests.plain.fill_child.Given as goal
 

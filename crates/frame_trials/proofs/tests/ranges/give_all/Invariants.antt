@@ -1,12 +1,11 @@
 use Rattle.std.proofs.Common.{vec_len}
 use Rattle.std.specs.List.{All}
-use Rattle.frame_table.specs.Seats.{IsOut}
-use Rattle.frame_trials.specs.Work.{IsReady}
+use Rattle.frame_table.specs.Seats.{IsIdleSeat, IsOut}
 use Rattle.frame_trials.proofs.tests.ranges.give_all.Given as goal
 
 abbrev pub invariant-loop-block : goal.invariant-loop-block
 invariant-loop-block l = record {
-  ready : IsReady l.table l.core;
+  ready : IsIdleSeat l.table l.core;
   out : All (IsOut l.table) l.blocks.items;
 }
 

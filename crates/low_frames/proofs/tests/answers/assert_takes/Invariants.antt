@@ -1,14 +1,11 @@
-use Rattle.std.proofs.Common.{◌≡◌, []}
-use Rattle.frame_core.specs.declared.block.FrameBlock.{FrameBlock}
-use Rattle.frame_core.specs.View.{IsIdle}
-use Rattle.frame_core.specs.Plain.{plain_key, plain_view, IsOutIn}
+use Rattle.frame_model.specs.declared.block.FrameBlock.{FrameBlock}
+use Rattle.frame_model.specs.View.{IsIdle}
+use Rattle.frame_core.specs.Plain.{IsOutIn}
+use Rattle.frame_core.specs.PlainState.{view_by}
 use Rattle.low_frames.proofs.tests.answers.assert_takes.Given as goal
 
 abbrev pub invariant-loop-order : goal.invariant-loop-order
-invariant-loop-order g l =
-    let m = l.m in
-    let view = plain_view (plain_key m.geometry m.sealed) m.outs.items m.paid m.charged m.reserving m.own.items m.filled.items m.moves in
-    record {
-      idle : IsIdle view;
-      out : (b : FrameBlock) → IsOutIn l.fn.m.outs.items b → IsOutIn m.outs.items b;
-    }
+invariant-loop-order g l = record {
+  idle : IsIdle (view_by l.m);
+  out : (b : FrameBlock) → IsOutIn l.fn.m.outs.items b → IsOutIn l.m.outs.items b;
+}

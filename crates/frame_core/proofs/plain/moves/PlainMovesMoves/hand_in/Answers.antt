@@ -1,22 +1,23 @@
-use Rattle.std.proofs.Common.{◌+◌, Some, set, subst, ap, sym, ◌∙◌, arith}
-use Rattle.frame_core.specs.Plain.{plain_key, plain_view, plain_tick}
-use Rattle.frame_core.specs.Block.{block}
+use Rattle.std.proofs.Common.{◌+◌, Some, set, subst, ap, sym, ◌∙◌, arith, refl, rules}
+use Rattle.frame_core.specs.Plain.{plain_tick}
+use Rattle.frame_model.specs.Block.{block}
 use Rattle.std.proofs.Common.{◌∷◌}
 use Rattle.frame_core.proofs.PlainOwn.{few_own}
 use Rattle.std.proofs.Common.{◌∷◌}
-use Rattle.frame_core.specs.declared.view.View.{View}
-use Rattle.frame_core.specs.View.{holder}
+use Rattle.frame_model.specs.declared.view.View.{View}
+use Rattle.frame_model.specs.View.{holder}
 use Rattle.frame_core.specs.Plain.{out_count, Agrees}
-use Rattle.frame_core.specs.Seats.{joined_by, hand_in}
+use Rattle.frame_core.specs.PlainState.{key_by, view_by}
+use Rattle.frame_model.specs.Seats.{joined_by, hand_in}
 use Rattle.frame_core.proofs.PlainOuts.{taken_in, one_in, viewed_in}
 use Rattle.frame_core.proofs.plain.moves.PlainMovesMoves.hand_in.Goals as goal
 
 pub push_front_reserved-requires : goal.push_front_reserved-requires
 push_front_reserved-requires c =
     let m = c.args.self.now in
-    let key = plain_key m.geometry m.sealed in
+    let key = key_by m in
     let ws = m.words.items in
-    let v = plain_view key m.outs.items m.paid m.charged m.reserving m.own.items m.filled.items m.moves in
+    let v = view_by m in
     let b = c.args.held in
     let f = c.frame-frame.ensures in
     let o = c.order-order.ensures in
@@ -25,30 +26,41 @@ push_front_reserved-requires c =
 pub invariant_of-self-clause-agrees : goal.invariant_of-self-clause-agrees
 invariant_of-self-clause-agrees c =
     let m = c.args.self.now in
-    let key = plain_key m.geometry m.sealed in
+    let key = key_by m in
     let ws = m.words.items in
-    let v = plain_view key m.outs.items m.paid m.charged m.reserving m.own.items m.filled.items m.moves in
+    let v = view_by m in
     let b = c.args.held in
     let f = c.frame-frame.ensures in
     let o = c.order-order.ensures in
-    subst (λ (w : View). ∥ Agrees key ws (set m.outs.items c.frame-frame.result 0) w ∥₁)
+    subst (λ (w : View). ∥ Agrees key m.them ws (set m.outs.items c.frame-frame.result 0) w ∥₁)
     (viewed_in key _ _ _ _ _ _ _ _ _ _
-    (one_in m.outs.items b.frame c.requires.held.0 (omega (arith, c.requires.held.1))
+    (one_in m.outs.items b.frame c.requires.out.0 (omega (arith, c.requires.out.1))
     ∙ ap (λ i. out_count (set m.outs.items i 0) + 1) (sym f))
     (sym (c.push_front_reserved.ensures.items ∙ (λ i. block (f i) (o i) ∷ m.own.items))) (sym c.saturating_add-self.ensures))
-    (subst (λ i. ∥ Agrees key ws (set m.outs.items i 0) (joined_by plain_tick hand_in v (holder (Some key) b)) ∥₁)
-    (sym f) (taken_in key ws m.outs.items v b m.agrees c.requires.share c.requires.child c.requires.held))
+    (subst (λ i. ∥ Agrees key m.them ws (set m.outs.items i 0) (joined_by plain_tick hand_in v (holder (Some key) b)) ∥₁)
+    (sym f) (taken_in key ws m.outs.items v b m.agrees c.requires.share c.requires.one_child c.requires.out))
 
-pub returns-clause-view : goal.returns-clause-view
-returns-clause-view c =
+pub returns : goal.returns
+returns c =
     let m = c.args.self.now in
-    let key = plain_key m.geometry m.sealed in
+    let key = key_by m in
     let ws = m.words.items in
-    let v = plain_view key m.outs.items m.paid m.charged m.reserving m.own.items m.filled.items m.moves in
+    let v = view_by m in
     let b = c.args.held in
     let f = c.frame-frame.ensures in
     let o = c.order-order.ensures in
-    sym (viewed_in key _ _ _ _ _ _ _ _ _ _
-    (one_in m.outs.items b.frame c.requires.held.0 (omega (arith, c.requires.held.1))
-    ∙ ap (λ i. out_count (set m.outs.items i 0) + 1) (sym f))
-    (sym (c.push_front_reserved.ensures.items ∙ (λ i. block (f i) (o i) ∷ m.own.items))) (sym c.saturating_add-self.ensures))
+    record {
+      keeps = record {
+        same_tie = refl;
+        same_key = refl;
+        stays_alone = λ a. a;
+        others_out = search rules;
+      };
+      missed = refl;
+      view = sym (viewed_in key _ _ _ _ _ _ _ _ _ _
+          (one_in m.outs.items b.frame c.requires.out.0 (omega (arith, c.requires.out.1))
+          ∙ ap (λ i. out_count (set m.outs.items i 0) + 1) (sym f))
+          (sym (c.push_front_reserved.ensures.items ∙ (λ i. block (f i) (o i) ∷ m.own.items))) (sym c.saturating_add-self.ensures));
+      reads = refl;
+      words = λ u. refl;
+    }

@@ -1,43 +1,27 @@
 use Rattle.std.proofs.Common.{refl, ap, sym, ◌∙◌}
-use Rattle.frame_words.specs.Words.{free_in}
-use Rattle.frame_core.specs.Words.{tree_place}
-use Rattle.frame_core.specs.View.{counted}
-use Rattle.frame_core.specs.Steps.{reserve}
-use Rattle.frame_core.specs.Plain.{plain_key, plain_view}
-use Rattle.frame_core.proofs.PlainSteps.{got, reads_but, viewed, stepped, written, tree_bound, tree_low}
+use Rattle.frame_model.specs.Words.{tree_place}
+use Rattle.frame_model.specs.View.{counted}
+use Rattle.frame_model.specs.Steps.{reserve}
+use Rattle.frame_core.specs.PlainState.{key_by, words_by}
+use Rattle.frame_core.proofs.PlainSteps.{got, steps, tries, viewed}
 use Rattle.frame_core.proofs.plain.moves.PlainMovesMoves.reserve.Goals as goal
 
 pub invariant_of-self-clause-agrees : goal.invariant_of-self-clause-agrees
 invariant_of-self-clause-agrees c =
     let m = c.args.self.now in
-    let key = plain_key m.geometry m.sealed in
-    let ws = m.words.items in
-    let v = plain_view key m.outs.items m.paid m.charged m.reserving m.own.items m.filled.items m.moves in
-    let t = c.args.tree in
-    let is = got ws (tree_place key t) c.args.seen c.requires.seen in
-    let room = tree_bound key ws m.outs.items v t m.agrees c.requires.may.inside in
-    let low = tree_low key ws m.outs.items v t m.agrees c.requires.may.inside in
-    let here = ap free_in is in
-    stepped key ws m.outs.items v _ (reserve c.args.tree c.args.seen) c.number_of.result c.tree-left.result m.agrees
-    c.requires.share c.requires.may is (sym c.tree-left.ensures.word)
-    (viewed key m.outs.items _ _ _ _ _ _ _ _ _ _ _ _
-    (ap (counted t) (sym c.tree_free.ensures.value) ∙ sym c.amount_of-self.ensures) refl refl refl refl
-    (sym c.saturating_add-self.ensures)) (sym (c.number_of.ensures.number m.sealed))
+    steps m (reserve c.args.tree c.args.seen) c.requires.share c.requires.may (got (words_by m) (tree_place
+    (key_by m) c.args.tree) c.args.seen c.requires.seen)
+    (c.reserved.ensures c.args.tree c.args.seen c.args.seen)
+    (viewed m (ap (counted c.args.tree) (sym c.tree_free.ensures.value) ∙ sym c.amount_of-self.ensures) refl refl refl refl
+    (sym c.saturating_add-self.ensures))
+    (c.number_of.ensures.number m.sealed)
 
-pub returns-clause-read : goal.returns-clause-read
-returns-clause-read c =
-    λ i n. reads_but c.args.self.now.words.items c.number_of.result c.tree-left.result i
-    (λ e. n (e ∙ c.number_of.ensures.number c.args.self.now.sealed))
-
-pub returns-clause-words : goal.returns-clause-words
-returns-clause-words c =
+pub returns : goal.returns
+returns c =
     let m = c.args.self.now in
-    let key = plain_key m.geometry m.sealed in
-    let ws = m.words.items in
-    let v = plain_view key m.outs.items m.paid m.charged m.reserving m.own.items m.filled.items m.moves in
-    let t = c.args.tree in
-    let is = got ws (tree_place key t) c.args.seen c.requires.seen in
-    let room = tree_bound key ws m.outs.items v t m.agrees c.requires.may.inside in
-    let low = tree_low key ws m.outs.items v t m.agrees c.requires.may.inside in
-    let here = ap free_in is in
-    λ u. (is, written ws _ _ _ _ (c.number_of.ensures.number m.sealed) (sym (sym c.tree-left.ensures.word)))
+    tries m (reserve c.args.tree c.args.seen) c.requires.share c.requires.may (got (words_by m) (tree_place
+    (key_by m) c.args.tree) c.args.seen c.requires.seen)
+    (c.reserved.ensures c.args.tree c.args.seen c.args.seen)
+    (viewed m (ap (counted c.args.tree) (sym c.tree_free.ensures.value) ∙ sym c.amount_of-self.ensures) refl refl refl refl
+    (sym c.saturating_add-self.ensures))
+    (c.number_of.ensures.number m.sealed) refl refl

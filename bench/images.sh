@@ -1,0 +1,33 @@
+#!/usr/bin/env bash
+# Measures `llfree rebuild` and `llfree report` on an image of 4,096 children, file to file, beside a
+# plain Rust program that does the same. It needs rustc and python3, and a built
+# crates/llfree/out/llfree. Each figure is the least of RUNS runs, of a whole process.
+set -eu
+here=$(cd "$(dirname "$0")" && pwd)
+program=$here/../crates/llfree/out/llfree
+runs=${RUNS:-20}
+folder=$(mktemp -d)
+trap 'rm -rf "$folder"' EXIT
+[ -x "$program" ] || { echo 'run ./llfree once first: it builds the program' >&2; exit 1; }
+python3 "$here/images.py" "$folder/image.csv"
+rustc --edition 2021 -O -o "$folder/reference" "$here/reference/images.rs"
+
+# the least wall time of some runs, in microseconds
+least() {
+    best=
+    for _ in $(seq "$runs"); do
+        start=$(date +%s%N)
+        "$1" "$2" <"$folder/image.csv" >"$3"
+        took=$((($(date +%s%N) - start) / 1000))
+        if [ -z "$best" ] || [ "$took" -lt "$best" ]; then best=$took; fi
+    done
+    echo "$best"
+}
+
+printf '%-28s %10s %12s %6s\n' 'image (4,096 children)' 'llfree us' 'reference us' ratio
+for command in rebuild report; do
+    ours=$(least "$program" "$command" "$folder/ours")
+    theirs=$(least "$folder/reference" "$command" "$folder/theirs")
+    cmp -s "$folder/ours" "$folder/theirs" || { echo "$command: the outputs differ" >&2; exit 1; }
+    printf '%-28s %10d %12d %6s\n' "$command" "$ours" "$theirs" "$(awk "BEGIN { printf \"%.2f\", $ours / $theirs }")"
+done

@@ -1,5 +1,0 @@
-use Rattle.std.proofs.Common.{ap}
-use Rattle.core_frames.proofs.labelled_blocks.LabelledBlocks.remove_oldest.Goals as goal
-
-pub returns-clause-none : goal.returns-clause-none
-returns-clause-none g c = rw (ap (λ list. list.entries) c.self.view_is) at c.take_oldest.ensures.none

@@ -1,0 +1,61 @@
+-- What takes, gives and splits through a core leave.
+use Rattle.std.specs.Prelude.{◌≡◌, ℕ, pos, ◌+◌, ◌+ℤ◌, ◌-ℤ◌, ◌<◌, ◌≤◌, Result, IfOk, IfErr}
+use Rattle.frame_words.specs.declared.fault.TakeFault.{TakeFault}
+use Rattle.frame_words.specs.declared.fault.TakeFault.TheVariants.{BadOrder, NoBlock, Contended}
+use Rattle.frame_core.specs.Key.{tree_count}
+use Rattle.frame_core.specs.Holding.{IsFreeBlock}
+use Rattle.low_frames.specs.Outcomes.{HasNoBootFrame}
+use Rattle.frame_table.specs.Seats.{block_in}
+use Rattle.frame_table.specs.declared.block.Block.{Block}
+use Rattle.core_frames.specs.declared.allocator.Allocator.{Allocator}
+use Rattle.core_frames.specs.declared.allocator.Core.{Core}
+use Rattle.core_frames.specs.Cores.{memory_of, view_in, kept_by, lent_by, moves_by, losses_by, IsOutOf}
+use Rattle.core_frames.specs.Splits.{AreHalves}
+
+-- a block of the order is out, none of whose frames the core keeps or the opening held back, and one
+-- block more is lent
+pub record HasTaken (a : Allocator) (n : ℕ) (b : Block) (c d : Core) : Type 0 where
+  pub is_out : IsOutOf a b
+  pub order : (block_in b).order ≡ n
+  pub apart : IsFreeBlock (kept_by c) (block_in b)
+  pub no_boot_frame : HasNoBootFrame (memory_of a) (block_in b)
+  pub lent : lent_by d ≡ lent_by c +ℤ pos 1
+
+-- each tree of the memory was looked at, for an order of blocks
+pub record HasLookedAround (a : Allocator) (n : ℕ) (c d : Core) : Type 0 where
+  pub order : n ≤ 9
+  pub looked : moves_by c + tree_count (memory_of a) ≤ moves_by d
+
+-- why a take of an order was refused: there is none of that order, and no move was made; or each
+-- tree was looked at, and no exchange was lost in this call, or one was
+abbrev pub IsRefusedFor : Allocator → ℕ → Core → Core → TakeFault → Type 0
+IsRefusedFor a n c d BadOrder = (9 < n) × (view_in d ≡ view_in c)
+IsRefusedFor a n c d NoBlock = HasLookedAround a n c d × (losses_by d ≡ losses_by c)
+IsRefusedFor a n c d Contended = HasLookedAround a n c d × (losses_by c < losses_by d)
+
+-- a take of a block of the order: one is out and lent, or it is refused and nothing is; what the core
+-- keeps is as before
+pub record TakesThrough (a : Allocator) (n : ℕ) (answer : Result Block TakeFault) (c d : Core)
+    : Type 0 where
+  pub kept : kept_by d ≡ kept_by c
+  pub ok : IfOk answer (λ b. HasTaken a n b c d)
+  pub err : IfErr answer (λ fault. IsRefusedFor a n c d fault × (lent_by d ≡ lent_by c))
+
+-- one block less is lent, and what the core keeps is as before
+pub record HasGiven (c d : Core) : Type 0 where
+  pub kept : kept_by d ≡ kept_by c
+  pub lent : lent_by d ≡ lent_by c -ℤ pos 1
+
+-- the halves of the block are out, and one block more is lent
+pub record HasSplit (a : Allocator) (b first second : Block) (c d : Core) : Type 0 where
+  pub are_halves : AreHalves (block_in b) (block_in first) (block_in second)
+  pub first_out : IsOutOf a first
+  pub second_out : IsOutOf a second
+  pub lent : lent_by d ≡ lent_by c +ℤ pos 1
+
+-- a split of the block: its halves are out; or it has none, and was handed back with no move
+pub record SplitsThrough (a : Allocator) (b : Block) (answer : Result (Block × Block) Block)
+    (c d : Core) : Type 0 where
+  pub kept : kept_by d ≡ kept_by c
+  pub ok : IfOk answer (λ r. HasSplit a b r.0 r.1 c d)
+  pub err : IfErr answer (λ same. (same ≡ b) × ((block_in b).order ≡ 0) × (d ≡ c))

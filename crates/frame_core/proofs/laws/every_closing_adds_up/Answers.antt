@@ -1,5 +1,0 @@
-use Rattle.frame_core.proofs.Closing.{every_closing_adds_up, every_closing_holds_the_kept}
-use Rattle.frame_core.proofs.laws.every_closing_adds_up.Goals as goal
-
-pub returns : goal.returns
-returns c = record { counters = every_closing_adds_up; held = every_closing_holds_the_kept }

@@ -1,5 +1,0 @@
-use Rattle.frame_core.proofs.Sample.Whole.{happening}
-use Rattle.frame_core.proofs.laws.every_form_of_event_happens.Goals as goal
-
-pub returns : goal.returns
-returns c = happening

@@ -1,5 +1,0 @@
-use Rattle.frame_core.proofs.Opening.{every_run_from_sealed, every_run_from_reopening}
-use Rattle.frame_core.proofs.laws.every_run_from_an_opening_fits.Goals as goal
-
-pub returns : goal.returns
-returns c = record { sealed = every_run_from_sealed; reopening = every_run_from_reopening }

@@ -1,0 +1,16 @@
+use Rattle.std.proofs.Common.{refl}
+use Rattle.frame_model.specs.Steps.{claim}
+use Rattle.frame_core.proofs.Scripts.{lost_by, won_by}
+use Rattle.frame_core.proofs.script.moves.ScriptMovesMoves.claim.Goals as goal
+
+pub returns-then-loses : goal.returns-then-loses
+returns-then-loses c = λ from order e.
+    lost_by c.args.self.now c.loses.new.self (claim c.args.word c.args.seen from order) _
+    c.args.seen (c.loses.ensures.lost c.if-loses.true) refl
+
+pub returns : goal.returns
+returns c = λ from order e.
+    won_by c.args.self.now c.loses.new.self _ c.find.new.self c.claim-made.new.self (claim c.args.word c.args.seen from order) _
+    (c.loses.ensures.ready c.if-loses.false)
+    (record { plain = refl; cues = refl; begun = refl; missed = refl; read = refl }) c.find.ensures.found refl (λ v. refl)
+    c.args.seen c.claim-made.result (c.loses.ensures.stands c.if-loses.false) (c.claim-made.ensures from order e)

@@ -1,0 +1,10 @@
+use Rattle.std.proofs.Common.{refl}
+use Rattle.frame_core.proofs.Scripts.{loaded_by}
+use Rattle.frame_core.proofs.script.moves.ScriptMovesMoves.load.Goals as goal
+
+pub returns : goal.returns
+returns c =
+    loaded_by c.args.self.now c.prompt.new.self _ c.find.new.self c.load.new.self c.args.place c.load.result c.find.result _
+    c.prompt.ensures.ready
+    (record { plain = refl; cues = refl; begun = refl; missed = refl; read = refl }) c.find.ensures.found refl c.find.ensures.here
+    c.find.ensures.value c.load.ensures

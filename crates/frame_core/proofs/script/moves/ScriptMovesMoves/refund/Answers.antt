@@ -1,0 +1,10 @@
+use Rattle.std.proofs.Common.{refl}
+use Rattle.frame_model.specs.Steps.{refund}
+use Rattle.frame_core.proofs.Scripts.{made_by}
+use Rattle.frame_core.proofs.script.moves.ScriptMovesMoves.refund.Goals as goal
+
+pub returns : goal.returns
+returns c =
+    made_by c.args.self.now c.prompt.new.self _ c.find.new.self c.refund.new.self (refund c.args.child c.args.n) _
+    c.prompt.ensures.ready
+    (record { plain = refl; cues = refl; begun = refl; missed = refl; read = refl }) c.find.ensures.found refl (λ v. refl) c.refund.ensures

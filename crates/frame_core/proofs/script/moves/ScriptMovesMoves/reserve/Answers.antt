@@ -1,0 +1,16 @@
+use Rattle.std.proofs.Common.{refl}
+use Rattle.frame_model.specs.Steps.{reserve}
+use Rattle.frame_core.proofs.Scripts.{lost_by, won_by}
+use Rattle.frame_core.proofs.script.moves.ScriptMovesMoves.reserve.Goals as goal
+
+pub returns-then-loses : goal.returns-then-loses
+returns-then-loses c =
+    lost_by c.args.self.now c.loses.new.self (reserve c.args.tree c.args.seen) _
+    c.args.seen (c.loses.ensures.lost c.if-loses.true) refl
+
+pub returns : goal.returns
+returns c =
+    won_by c.args.self.now c.loses.new.self _ c.find.new.self c.reserve-made.new.self (reserve c.args.tree c.args.seen) _
+    (c.loses.ensures.ready c.if-loses.false)
+    (record { plain = refl; cues = refl; begun = refl; missed = refl; read = refl }) c.find.ensures.found refl (λ v. refl)
+    c.args.seen c.reserve-made.result (c.loses.ensures.stands c.if-loses.false) c.reserve-made.ensures

@@ -1,0 +1,114 @@
+//! What happens just before a move, as the script says.
+
+ghost use Rattle.std.specs.Prelude.{◌≡◌, ◌≢◌, true, false};
+ghost use Rattle.frame_core.specs.PlainState.{words_by, IsStill};
+ghost use Rattle.frame_core.specs.Script.{HasCue, IsNotAt, LosesAt};
+ghost use Rattle.frame_core.specs.ScriptState.{
+  at_by,
+  one_skipped,
+  Counts,
+  IsButPlain,
+  IsReady,
+  IsUntold,
+  IsQuiet,
+  StrangerMay,
+};
+
+use super::{Cue, ScriptMoves, What};
+use crate::act::Act;
+
+const STRANGERS: u32 = 8;
+
+impl ScriptMoves {
+    // Makes all cues of the next move, in their order; answers whether it is to be lost.
+    pub(crate) fn prompt(&mut self, is_exchange: bool) -> bool
+        ensures ready { IsReady self.old self.new }
+        ensures loses { result ≡ true → LosesAt (at_by self.old) self.old.cues.items }
+    {
+        let mut loses = false;
+        for i in 0..self.cues.len() {
+            let cue = self.cues[i];
+            if self.meet(cue, is_exchange) {
+                loses = true;
+            }
+        }
+        loses
+    }
+
+    // The cue happens where it is for the next move; answers whether it loses it.
+    fn meet(&mut self, cue: Cue, is_exchange: bool) -> bool
+        requires { HasCue self.old.cues.items cue }
+        ensures still { IsStill self.old.plain self.new.plain }
+        ensures untold { IsUntold self.old self.new }
+        ensures loses { result ≡ true → LosesAt (at_by self.old) self.old.cues.items }
+        ensures quiet { IsNotAt (at_by self.old) cue → IsQuiet self.old.plain self.new.plain }
+    {
+        if u64::from(cue.at) != self.at() {
+            return false;
+        }
+        self.play(cue, is_exchange)
+    }
+
+    // How many moves the caller has made since the script began.
+    fn at(&self) -> u64
+        ensures { result ≡ at_by self.now }
+    {
+        self.plain.moves().saturating_sub(self.begun)
+    }
+
+    // One cue happens; answers whether it loses the move.
+    fn play(&mut self, cue: Cue, is_exchange: bool) -> bool
+        requires is_cue { HasCue self.old.cues.items cue }
+        requires at { cue.at ≡ at_by self.old }
+        ensures still { IsStill self.old.plain self.new.plain }
+        ensures untold { IsUntold self.old self.new }
+        ensures loses { result ≡ true → cue.what ≡ What.Lose }
+        ensures counts { Counts cue.what is_exchange self.old self.new }
+        ensures quiet { cue.what ≡ What.Stop → IsQuiet self.old.plain self.new.plain }
+        ensures stops { cue.what ≡ What.Stop → (self.new.has_stopped ≡ true)
+            × (self.new.stop.words ≡ words_by self.old.plain) }
+        ensures goes_on { cue.what ≢ What.Stop → (self.new.has_stopped ≡ self.old.has_stopped)
+            × (self.new.stop ≡ self.old.stop) }
+    {
+        match cue.what {
+            What::Lose => {
+                if !is_exchange {
+                    self.skip();
+                }
+                is_exchange
+            }
+            What::Stranger { who, act } => {
+                if !self.acts(who, act) {
+                    self.skip();
+                }
+                false
+            }
+            What::Stop => {
+                self.plain.copy_to(&mut self.stop);
+                self.has_stopped = true;
+                false
+            }
+        }
+    }
+
+    // The stranger makes the act, where it may.
+    fn acts(&mut self, who: u32, act: Act) -> bool
+        ensures still { IsStill self.old.plain self.new.plain }
+        ensures only { IsButPlain self.old self.new }
+        ensures allowed { result ≡ true → StrangerMay who act self.old.plain }
+        ensures refused { result ≡ false → StrangerMay who act self.old.plain → ⊥ }
+    {
+        who < STRANGERS && self.plain.stranger(who as usize, act)
+    }
+
+    // The cue is counted as not made.
+    fn skip(&mut self)
+        ensures plain { self.new.plain ≡ self.old.plain }
+        ensures untold { IsUntold self.old self.new }
+        ensures skipped { self.new.skipped ≡ one_skipped self.old.skipped }
+        ensures stop { (self.new.stop ≡ self.old.stop)
+            × (self.new.has_stopped ≡ self.old.has_stopped) }
+    {
+        self.skipped = self.skipped.saturating_add(1);
+    }
+}

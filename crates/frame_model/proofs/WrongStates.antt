@@ -1,0 +1,90 @@
+-- None of the wrong states is safe, adds up or survives.
+use Rattle.std.proofs.Common.{◌≡◌, ◌≢◌, ℕ, ◌*◌, true, refl, arith}
+use Rattle.std.specs.Prelude.{if◌then◌else◌, Bool, false, map}
+use Rattle.std.proofs.lemmas.List.Elements.{All-map, All-contains}
+use Rattle.frame_model.specs.Key.{is_boot_frame}
+use Rattle.frame_model.specs.Laws.{form_of}
+use Rattle.frame_model.specs.WrongStates.{BlocksOverlap, BlockIsOutside, SeatIsPastTheEnd, EntryPromisesTooMuch, HugeFramePromises, TreePromisesTooMuch, EntryIsOff, TreeIsOff, ReservationIsOff, RebuiltEntryDiffers, RebuiltTreeDiffers, SetWithoutABlock, ClearInABlock, FlagIsOff, KnownOverlap, KnownIsFree, NamedIsFree, LostWithoutAStop, LosesTooMuch, ExactEntryIsOff, ExactTreeIsOff, ReservedStill, RestingStill, FormIsMissing}
+
+pub blocks_overlap : BlocksOverlap
+blocks_overlap key words views x two safe = omega (arith, safe.held.disjoint x)
+
+pub block_is_outside : BlockIsOutside
+block_is_outside key words views not safe = not safe.held.blocks
+
+pub seat_is_past_the_end : SeatIsPastTheEnd
+seat_is_past_the_end key words views x past some safe = omega (arith, safe.inside x past)
+
+pub entry_promises_too_much : EntryPromisesTooMuch
+entry_promises_too_much key words views c h more safe = omega (arith, safe.entries c h)
+
+pub huge_frame_promises : HugeFramePromises
+huge_frame_promises key words views c h flag some safe = omega (arith, safe.huge c h flag)
+
+pub tree_promises_too_much : TreePromisesTooMuch
+tree_promises_too_much key words views t h more safe = omega (arith, safe.trees t h)
+
+pub entry_is_off : EntryIsOff
+entry_is_off key words c h off adds = off (adds.entries c h)
+
+pub tree_is_off : TreeIsOff
+tree_is_off key words t h off adds = off (adds.trees t h)
+
+pub reservation_is_off : ReservationIsOff
+reservation_is_off key words t h off adds = off (adds.reserved t h)
+
+pub rebuilt_entry_differs : RebuiltEntryDiffers
+rebuilt_entry_differs key words again c r h off adds = off (adds.same_entries again r c h)
+
+pub rebuilt_tree_differs : RebuiltTreeDiffers
+rebuilt_tree_differs key words again t r h off adds = off (adds.same_trees again r t h)
+
+not_named : (b : Bool) → b ≢ true → ◌≡◌ {A = ℕ} (if b then 1 else 0) 0
+not_named true ne = absurd (ne refl)
+not_named false ne = refl
+
+pub set_without_a_block : SetWithoutABlock
+set_without_a_block key words blocks x h set none unnamed holds =
+    omega (arith, holds.bits x h, not_named (is_boot_frame key x) unnamed)
+
+pub clear_in_a_block : ClearInABlock
+clear_in_a_block key words blocks x h clear some holds = omega (arith, holds.bits x h)
+
+pub flag_is_off : FlagIsOff
+flag_is_off key words blocks c h off holds = off (holds.huge c h)
+
+pub known_overlap : KnownOverlap
+known_overlap m x two lives = omega (arith, lives.known_apart.disjoint x)
+
+pub known_is_free : KnownIsFree
+known_is_free m x some free lives = omega (arith, lives.known_held x)
+
+pub named_is_free : NamedIsFree
+named_is_free m x h named free lives = let held = lives.named_held x h named in omega (arith, held.0)
+
+pub lost_without_a_stop : LostWithoutAStop
+lost_without_a_stop m x h lost none lives = omega (arith, lives.were_in_flight x h lost)
+
+pub loses_too_much : LosesTooMuch
+loses_too_much m one once more lives =
+    let most = lives.few_lost in
+    omega (arith, most, bound m.key.cores m.stops one once)
+  where
+    bound : (cores stops : ℕ) → cores ≡ 1 → stops ≡ 1 → 512 * cores * stops ≡ 512
+    bound cores stops one once = rw (one, once) refl
+
+pub exact_entry_is_off : ExactEntryIsOff
+exact_entry_is_off key words c h off exact = off (exact.entries c h)
+
+pub exact_tree_is_off : ExactTreeIsOff
+exact_tree_is_off key words t h off exact = off (exact.trees t h)
+
+pub reserved_still : ReservedStill
+reserved_still key words t h some exact = omega (arith, exact.unreserved t h)
+
+pub resting_still : RestingStill
+resting_still key words t some exact = omega (arith, exact.resting t)
+
+pub form_is_missing : FormIsMissing
+form_is_missing events form all every =
+    All-contains (λ f. f ≢ form) (map form_of events) form (All-map (λ f. f ≢ form) form_of events all) (every form) refl

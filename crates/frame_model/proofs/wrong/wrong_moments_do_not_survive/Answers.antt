@@ -1,0 +1,11 @@
+use Rattle.frame_model.proofs.WrongStates.{known_overlap, known_is_free, named_is_free, lost_without_a_stop, loses_too_much}
+use Rattle.frame_model.proofs.wrong.wrong_moments_do_not_survive.Goals as goal
+
+pub returns : goal.returns
+returns c = record {
+  overlap = known_overlap;
+  known = known_is_free;
+  named = named_is_free;
+  lost = lost_without_a_stop;
+  too_many = loses_too_much;
+}

@@ -1,0 +1,78 @@
+//! What would be wrong, and is told: steps, states, closings, moments, and a form that is missing.
+
+ghost use Rattle.frame_model.specs.WorkedLaws.{FormsAreApart};
+ghost use Rattle.frame_model.specs.WrongStates.{BlocksOverlap, BlockIsOutside, SeatIsPastTheEnd};
+ghost use Rattle.frame_model.specs.WrongStates.{EntryPromisesTooMuch, HugeFramePromises};
+ghost use Rattle.frame_model.specs.WrongStates.{TreePromisesTooMuch, EntryIsOff, TreeIsOff};
+ghost use Rattle.frame_model.specs.WrongStates.{ReservationIsOff, RebuiltEntryDiffers};
+ghost use Rattle.frame_model.specs.WrongStates.{RebuiltTreeDiffers, SetWithoutABlock};
+ghost use Rattle.frame_model.specs.WrongStates.{ClearInABlock, FlagIsOff, KnownOverlap};
+ghost use Rattle.frame_model.specs.WrongStates.{KnownIsFree, NamedIsFree, LostWithoutAStop};
+ghost use Rattle.frame_model.specs.WrongStates.{LosesTooMuch, ExactEntryIsOff, ExactTreeIsOff};
+ghost use Rattle.frame_model.specs.WrongStates.{ReservedStill, RestingStill, FormIsMissing};
+ghost use Rattle.frame_model.specs.WrongSteps.{BitsBeforeTheCharge, ClaimsUncharged};
+ghost use Rattle.frame_model.specs.WrongSteps.{RefundBeforeTheRelease, HugeFrom511};
+ghost use Rattle.frame_model.specs.WrongSteps.{DropsTheRestingCount, ReservesTwice, HandsOutHalf};
+ghost use Rattle.frame_model.specs.WrongSteps.{FlagDroppedBeforeTheBits, AreMet};
+
+/// Each wrong step leads from words and views that agree to such as do not; and what it asks for
+/// is met at a state that is reached from an opening.
+pub fn wrong_steps_do_not_fit()
+    ensures bits_before_the_charge { BitsBeforeTheCharge }
+    ensures claims_uncharged { ClaimsUncharged }
+    ensures refund_before_the_release { RefundBeforeTheRelease }
+    ensures huge_from_511 { HugeFrom511 }
+    ensures drops_the_resting_count { DropsTheRestingCount }
+    ensures reserves_twice { ReservesTwice }
+    ensures hands_out_half { HandsOutHalf }
+    ensures flag_dropped_before_the_bits { FlagDroppedBeforeTheBits }
+    ensures met { AreMet }
+{}
+
+/// No words and views are safe where blocks overlap or lie outside, where a seat is past the end, or
+/// where a counter promises more than is free.
+pub fn wrong_states_are_not_safe()
+    ensures overlap { BlocksOverlap }
+    ensures outside { BlockIsOutside }
+    ensures past_the_end { SeatIsPastTheEnd }
+    ensures entry { EntryPromisesTooMuch }
+    ensures huge_frame { HugeFramePromises }
+    ensures tree { TreePromisesTooMuch }
+{}
+
+/// No words add up where a counter or a reservation is off, or rebuilding makes another; and none
+/// hold just some blocks where a frame or a child is set and no block's, or the other way round.
+pub fn wrong_closings_do_not_add_up()
+    ensures entry { EntryIsOff }
+    ensures tree { TreeIsOff }
+    ensures reservation { ReservationIsOff }
+    ensures rebuilt_entry { RebuiltEntryDiffers }
+    ensures rebuilt_tree { RebuiltTreeDiffers }
+    ensures set { SetWithoutABlock }
+    ensures clear { ClearInABlock }
+    ensures flag { FlagIsOff }
+{}
+
+/// No moment survives where known blocks overlap or are free, a frame that the key names is free,
+/// a frame is lost that was not in flight, or too many are.
+pub fn wrong_moments_do_not_survive()
+    ensures overlap { KnownOverlap }
+    ensures known { KnownIsFree }
+    ensures named { NamedIsFree }
+    ensures lost { LostWithoutAStop }
+    ensures too_many { LosesTooMuch }
+{}
+
+/// No counters are exact where one is off, or where something is reserved or rests.
+pub fn wrong_counters_are_not_exact()
+    ensures entry { ExactEntryIsOff }
+    ensures tree { ExactTreeIsOff }
+    ensures reserved { ReservedStill }
+    ensures resting { RestingStill }
+{}
+
+/// The forms of events are 27, all apart, and no list of events is of every form where one is missing.
+pub fn a_missing_form_is_seen()
+    ensures missing { FormIsMissing }
+    ensures apart { FormsAreApart }
+{}

@@ -1,0 +1,102 @@
+-- What is kept at a closing is held in the words, and where nothing is lent, nothing else is.
+use Rattle.std.proofs.Common.{◌≡◌, ℕ, ◌+◌, ◌^◌, ◌<◌, ◌≤◌, max, List, [], ◌∷◌, ◌++◌, length, get_or, refl, sym, subst, ◌∙◌, arith}
+use Rattle.std.specs.List.{All}
+use Rattle.std.proofs.lemmas.Bool.Decides.{nat_tests}
+use Rattle.std.proofs.lemmas.List.Sums.{get_or-le-sum_by}
+use Rattle.std.proofs.lemmas.List.Elements.{All-head, All-tail, All-nil, All-append}
+use lib.ListN.{get_elem?}
+use mathlib.Core.Option.{some}
+use Rattle.frame_model.specs.declared.block.FrameBlock.{FrameBlock}
+use Rattle.frame_model.specs.declared.key.Key.{Key}
+use Rattle.frame_model.specs.declared.view.View.{View}
+use Rattle.frame_core.specs.Key.{frame_count, child_of}
+use Rattle.frame_core.specs.Block.{IsBlock, covers, small_at, whole_at, smalls, wholes}
+use Rattle.frame_core.specs.Words.{bit_of, huge_of}
+use Rattle.frame_core.specs.View.{marks, whole_in}
+use Rattle.frame_core.specs.Events.{views_of}
+use Rattle.frame_core.specs.Fit.{Fit}
+use Rattle.frame_core.specs.Laws.{HoldsJust}
+use Rattle.frame_core.specs.Report.{held_at}
+use Rattle.frame_model.proofs.Safe.{covers_is}
+use Rattle.frame_model.proofs.Steps.Shared.{at-le-total, bit-le}
+use Rattle.frame_model.proofs.Steps.SeatViews.{blocks_are}
+use Rattle.atomic_table.proofs.Lists.{at_map}
+use Rattle.frame_table.specs.declared.seats.CoreSeat.{CoreSeat}
+use Rattle.frame_table.specs.declared.table.FrameTable.{FrameTable}
+use Rattle.frame_table.specs.Rule.{view_in}
+use Rattle.frame_table.specs.Seats.{key_at, view_of, IsIdleSeat}
+use Rattle.frame_table.specs.Closing.{kept_through, IsClosed, IsHeldIn}
+
+kept_none : kept_through [] ≡ []
+unfolding kept_through
+kept_none = refl
+
+kept_cons : (s : CoreSeat) (seats : List CoreSeat)
+    → kept_through (s ∷ seats) ≡ (view_of s).kept ++ kept_through seats
+unfolding kept_through
+kept_cons s seats = refl
+
+pub kept_blocks : (t : FrameTable) (seats : List CoreSeat) → All (IsIdleSeat t) seats
+    → All (IsBlock (key_at t)) (kept_through seats)
+kept_blocks t [] all = subst (All (IsBlock (key_at t))) (sym kept_none) (All-nil (IsBlock (key_at t)))
+kept_blocks t (s ∷ seats) all =
+    let is : IsIdleSeat t s = All-head (IsIdleSeat t) s seats all in
+    subst (All (IsBlock (key_at t))) (sym (kept_cons s seats))
+    (All-append (IsBlock (key_at t)) (view_of s).kept (kept_through seats)
+    (blocks_are (key_at t) (view_of s) is.sits.at.is_view).1
+    (kept_blocks t seats (All-tail (IsIdleSeat t) s seats all)))
+
+smalls_at : (x : ℕ) (bs : List FrameBlock) (k : ℕ) (d : FrameBlock) → k < length bs
+    → small_at x (get_or bs k d) ≤ smalls x bs
+unfolding smalls
+smalls_at x bs k d h = get_or-le-sum_by (small_at x) bs k d h
+
+wholes_at : (c : ℕ) (bs : List FrameBlock) (k : ℕ) (d : FrameBlock) → k < length bs
+    → whole_at c (get_or bs k d) ≤ wholes c bs
+unfolding wholes
+wholes_at c bs k d h = get_or-le-sum_by (whole_at c) bs k d h
+
+held_max : (key : Key) (ws : List ℕ) (x : ℕ)
+    → held_at key ws x ≡ max (bit_of key ws x) (huge_of ws (child_of x))
+unfolding held_at
+held_max key ws x = refl
+
+covered_below : (b : FrameBlock) (x : ℕ) → covers b x ≡ 1 → x < b.frame + 2 ^ b.order
+unfolding covers
+covered_below b x h = grind (arith, nat_tests)
+
+module _ (key : Key) (seats : List CoreSeat) (ws : List ℕ) (closed : IsClosed key seats ws) where
+  pub kept_held : All (IsBlock key) (kept_through seats) → All (IsHeldIn key ws) (kept_through seats)
+  kept_held all k d h x c =
+      let vs : List View = views_of closed.state in
+      let v : View = closed.eye.view in
+      let at : get_elem? vs closed.id ≡ some v = at_map view_in closed.state.eyes closed.id closed.eye closed.at in
+      let fit : Fit key key.cores ws vs = subst (λ us. Fit key key.cores us vs) closed.words closed.fits in
+      let b : FrameBlock = get_or (kept_through seats) k d in
+      let is : IsBlock key b = all k d h in
+      let inside : x < frame_count key = omega (arith, covered_below b x c, is.inside) in
+      let set = at-le-total key key.cores ws vs closed.id v fit at (marks x) in
+      let huge = at-le-total key key.cores ws vs closed.id v fit at (whole_in (child_of x)) in
+      omega (
+        arith,
+        held_max key ws x,
+        c,
+        covers_is key x b is,
+        set,
+        huge,
+        fit.bits x inside,
+        fit.wholes (child_of x) (omega (arith, inside)),
+        smalls_at x (kept_through seats) k d h,
+        wholes_at (child_of x) (kept_through seats) k d h,
+        closed.gathered.smalls x,
+        closed.gathered.wholes (child_of x),
+        bit-le key ws x,
+        fit.words_in_range.huge (child_of x) (omega (arith, inside)),
+      )
+
+  -- what is held just by the one view is held just by what the seats keep
+  pub just_kept : HoldsJust key ws closed.eye.view.kept → HoldsJust key ws (kept_through seats)
+  just_kept just = record {
+    bits = λ x h. omega (arith, just.bits x h, closed.gathered.smalls x);
+    huge = λ c h. just.huge c h ∙ closed.gathered.wholes c;
+  }

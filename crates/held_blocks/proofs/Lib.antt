@@ -1,0 +1,9 @@
+pub mod LabelLemmas
+pub mod ChainSteps
+pub mod ChainLists
+pub mod TableLemmas
+pub mod Slots
+pub mod StoreLemmas
+pub mod Outcomes
+pub mod HeldLemmas
+pub mod DeskLemmas

@@ -1,0 +1,18 @@
+//! Blocks that a core holds: their labels, and the list of them, oldest first.
+#![tactic(auto)]
+
+mod block_store;
+mod compaction;
+mod frame_places;
+mod label;
+mod label_chains;
+mod labelled_block;
+mod labelled_blocks;
+mod lookups;
+mod removals;
+#[cfg(test)]
+mod tests;
+
+pub use label::Label;
+pub use labelled_block::LabelledBlock;
+pub use labelled_blocks::LabelledBlocks;

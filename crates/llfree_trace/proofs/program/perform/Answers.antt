@@ -1,0 +1,41 @@
+use Rattle.std.proofs.Common.{◌≡◌, ◌∙◌, ap, Err}
+use Rattle.frame_words.specs.declared.fault.Fault.TheVariants as fault
+use Rattle.llfree_trace.specs.Program.{Does, DoesFront}
+use Rattle.llfree_trace.proofs.Statuses.{run_ends, rebuild_ends, report_ends}
+use Rattle.llfree_trace.proofs.program.perform.Goals as goal
+
+pub returns-in-Ok-clause-done : goal.returns-in-Ok-clause-done
+unfolding Does
+returns-in-Ok-clause-done g c =
+    let made = c.in_ok-geometry-in-Run.ensures in
+    rw c.in-Run.is (c.in_ok-geometry-in-Run.geometry, made.sizes, (made.lawful, made.served), c.in-Ok.ensures.written)
+
+pub returns-in-Err-clause-why : goal.returns-in-Err-clause-why
+returns-in-Err-clause-why g c =
+    let made = c.in_ok-geometry-in-Run.ensures in
+    let one : c.in_ok-geometry-in-Run.geometry.cores ≡ 1 = made.sizes.cores ∙ made.served in
+    let refused = rw one at c.in-Err.ensures.bad_trace in
+    run_ends c.args.command c.in-Run.sizes c.in-Run.show _ c.in-Err.fault c.in-Run.is made.lawful made.served c.in-Err.ensures.others
+    (λ line e. refused line (ap Err e))
+
+pub returns-in-Err-clause-front : goal.returns-in-Err-clause-front
+unfolding DoesFront
+returns-in-Err-clause-front g c = λ e.
+    let made = c.in_ok-geometry-in-Run.ensures in
+    let failed : c.in-Err.fault ≡ fault.WriteFailed = cc in
+    rw c.in-Run.is (
+      c.in_ok-geometry-in-Run.geometry,
+      made.sizes,
+      (made.lawful, made.served),
+      (c.in-Err.ensures.write_failed (ap Err failed)).1,
+    )
+
+pub returns-in-Err-rebuild_over-clause-why : goal.returns-in-Err-rebuild_over-clause-why
+returns-in-Err-rebuild_over-clause-why g c =
+    let why = c.in-Err-rebuild_over.ensures in
+    rebuild_ends c.args.command _ c.in-Err-rebuild_over.fault c.in-Rebuild.is why.others (λ line e. why.bad_image line (ap Err e))
+
+pub returns-in-Err-report_over-clause-why : goal.returns-in-Err-report_over-clause-why
+returns-in-Err-report_over-clause-why g c =
+    let why = c.in-Err-report_over.ensures in
+    report_ends c.args.command _ c.in-Err-report_over.fault c.in-Report.is why.others (λ line e. why.bad_image line (ap Err e))
