@@ -1,5 +1,6 @@
 pub mod Fields
 pub mod Cores
+pub mod Ranges
 pub mod Parsing
 pub mod Desks
 pub mod Running
