@@ -49,8 +49,8 @@ round_of core third fourth =
 unfoldable pub reserve_of : List ℕ → List ℕ → List ℕ → Option Line
 reserve_of core frame count =
     if length core == 0 then
-        option_and_then (λ f. option_map (λ n. line.Reserve f n) (number_below (2 ^ 32) count))
-        (number_below (2 ^ 32) frame)
+    option_and_then (λ f. option_map (λ n. line.Reserve f n) (number_below (2 ^ 32) count))
+    (number_below (2 ^ 32) frame)
     else None
 
 -- a move of the oldest block under a label from one core to another

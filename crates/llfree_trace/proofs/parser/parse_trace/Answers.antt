@@ -33,9 +33,12 @@ loop-ranges-preserved c =
     let before : core_count c.loop-ranges.lines.items ≤ c.cores-cores.result = inv.2 in
     let longer : length c.push.new.self.items ≡ length c.loop-ranges.lines.items + 1 = ap length items ∙ length_push c.loop-ranges.lines.items c.in-Some.line in
     let cores = core_count_more c.loop-ranges.lines.items c.in-Some.line in
-    let held : c.loop-ranges.ranges.items ≡ ranges_in c.loop-ranges.lines.items = inv.3 in
-    (inv.0 ∙ rw (next, longer, items) more, rw longer (omega (arith, few)), rw (items, cores) (omega (arith, below, before)),
-    rw (items, ranges_in_more) (rw held at c.in_ok-note_range-in-Some.ensures))
+    let held : c.loop-ranges.ranges.items ≡ ranges_in c.loop-ranges.lines.items = inv.3 in (
+      inv.0 ∙ rw (next, longer, items) more,
+      rw longer (omega (arith, few)),
+      rw (items, cores) (omega (arith, below, before)),
+      rw (items, ranges_in_more) (rw held at c.in_ok-note_range-in-Some.ensures),
+    )
 
 pub returns-in-None-clause-refused : goal.returns-in-None-clause-refused
 returns-in-None-clause-refused c =
