@@ -8,5 +8,6 @@ pub mod Splits
 pub mod Ranges
 pub mod Cores
 pub mod Uses
+pub mod Desks
 pub mod LeftFrames
 pub mod Left

@@ -1,5 +1,6 @@
 //! What no clause says.
 
+mod desk;
 mod moves;
 mod plain;
 mod shared;
