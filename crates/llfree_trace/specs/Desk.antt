@@ -13,7 +13,7 @@ pub record DeskState : Type 0 where
   pub list : List LabelledBlock
 
 -- the memory holds no range back, and exactly the blocks of the list are out
-pub record Agrees (allocator : PlainState) (held : List LabelledBlock) : Type 0 where
+pub record HasOut (allocator : PlainState) (held : List LabelledBlock) : Type 0 where
   pub no_ranges : allocator.ranges ≡ []
   pub none_kept : allocator.kept ≡ []
   pub out : (f : FrameBlock → ℕ) → sum_by f (blocks_of held) ≡ sum_by f allocator.out

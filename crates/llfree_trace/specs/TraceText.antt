@@ -64,7 +64,7 @@ unfoldable pub trace_of : ℕ → List ℕ → Result (List Line) ℕ
 trace_of cores text = read_records (lines_with cores) 1 [] (records_of text)
 
 -- why a trace was not read: memory ran out, or this is the number of the lowest refused record
-abbrev pub Explains : Fault → Result (List Line) ℕ → Type 0
-Explains fault.NoMemory read = Unit {0}
-Explains (fault.BadTrace line) read = read ≡ Err line
-Explains _ read = ⊥
+abbrev pub ExplainsTrace : Fault → Result (List Line) ℕ → Type 0
+ExplainsTrace fault.NoMemory read = Unit {0}
+ExplainsTrace (fault.BadTrace line) read = read ≡ Err line
+ExplainsTrace _ read = ⊥

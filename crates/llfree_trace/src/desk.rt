@@ -19,13 +19,13 @@ pub(crate) struct PlainDesk {
 }
 
 impl Model for PlainDesk {
-    ghost use Rattle.llfree_trace.specs.Desk.{Agrees, DeskState};
+    ghost use Rattle.llfree_trace.specs.Desk.{HasOut, DeskState};
 
     ghost Value = { DeskState };
 
     ghost view = { λ d. record { geometry = d.allocator.geometry; list = d.list.entries } };
 
-    ghost invariant = { λ d. Agrees d.allocator d.list.entries };
+    ghost invariant = { λ d. HasOut d.allocator d.list.entries };
 }
 
 impl PlainDesk {

@@ -6,7 +6,7 @@ ghost use Rattle.std.specs.Io.KnownBytes.{Appends};
 ghost use Rattle.frame_image.specs.Devices.{device_of, has_failed, WritesFront};
 ghost use Rattle.llfree_trace.specs.Streams.{IsRunFault, IsRunOf, IsTooLong, WritesFrontOfRun};
 ghost use Rattle.llfree_trace.specs.Streams.{WritesRun, outcome_answers, shown_of};
-ghost use Rattle.llfree_trace.specs.TraceText.{Explains, trace_of};
+ghost use Rattle.llfree_trace.specs.TraceText.{ExplainsTrace, trace_of};
 
 use crate::answers::answers_text;
 use crate::one_core::run_one;
@@ -76,7 +76,7 @@ pub fn run_over<R: Read, W: Write>(
 fn run_text(alloc: Global, geometry: Geometry, show: Show, text: &[u8]) -> Result<Vec<u8>, Fault>
     requires { geometry.cores ≡ 1 }
     ensures ok { IfOk result (λ out. IsRunOf geometry show text.now out.items) }
-    ensures err { IfErr result (λ e. Explains e (trace_of geometry.cores text.now)) }
+    ensures err { IfErr result (λ e. ExplainsTrace e (trace_of geometry.cores text.now)) }
 {
     let trace = parse_trace(alloc, &geometry, text)?;
     let outcome = run_one(alloc, geometry, &trace)?;
