@@ -6,7 +6,7 @@ use Rattle.frame_words.specs.declared.fault.Fault.TheVariants as fault
 use Rattle.frame_words.specs.declared.geometry.Geometry.{Geometry}
 use Rattle.frame_image.specs.ImageText.{image_of}
 use Rattle.llfree_trace.specs.ImageStreams.{IsImageFault}
-use Rattle.llfree_trace.specs.Program.{AreLawful, AreServed, CanDo, Does, EndsCommand, HasSizes, IsRefused, IsUnlawful, MustWait}
+use Rattle.llfree_trace.specs.Program.{AreLawful, AreServed, CanDo, Does, EndsCommand, IsOfSizes, IsRefused, IsUnlawful, MustWait}
 use Rattle.llfree_trace.specs.Streams.{HasBadRanges, IsRunFault}
 use Rattle.llfree_trace.specs.TraceText.{trace_of}
 use Rattle.llfree_trace.specs.declared.command.Command.{Command}
@@ -16,13 +16,13 @@ use Rattle.llfree_trace.specs.declared.program.Failure.TheVariants as failure
 use Rattle.llfree_trace.specs.declared.streams.Show.{Show}
 
 -- a record is refused only in a text that is no trace
-refused_trace : (sizes : Sizes) (show : Show) (g : Geometry) (o : Option (List ℕ)) (line : ℕ) → HasSizes sizes g
+refused_trace : (sizes : Sizes) (show : Show) (g : Geometry) (o : Option (List ℕ)) (line : ℕ) → IsOfSizes sizes g
     → IfSome o (λ text. trace_of g.cores text ≡ Err line) → IfSome o (IsRefused (command.Run sizes show))
 refused_trace sizes show g None line has h = tt
 refused_trace sizes show g (Some text) line has h = (g, has, inl (rw h refl))
 
 -- or in one whose ranges may not be held back
-refused_ranges : (sizes : Sizes) (show : Show) (g : Geometry) (o : Option (List ℕ)) → HasSizes sizes g
+refused_ranges : (sizes : Sizes) (show : Show) (g : Geometry) (o : Option (List ℕ)) → IsOfSizes sizes g
     → IfSome o (HasBadRanges g) → IfSome o (IsRefused (command.Run sizes show))
 refused_ranges sizes show g None has h = tt
 refused_ranges sizes show g (Some text) has h = (g, has, inr h)
@@ -35,7 +35,7 @@ refused_image (Some text) line h = rw h refl
 
 -- each fault of a run says why it ended
 run_of : (sizes : Sizes) (show : Show) (g : Geometry) (input : Option (List ℕ)) (f : Fault) → AreLawful sizes
-    → AreServed sizes → HasSizes sizes g → IsRunFault f
+    → AreServed sizes → IsOfSizes sizes g → IsRunFault f
     → ((line : ℕ) → f ≡ fault.BadTrace line → IfSome input (λ text. trace_of g.cores text ≡ Err line))
     → (f ≡ fault.BadRange → IfSome input (HasBadRanges g))
     → EndsCommand (command.Run sizes show) input (failure.Refused f)
@@ -49,7 +49,7 @@ run_of sizes show g input fault.WriteFailed lawful served has is bad range = (la
 run_of sizes show g input f lawful served has is bad range = absurd is
 
 pub run_ends : (c : Command) (sizes : Sizes) (show : Show) (g : Geometry) (input : Option (List ℕ)) (f : Fault)
-    → c ≡ command.Run sizes show → AreLawful sizes → AreServed sizes → HasSizes sizes g → IsRunFault f
+    → c ≡ command.Run sizes show → AreLawful sizes → AreServed sizes → IsOfSizes sizes g → IsRunFault f
     → ((line : ℕ) → f ≡ fault.BadTrace line → IfSome input (λ text. trace_of g.cores text ≡ Err line))
     → (f ≡ fault.BadRange → IfSome input (HasBadRanges g))
     → EndsCommand c input (failure.Refused f)

@@ -22,19 +22,19 @@ pub record DeskState : Type 0 where
   pub list : List LabelledBlock
 
 -- the key of the memory
-abbrev pub memory_of : DeskState → Key
-memory_of desk = sealed_key desk.geometry desk.ranges
+abbrev pub desk_key : DeskState → Key
+desk_key desk = sealed_key desk.geometry desk.ranges
 
 -- the blocks of the list lie inside the memory, and no two of them share a frame
 abbrev pub IsLawful : DeskState → Type 0
-IsLawful desk = IsHolding (memory_of desk) (blocks_of desk.list)
+IsLawful desk = IsHolding (desk_key desk) (blocks_of desk.list)
 
 -- the memory and its ranges are the same
 abbrev pub IsSameMemory : DeskState → DeskState → Type 0
 IsSameMemory old new = (new.geometry ≡ old.geometry) × (new.ranges ≡ old.ranges)
 
 -- exactly the blocks of the list are out
-pub record Agrees (allocator : PlainState) (held : List LabelledBlock) : Type 0 where
+pub record HasOut (allocator : PlainState) (held : List LabelledBlock) : Type 0 where
   pub none_kept : allocator.kept ≡ []
   pub out : (f : FrameBlock → ℕ) → sum_by f (blocks_of held) ≡ sum_by f allocator.out
 
@@ -46,5 +46,5 @@ MovesToEnd old label r new =
 -- a run of one record on the first core, whatever the others hold
 abbrev pub RunsOne : DeskState → ℕ → Line → Option Answer → DeskState → Type 0
 RunsOne old number line answer new =
-    (others : List (List LabelledBlock)) → Runs MustRefuseHere (memory_of old) number
+    (others : List (List LabelledBlock)) → Runs MustRefuseHere (desk_key old) number
     (old.list ∷ others) (line ∷ []) (option_to_list answer) (new.list ∷ others)

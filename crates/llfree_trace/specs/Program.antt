@@ -29,7 +29,7 @@ abbrev pub frames_of : Sizes → ℕ
 frames_of sizes = unwrap_or sizes.frames (child_frames * sizes.children)
 
 -- the geometry has these sizes
-pub record HasSizes (sizes : Sizes) (g : Geometry) : Type 0 where
+pub record IsOfSizes (sizes : Sizes) (g : Geometry) : Type 0 where
   pub children : g.children ≡ sizes.children
   pub cores : g.cores ≡ sizes.cores
   pub frames : g.frames ≡ frames_of sizes
@@ -53,7 +53,7 @@ CanDo _ = Unit {0}
 -- the known bytes grow by what the command makes of the input
 unfoldable pub Does : Command → Option (List ℕ) → Option (List ℕ) → Option (List ℕ) → Type 0
 Does (command.Run sizes show) input old new =
-    (g : Geometry) × HasSizes sizes g × CanDo (command.Run sizes show)
+    (g : Geometry) × IsOfSizes sizes g × CanDo (command.Run sizes show)
     × IfSome input (λ text. WritesRun g show text old new)
 Does command.Rebuild input old new = IfSome input (λ text. WritesSo IsRebuiltText text old new)
 Does command.Report input old new = IfSome input (λ text. WritesSo IsReportText text old new)
@@ -61,7 +61,7 @@ Does command.Report input old new = IfSome input (λ text. WritesSo IsReportText
 -- the known bytes grow by a front of that
 unfoldable pub DoesFront : Command → Option (List ℕ) → Option (List ℕ) → Option (List ℕ) → Type 0
 DoesFront (command.Run sizes show) input old new =
-    (g : Geometry) × HasSizes sizes g × CanDo (command.Run sizes show)
+    (g : Geometry) × IsOfSizes sizes g × CanDo (command.Run sizes show)
     × IfSome input (λ text. WritesFrontOfRun g show text old new)
 DoesFront command.Rebuild input old new =
     IfSome input (λ text. WritesFrontSo IsRebuiltText text old new)
@@ -84,7 +84,7 @@ IsUnrunnable g text = IsErr (trace_of g.cores text) ⊎ HasBadRanges g text
 
 -- the command reads a trace or an image, and the text is none that it can run or show
 abbrev pub IsRefused : Command → List ℕ → Type 0
-IsRefused (command.Run sizes show) text = (g : Geometry) × HasSizes sizes g × IsUnrunnable g text
+IsRefused (command.Run sizes show) text = (g : Geometry) × IsOfSizes sizes g × IsUnrunnable g text
 IsRefused _ text = IsErr (image_of text)
 
 -- Command lines.

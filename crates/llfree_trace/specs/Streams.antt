@@ -14,7 +14,7 @@ use Rattle.llfree_trace.specs.AnswerText.{answers_of}
 use Rattle.held_blocks.specs.Desk.{MayRefuse}
 use Rattle.llfree_trace.specs.Outcome.{IsAnsweredBy, MustRefuseHere}
 use Rattle.llfree_trace.specs.Trace.{ranges_in}
-use Rattle.llfree_trace.specs.TraceText.{Explains, trace_of}
+use Rattle.llfree_trace.specs.TraceText.{ExplainsTrace, trace_of}
 use Rattle.llfree_trace.specs.declared.line.Line.{Line}
 use Rattle.llfree_trace.specs.declared.reply.Answer.{Answer}
 use Rattle.llfree_trace.specs.declared.streams.Show.{Show}
@@ -67,7 +67,7 @@ pub record HasBadRanges (geometry : Geometry) (text : List ℕ) : Type 0 where
 -- why a trace was not run: the text says none, or its ranges may not be held back
 abbrev pub ExplainsRun : Geometry → List ℕ → Fault → Type 0
 ExplainsRun geometry text fault.BadRange = HasBadRanges geometry text
-ExplainsRun geometry text f = Explains f (trace_of geometry.cores text)
+ExplainsRun geometry text f = ExplainsTrace f (trace_of geometry.cores text)
 
 -- the faults of a run from a reader to a writer
 abbrev pub IsRunFault : Fault → Type 0

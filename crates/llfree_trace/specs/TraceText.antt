@@ -97,14 +97,14 @@ may_follow before (line.Move core label to) = unwrap_or (option_map is_between_r
 may_follow before _ = true
 
 -- the last of the records, if there are any
-abbrev pub last_of : List Line → Option Line
-last_of lines = slice_get lines (length lines - 1)
+abbrev pub last_line : List Line → Option Line
+last_line lines = slice_get lines (length lines - 1)
 
 -- the record behind those so far; none comes behind the most
 unfoldable pub line_after : ℕ → List Line → List (List ℕ) → Option Line
 line_after cores lines row =
     if nat_lt (length lines) most_records
-    then option_and_then (λ l. if may_follow (last_of lines) l then Some l else None)
+    then option_and_then (λ l. if may_follow (last_line lines) l then Some l else None)
     (line_of cores row)
     else None
 
@@ -119,7 +119,7 @@ unfoldable pub trace_of : ℕ → List ℕ → Result (List Line) ℕ
 trace_of cores text = read_records (lines_with cores) 1 [] (records_of text)
 
 -- why a trace was not read: memory ran out, or this is the number of the lowest refused record
-abbrev pub Explains : Fault → Result (List Line) ℕ → Type 0
-Explains fault.NoMemory read = Unit {0}
-Explains (fault.BadTrace line) read = read ≡ Err line
-Explains _ read = ⊥
+abbrev pub ExplainsTrace : Fault → Result (List Line) ℕ → Type 0
+ExplainsTrace fault.NoMemory read = Unit {0}
+ExplainsTrace (fault.BadTrace line) read = read ≡ Err line
+ExplainsTrace _ read = ⊥

@@ -2,7 +2,7 @@
 
 ghost use Rattle.std.specs.Prelude.{◌≡◌, ◌≤◌, ◌<◌, ◌∷◌, ◌++◌, [], IfErr, IfOk, Contains, IsPermutation};
 ghost use Rattle.core_frames.specs.Ranges.{IsUnopenedFor, MayHoldBack};
-ghost use Rattle.llfree_trace.specs.Desk.{memory_of, IsLawful, IsSameMemory, MovesToEnd, RunsOne};
+ghost use Rattle.llfree_trace.specs.Desk.{desk_key, IsLawful, IsSameMemory, MovesToEnd, RunsOne};
 ghost use Rattle.llfree_trace.specs.Trace.{cores_in};
 
 use crate::line::{Line, Request};
@@ -21,7 +21,7 @@ pub(crate) struct PlainDesk {
 }
 
 impl Model for PlainDesk {
-    ghost use Rattle.llfree_trace.specs.Desk.{Agrees, DeskState};
+    ghost use Rattle.llfree_trace.specs.Desk.{HasOut, DeskState};
 
     ghost Value = { DeskState };
 
@@ -31,7 +31,7 @@ impl Model for PlainDesk {
       list = d.list.entries;
     } };
 
-    ghost invariant = { λ d. Agrees d.allocator d.list.entries };
+    ghost invariant = { λ d. HasOut d.allocator d.list.entries };
 }
 
 impl PlainDesk {
@@ -84,7 +84,7 @@ impl PlainDesk {
     // Answers a request.
     #[tactic(auto, unfolding(crate::specs::Outcome::DeskStep))]
     fn answer(&mut self, request: &Request) -> Result<Reply, Fault>
-        ensures step { IfOk result (λ r. DeskStep MustRefuseHere (memory_of self.old)
+        ensures step { IfOk result (λ r. DeskStep MustRefuseHere (desk_key self.old)
             self.old.list request.now r self.new.list) }
         ensures memory { IsSameMemory self.old self.new }
         ensures fault { IfErr result (λ e. e ≡ Fault.NoMemory) }
@@ -99,8 +99,8 @@ impl PlainDesk {
     // Takes a block. Want of memory is answered before the take.
     fn take(&mut self, label: &Label, order: u8) -> Result<Reply, Fault>
         ensures step { IfOk result (SaysTaken (λ o. TakesUnder MustRefuseHere
-            (memory_of self.old) self.old.list label.now order o self.new.list
-            × LeavesBootFrames (memory_of self.old) o)) }
+            (desk_key self.old) self.old.list label.now order o self.new.list
+            × LeavesBootFrames (desk_key self.old) o)) }
         ensures memory { IsSameMemory self.old self.new }
         ensures fault { IfErr result (λ e. e ≡ Fault.NoMemory) }
     {
@@ -169,8 +169,8 @@ impl PlainDesk {
     // The words of the memory. Blocks of the list stay held.
     pub(crate) fn close(self, alloc: Global) -> Result<Image, Fault>
         ensures geometry { IfOk result (λ i. i.geometry ≡ self.geometry) }
-        ensures holds { IfOk result (λ i. HoldsFrames (memory_of self) i.words
-            (blocks_of self.list ++ boot_blocks (memory_of self))) }
+        ensures holds { IfOk result (λ i. HoldsFrames (desk_key self) i.words
+            (blocks_of self.list ++ boot_blocks (desk_key self))) }
         ensures fault { IfErr result (λ e. e ≡ Fault.NoMemory) }
     {
         match self.allocator.close(alloc) {

@@ -7,7 +7,7 @@ ghost use Rattle.csv.specs.Records.{field_at, fields_of};
 ghost use Rattle.frame_image.specs.Numbers.{number_below as the_number_below};
 ghost use Rattle.llfree_trace.specs.Trace.{core_count, cores_in, most_records, range_in};
 ghost use Rattle.llfree_trace.specs.TraceText as Spec;
-ghost use Rattle.llfree_trace.specs.TraceText.{Explains, trace_of};
+ghost use Rattle.llfree_trace.specs.TraceText.{ExplainsTrace, trace_of};
 
 use crate::line::{Line, Request, Trace};
 use core_frames::Label;
@@ -25,7 +25,7 @@ const MOST_RECORDS: usize = 1_000_000;
 pub fn parse_trace(alloc: Global, geometry: &Geometry, text: &[u8]) -> Result<Trace, Fault>
     ensures found { IfOk result (λ trace. trace_of geometry.now.cores text.now ≡ Ok trace) }
     ensures cores { IfOk result (λ trace. core_count trace ≤ geometry.now.cores) }
-    ensures refused { IfErr result (λ e. Explains e (trace_of geometry.now.cores text.now)) }
+    ensures refused { IfErr result (λ e. ExplainsTrace e (trace_of geometry.now.cores text.now)) }
 {
     let cores = geometry.cores();
     let mut records = RecordReader::new(alloc, text);
