@@ -182,6 +182,7 @@ fn a_trace_tells_its_cores_and_its_ranges(rt: HostRuntime) -> Result<(), Fail> {
         let trace = parse_trace(alloc, &geometry, text.as_bytes())?;
         assert_eq!(rt; trace.cores(), cores, "on {text}");
     }
+    let geometry = Geometry::new(1, 1)?;
     let text = b",reserve,8,4\n,reserve,0,4294967295\n0,take,a,0\n";
     let trace = parse_trace(alloc, &geometry, text)?;
     assert_eq!(rt; trace.ranges(), [(8, 4), (0, 4_294_967_295)].as_slice());
