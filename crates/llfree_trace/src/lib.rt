@@ -4,14 +4,20 @@
 mod answers;
 mod command;
 mod desk;
+mod gate;
 mod image_streams;
 mod line;
+mod lines;
+mod merge;
 mod one_core;
 mod parser;
 mod program;
 mod reply;
+mod rounds;
+mod seating;
 mod streams;
 
+pub use gate::{Gate, OpenGate};
 pub use image_streams::{rebuild_over, report_over};
 pub use line::{Line, Request, Trace};
 pub use one_core::run_one;
