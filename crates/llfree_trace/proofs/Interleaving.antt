@@ -135,10 +135,11 @@ interleaved key number old (line.Ask core request ∷ lines) (a ∷ answers) new
     )
 interleaved key number old (l ∷ lines) answers new all inside apart = absurd (All-head IsAsk l lines all)
 
-lists_at : (ds : List Desk) (k : ℕ) (d : Desk) → k < length ds → get_or (map list_in ds) k [] ≡ list_in (get_or ds k d)
-lists_at [] k d lt = absurd (omega arith)
-lists_at (x ∷ ds) zero d lt = refl
-lists_at (x ∷ ds) (suc k) d lt = lists_at ds k d (omega arith)
+-- the list at a place is that of the desk there
+pub list_there : (ds : List Desk) (k : ℕ) (d : Desk) → k < length ds → get_or (map list_in ds) k [] ≡ list_in (get_or ds k d)
+list_there [] k d lt = absurd (omega arith)
+list_there (x ∷ ds) zero d lt = refl
+list_there (x ∷ ds) (suc k) d lt = list_there ds k d (omega arith)
 
 some_desk : (ds : List Desk) (k : ℕ) → k < length ds → Desk
 some_desk [] k lt = absurd (omega arith)
@@ -158,10 +159,10 @@ round_runs al old number lines answers new desks all inside ran =
       lawful = λ k lt.
           let low : k < length old = omega (arith, lt, size) in
           let d = some_desk old k low in
-          rw (lists_at old k d low) ((desks k d low).apart);
+          rw (list_there old k d low) ((desks k d low).apart);
       runs = λ k lt.
           let low : k < length old = omega (arith, lt, size) in
           let high : k < length new = omega (arith, low, ran.width) in
           let d = some_desk old k low in
-          rw (lists_at old k d low, lists_at new k d high) (ran.runs k d low);
+          rw (list_there old k d low, list_there new k d high) (ran.runs k d low);
     })

@@ -13,3 +13,6 @@ pub mod Workers
 pub mod Merging
 pub mod Interleaving
 mod NewDesks
+pub mod MovingDesks
+pub mod GoingOn
+mod Ended

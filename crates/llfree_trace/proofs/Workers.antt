@@ -1,5 +1,5 @@
 -- How the answers of a desk grow by one.
-use Rattle.std.proofs.Common.{◌≡◌, ◌≢◌, ◌==◌, ◌+◌, ◌<◌, ◌∙◌, ℕ, List, [], ◌∷◌, ◌++◌, true, false, length, take, get_or, refl, sym, ap, arith, add-zero, zero-add, ap₂, zero, suc, ◌≤◌}
+use Rattle.std.proofs.Common.{◌≡◌, ◌≢◌, ◌==◌, ◌+◌, ◌<◌, ◌∙◌, ℕ, List, [], ◌∷◌, ◌++◌, true, false, length, take, get_or, refl, sym, subst, ap, arith, add-zero, zero-add, ap₂, zero, suc, ◌≤◌}
 use Rattle.std.proofs.lemmas.Bool.Decides.{nat_tests}
 use Rattle.std.specs.List.{All}
 use Rattle.std.proofs.lemmas.List.{append-nil, take_more}
@@ -147,6 +147,14 @@ asks_inside first (line.Ask own r ∷ lines) n (suc i) d all inside lt =
     asks_inside (first + 1) lines n i d (All-tail IsAsk (line.Ask own r) lines all)
     (All-tail (λ l. cores_in l ≤ n) (line.Ask own r) lines inside) (omega arith)
 asks_inside first (l ∷ lines) n i d all inside lt = absurd (All-head IsAsk l lines all)
+
+-- one more request
+pub ask_more : (lines : List Line) (i : ℕ) (item : Line) (core : ℕ) (request : Request) → i < length lines
+    → item ≡ get_or lines i item → item ≡ line.Ask core request
+    → All IsAsk (take i lines) → All IsAsk (take (i + 1) lines)
+ask_more lines i item core request lt is ask before =
+    rw (take_more lines i item lt, ← is)
+    (All-append IsAsk (take i lines) (item ∷ []) before (All-cons IsAsk item [] (subst IsAsk (sym ask) tt) (All-nil IsAsk)))
 
 -- one more record that asks nothing of the core
 pub none_more : (core : ℕ) (lines : List Line) (i : ℕ) (item : Line) → i < length lines → item ≡ get_or lines i item

@@ -1,5 +1,5 @@
 -- A round: what the desks of several cores answer to requests, each core on a thread of its own.
-use Rattle.std.specs.Prelude.{ℕ, ℤ, ◌≡◌, ◌≢◌, ◌==◌, ◌+◌, ◌<◌, List, [], ◌∷◌, filter, map, length}
+use Rattle.std.specs.Prelude.{ℕ, ℤ, ◌≡◌, ◌≢◌, ◌==◌, ◌+◌, ◌<◌, List, [], ◌∷◌, ◌++◌, filter, map, length}
 use Rattle.std.specs.Prelude.{slice_index_or, Result, Ok, Err}
 use Rattle.std.specs.List.{All}
 use Rattle.frame_model.specs.declared.key.Key.{Key}
@@ -12,11 +12,12 @@ use Rattle.core_frames.specs.Cores.{memory_of, lent_by, seat_of}
 use Rattle.core_frames.specs.Desks.{list_of, core_of, IsDeskOf}
 use Rattle.core_frames.specs.declared.allocator.Allocator.{Allocator}
 use Rattle.core_frames.specs.declared.desk.Desk.{Desk}
-use Rattle.llfree_trace.specs.Outcome.{DeskStep}
+use Rattle.llfree_trace.specs.Outcome.{DeskStep, Moves, Runs}
 use Rattle.llfree_trace.specs.declared.line.Line.{Line}
 use Rattle.llfree_trace.specs.declared.line.Line.TheVariants as line
 use Rattle.llfree_trace.specs.declared.line.Request.{Request}
 use Rattle.llfree_trace.specs.declared.lines.Done.{Done}
+use Rattle.llfree_trace.specs.declared.progress.Progress.{Progress}
 use Rattle.llfree_trace.specs.declared.reply.Answer.{Answer}
 use Rattle.llfree_trace.specs.declared.reply.Reply.{Reply}
 use Rattle.llfree_trace.specs.declared.reply.Reply.TheVariants as reply
@@ -136,3 +137,34 @@ pub record RoundRan (a : Allocator) (old : List Desk) (asks : List Ask) (answers
   pub runs : (k : ℕ) (d : Desk) → k < length old
       → DeskRun (memory_of a) (list_of (slice_index_or old k d)) (asks_of k asks)
       (answers_of k answers) (list_of (slice_index_or new k d))
+
+-- Runs of all cores.
+
+-- the record is no request
+abbrev pub IsNoAsk : Line → Type 0
+IsNoAsk (line.Ask core request) = ⊥
+IsNoAsk _ = Unit {0}
+
+-- the lists of desks
+abbrev pub lists_at : List Desk → List (List LabelledBlock)
+lists_at desks = map list_of desks
+
+-- a move of the oldest block under a label between two desks, or inside one
+pub record MovesAt (a : Allocator) (core : ℕ) (label : List ℕ) (to : ℕ) (r : Reply)
+    (old new : List Desk) : Type 0 where
+  pub moves : Moves (lists_at old) core label to r (lists_at new)
+  pub desks : All (IsDeskOf a) new
+  pub width : length new ≡ length old
+  pub lent : lent_by_desks new ≡ lent_by_desks old
+
+-- these records, the first of which has this number, were answered one after another by the desks,
+-- which lend together as many blocks as before
+pub record GoesOn (a : Allocator) (number : ℕ) (lines : List Line) (old new : Progress)
+    : Type 0 where
+  pub answers : List Answer
+  pub grows : new.answers.items ≡ old.answers.items ++ answers
+  pub runs : Runs MayRefuse (memory_of a) number (lists_at old.desks.items) lines answers
+      (lists_at new.desks.items)
+  pub desks : All (IsDeskOf a) new.desks.items
+  pub width : length new.desks.items ≡ length old.desks.items
+  pub lent : lent_by_desks new.desks.items ≡ lent_by_desks old.desks.items
