@@ -2,4 +2,6 @@
 
 mod moves;
 mod plain;
+mod random_scripts;
+mod scripted;
 mod shared;
