@@ -9,4 +9,5 @@ pub mod Ranges
 pub mod Cores
 pub mod Uses
 pub mod LeftFrames
+pub mod Habits
 pub mod Left
