@@ -10,4 +10,5 @@ pub mod Cores
 pub mod Uses
 pub mod Desks
 pub mod LeftFrames
+pub mod Habits
 pub mod Left

@@ -3,4 +3,6 @@
 mod desk;
 mod moves;
 mod plain;
+mod random_scripts;
+mod scripted;
 mod shared;
