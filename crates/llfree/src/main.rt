@@ -34,6 +34,7 @@ fn main(rt: HostRuntime) -> ExitCode {
     let mut output = Watched::new(rt.stdout());
     let mut errors = rt.stderr();
     ExitCode::from(run_program(
+        &rt,
         rt.alloc(),
         words.as_slice(),
         &mut input,

@@ -1,4 +1,4 @@
--- Why a command that is served was refused.
+-- Why a command that can be done was refused.
 use Rattle.std.proofs.Common.{◌≡◌, inl, inr, ℕ, List, Option, Some, None, refl, sym, subst, IfSome, IsErr, Err}
 use Rattle.std.specs.Prelude.{IsSomeAnd}
 use Rattle.frame_words.specs.declared.fault.Fault.{Fault}
@@ -6,7 +6,7 @@ use Rattle.frame_words.specs.declared.fault.Fault.TheVariants as fault
 use Rattle.frame_words.specs.declared.geometry.Geometry.{Geometry}
 use Rattle.frame_image.specs.ImageText.{image_of}
 use Rattle.llfree_trace.specs.ImageStreams.{IsImageFault}
-use Rattle.llfree_trace.specs.Program.{AreLawful, AreServed, CanDo, Does, EndsCommand, IsOfSizes, IsRefused, IsUnlawful, MustWait}
+use Rattle.llfree_trace.specs.Program.{AreLawful, CanDo, Does, EndsCommand, IsOfSizes, IsRefused, IsUnlawful}
 use Rattle.llfree_trace.specs.Streams.{HasBadRanges, IsRunFault}
 use Rattle.llfree_trace.specs.TraceText.{trace_of}
 use Rattle.llfree_trace.specs.declared.command.Command.{Command}
@@ -35,27 +35,27 @@ refused_image (Some text) line h = rw h refl
 
 -- each fault of a run says why it ended
 run_of : (sizes : Sizes) (show : Show) (g : Geometry) (input : Option (List ℕ)) (f : Fault) → AreLawful sizes
-    → AreServed sizes → IsOfSizes sizes g → IsRunFault f
+    → IsOfSizes sizes g → IsRunFault f
     → ((line : ℕ) → f ≡ fault.BadTrace line → IfSome input (λ text. trace_of g.cores text ≡ Err line))
     → (f ≡ fault.BadRange → IfSome input (HasBadRanges g))
     → EndsCommand (command.Run sizes show) input (failure.Refused f)
-run_of sizes show g input fault.NoMemory lawful served has is bad range = (lawful, served)
-run_of sizes show g input (fault.BadTrace line) lawful served has is bad range =
-    ((lawful, served), refused_trace sizes show g input line has (bad line refl))
-run_of sizes show g input fault.BadRange lawful served has is bad range =
-    inr ((lawful, served), refused_ranges sizes show g input has (range refl))
-run_of sizes show g input fault.ReadFailed lawful served has is bad range = (lawful, served)
-run_of sizes show g input fault.WriteFailed lawful served has is bad range = (lawful, served)
-run_of sizes show g input f lawful served has is bad range = absurd is
+run_of sizes show g input fault.NoMemory lawful has is bad range = lawful
+run_of sizes show g input (fault.BadTrace line) lawful has is bad range =
+    (lawful, refused_trace sizes show g input line has (bad line refl))
+run_of sizes show g input fault.BadRange lawful has is bad range =
+    inr (lawful, refused_ranges sizes show g input has (range refl))
+run_of sizes show g input fault.ReadFailed lawful has is bad range = lawful
+run_of sizes show g input fault.WriteFailed lawful has is bad range = lawful
+run_of sizes show g input f lawful has is bad range = absurd is
 
 pub run_ends : (c : Command) (sizes : Sizes) (show : Show) (g : Geometry) (input : Option (List ℕ)) (f : Fault)
-    → c ≡ command.Run sizes show → AreLawful sizes → AreServed sizes → IsOfSizes sizes g → IsRunFault f
+    → c ≡ command.Run sizes show → AreLawful sizes → IsOfSizes sizes g → IsRunFault f
     → ((line : ℕ) → f ≡ fault.BadTrace line → IfSome input (λ text. trace_of g.cores text ≡ Err line))
     → (f ≡ fault.BadRange → IfSome input (HasBadRanges g))
     → EndsCommand c input (failure.Refused f)
-run_ends c sizes show g input f e lawful served has is bad range =
+run_ends c sizes show g input f e lawful has is bad range =
     subst (λ (k : Command). EndsCommand k input (failure.Refused f)) (sym e)
-    (run_of sizes show g input f lawful served has is bad range)
+    (run_of sizes show g input f lawful has is bad range)
 
 -- and each of rebuilding
 rebuild_of : (input : Option (List ℕ)) (f : Fault) → IsImageFault f
@@ -89,7 +89,7 @@ pub report_ends : (c : Command) (input : Option (List ℕ)) (f : Fault) → c �
 report_ends c input f e is bad =
     subst (λ (k : Command). EndsCommand k input (failure.Refused f)) (sym e) (report_of input f is bad)
 
--- What was done was served.
+-- What was done could be done.
 
 does_now : (c : Command) (input old new : Option (List ℕ)) → Does c input old new → CanDo c
 unfolding Does
@@ -102,16 +102,14 @@ pub words_done : (o : Option Command) (input old new : Option (List ℕ)) → Is
 words_done None input old new d = d
 words_done (Some c) input old new d = does_now c input old new d
 
--- what is served need not wait
-pub served_now : (o : Option Command) → IsSomeAnd o CanDo → IfSome o MustWait → ⊥
-served_now None can wait = can
-served_now (Some (command.Run sizes show)) can wait = wait.1 can.1
-served_now (Some command.Rebuild) can wait = wait
-served_now (Some command.Report) can wait = wait
+-- what can be done is a command
+pub is_command : (o : Option Command) → IsSomeAnd o CanDo → o ≡ None → ⊥
+is_command None can e = can
+is_command (Some c) can e = absurd (cc)
 
 -- and has sizes that a memory may have
 pub served_lawful : (o : Option Command) → IsSomeAnd o CanDo → IsSomeAnd o IsUnlawful → ⊥
 served_lawful None can bad = can
-served_lawful (Some (command.Run sizes show)) can bad = bad can.0
+served_lawful (Some (command.Run sizes show)) can bad = bad can
 served_lawful (Some command.Rebuild) can bad = bad
 served_lawful (Some command.Report) can bad = bad

@@ -1,5 +1,6 @@
 -- What a command does, why it ends without a result, and the status of the program.
-use Rattle.std.specs.Prelude.{ℕ, ◌≡◌, ◌⊎◌, ◌*◌, List, Option, unwrap_or, IfSome, IsSomeAnd, IsErr}
+use Rattle.std.specs.Prelude.{ℕ, ◌≡◌, ◌⊎◌, ◌*◌, List, Option, None, unwrap_or}
+use Rattle.std.specs.Prelude.{◌≢◌, IfSome, IsSomeAnd, IsErr}
 use Rattle.frame_image.specs.ImageText.{image_of}
 use Rattle.frame_words.specs.Geometry.{IsWithinLimits, EndsInLastChild, child_frames}
 use Rattle.frame_words.specs.declared.fault.Fault.{Fault}
@@ -7,6 +8,7 @@ use Rattle.frame_words.specs.declared.fault.Fault.TheVariants as fault
 use Rattle.frame_words.specs.declared.geometry.Geometry.{Geometry}
 use Rattle.llfree_trace.specs.Command.{command_of}
 use Rattle.llfree_trace.specs.ImageStreams.{IsRebuiltText, IsReportText, WritesSo, WritesFrontSo}
+use Rattle.llfree_trace.specs.ManyStreams.{WritesFrontOfManyRun, WritesManyRun}
 use Rattle.llfree_trace.specs.Streams.{HasBadRanges, WritesFrontOfRun, WritesRun}
 use Rattle.llfree_trace.specs.TraceText.{trace_of}
 use Rattle.llfree_trace.specs.declared.command.Command.{Command}
@@ -14,6 +16,7 @@ use Rattle.llfree_trace.specs.declared.command.Command.TheVariants as command
 use Rattle.llfree_trace.specs.declared.command.Sizes.{Sizes}
 use Rattle.llfree_trace.specs.declared.program.Failure.{Failure}
 use Rattle.llfree_trace.specs.declared.program.Failure.TheVariants as failure
+use Rattle.llfree_trace.specs.declared.streams.Show.{Show}
 
 -- the status of a fault: 3 where the outside failed, else 1
 abbrev pub status_of : Fault → ℕ
@@ -39,22 +42,33 @@ abbrev pub AreLawful : Sizes → Type 0
 AreLawful sizes =
     IsWithinLimits sizes.children sizes.cores × EndsInLastChild sizes.children (frames_of sizes)
 
--- the sizes that are served so far: those of one core
-abbrev pub AreServed : Sizes → Type 0
-AreServed sizes = sizes.cores ≡ 1
-
 -- Commands.
 
--- the command is served
+-- the command can be done: a memory may have its sizes
 abbrev pub CanDo : Command → Type 0
-CanDo (command.Run sizes show) = AreLawful sizes × AreServed sizes
+CanDo (command.Run sizes show) = AreLawful sizes
 CanDo _ = Unit {0}
+
+-- the known bytes grow by what a run of the input shows; on one core a take is refused in it only where
+-- no block of its order is free
+abbrev pub DoesRun :
+    Geometry → Show → Option (List ℕ) → Option (List ℕ) → Option (List ℕ) → Type 0
+DoesRun g show input old new =
+    (g.cores ≡ 1 → IfSome input (λ text. WritesRun g show text old new))
+    × (g.cores ≢ 1 → IfSome input (λ text. WritesManyRun g show text old new))
+
+-- the known bytes grow by a front of that
+abbrev pub DoesFrontOfRun :
+    Geometry → Show → Option (List ℕ) → Option (List ℕ) → Option (List ℕ) → Type 0
+DoesFrontOfRun g show input old new =
+    (g.cores ≡ 1 → IfSome input (λ text. WritesFrontOfRun g show text old new))
+    × (g.cores ≢ 1 → IfSome input (λ text. WritesFrontOfManyRun g show text old new))
 
 -- the known bytes grow by what the command makes of the input
 unfoldable pub Does : Command → Option (List ℕ) → Option (List ℕ) → Option (List ℕ) → Type 0
 Does (command.Run sizes show) input old new =
     (g : Geometry) × IsOfSizes sizes g × CanDo (command.Run sizes show)
-    × IfSome input (λ text. WritesRun g show text old new)
+    × DoesRun g show input old new
 Does command.Rebuild input old new = IfSome input (λ text. WritesSo IsRebuiltText text old new)
 Does command.Report input old new = IfSome input (λ text. WritesSo IsReportText text old new)
 
@@ -62,16 +76,11 @@ Does command.Report input old new = IfSome input (λ text. WritesSo IsReportText
 unfoldable pub DoesFront : Command → Option (List ℕ) → Option (List ℕ) → Option (List ℕ) → Type 0
 DoesFront (command.Run sizes show) input old new =
     (g : Geometry) × IsOfSizes sizes g × CanDo (command.Run sizes show)
-    × IfSome input (λ text. WritesFrontOfRun g show text old new)
+    × DoesFrontOfRun g show input old new
 DoesFront command.Rebuild input old new =
     IfSome input (λ text. WritesFrontSo IsRebuiltText text old new)
 DoesFront command.Report input old new =
     IfSome input (λ text. WritesFrontSo IsReportText text old new)
-
--- the command is lawful, and not served yet
-abbrev pub MustWait : Command → Type 0
-MustWait (command.Run sizes show) = AreLawful sizes × (¬ AreServed sizes)
-MustWait _ = ⊥
 
 -- the command names sizes that no memory has
 abbrev pub IsUnlawful : Command → Type 0
@@ -98,33 +107,33 @@ abbrev pub DoesWordsFront : List (List ℕ) → Option (List ℕ) → Option (Li
     → Type 0
 DoesWordsFront words input old new = IsSomeAnd (command_of words) (λ c. DoesFront c input old new)
 
--- the words are a command that is served
+-- the words are a command that can be done
 abbrev pub IsServed : List (List ℕ) → Type 0
 IsServed words = IsSomeAnd (command_of words) CanDo
 
--- the words are no command, or one that is not served yet
-abbrev pub IsUnserved : List (List ℕ) → Type 0
-IsUnserved words = IfSome (command_of words) MustWait
+-- the words are no command
+abbrev pub IsNoCommand : List (List ℕ) → Type 0
+IsNoCommand words = command_of words ≡ None
 
 -- the words are a command with sizes that no memory has
 abbrev pub HasBadSizes : List (List ℕ) → Type 0
 HasBadSizes words = IsSomeAnd (command_of words) IsUnlawful
 
--- the words are a command that is served, and what the input spells is refused
+-- the words are a command that can be done, and what the input spells is refused
 abbrev pub HasBadText : List (List ℕ) → Option (List ℕ) → Type 0
 HasBadText words input =
     IsSomeAnd (command_of words) (λ c. CanDo c × IfSome input (IsRefused c))
 
--- why sizes are not served
+-- why sizes are refused
 abbrev pub EndsSizes : Sizes → Failure → Type 0
-EndsSizes sizes failure.Usage = AreLawful sizes × (¬ AreServed sizes)
+EndsSizes sizes failure.Usage = ⊥
 EndsSizes sizes (failure.Refused fault.BadGeometry) = ¬ AreLawful sizes
 EndsSizes sizes (failure.Refused fault.BadRange) = ¬ AreLawful sizes
 EndsSizes sizes (failure.Refused _) = ⊥
 
 -- why a command ended without a result; that memory really ran out no clause can say
 abbrev pub EndsCommand : Command → Option (List ℕ) → Failure → Type 0
-EndsCommand c input failure.Usage = MustWait c
+EndsCommand c input failure.Usage = ⊥
 EndsCommand c input (failure.Refused fault.BadGeometry) = IsUnlawful c
 EndsCommand c input (failure.Refused fault.BadRange) =
     IsUnlawful c ⊎ (CanDo c × IfSome input (IsRefused c))
@@ -137,6 +146,6 @@ EndsCommand c input (failure.Refused _) = ⊥
 
 -- why a command line ended without a result: the words are no command, or the command ended so
 abbrev pub EndsWords : List (List ℕ) → Option (List ℕ) → Failure → Type 0
-EndsWords words input failure.Usage = IsUnserved words
+EndsWords words input failure.Usage = IsNoCommand words
 EndsWords words input (failure.Refused f) =
     IsSomeAnd (command_of words) (λ c. EndsCommand c input (failure.Refused f))

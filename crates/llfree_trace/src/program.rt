@@ -1,24 +1,30 @@
 //! The program: its words, its devices and its status.
 
-ghost use Rattle.std.specs.Prelude.{◌≡◌, ◌≢◌, ◌≤◌, ◌↔◌, ◌⊎◌, true, false, map};
-ghost use Rattle.std.specs.Prelude.{Err, IfErr, IfOk, IsErrOf, IsOk, OnOk};
+ghost use Rattle.std.specs.Prelude.{◌≡◌, ◌≢◌, ◌≤◌, ◌↔◌, ◌⊎◌, true, false, map, ℕ};
+ghost use Rattle.std.specs.Prelude.{Err, IfErr, IfOk, IfSome, IsErrOf, IsOk, OnOk};
 ghost use Rattle.std.specs.String.{string_bytes};
 ghost use Rattle.frame_image.specs.Devices.{device_of, has_failed};
 ghost use Rattle.frame_words.specs.declared.fault.Fault.{Fault};
 ghost use Rattle.llfree_trace.specs.Program as Spec;
-ghost use Rattle.llfree_trace.specs.Program.{AreLawful, AreServed, IsOfSizes, CanDo, IsUnlawful};
-ghost use Rattle.llfree_trace.specs.Program.{Does, DoesFront, DoesWords, DoesWordsFront};
+ghost use Rattle.llfree_trace.specs.Program.{AreLawful, CanDo, IsOfSizes, IsUnlawful};
+ghost use Rattle.llfree_trace.specs.Program.{Does, DoesFront, DoesFrontOfRun, DoesRun};
+ghost use Rattle.llfree_trace.specs.Program.{DoesWords, DoesWordsFront};
 ghost use Rattle.llfree_trace.specs.Program.{EndsCommand, EndsSizes, EndsWords};
-ghost use Rattle.llfree_trace.specs.Program.{HasBadSizes, HasBadText, IsServed, IsUnserved};
-ghost use Rattle.llfree_trace.specs.Streams.{IsTooLong};
+ghost use Rattle.llfree_trace.specs.Program.{HasBadSizes, HasBadText, IsNoCommand, IsServed};
+ghost use Rattle.llfree_trace.specs.Streams.{HasBadRanges, IsRunFault, IsTooLong};
+ghost use Rattle.llfree_trace.specs.TraceText.{trace_of};
 
 use crate::command::{Command, Sizes, command_of};
+use crate::gate::OpenGate;
 use crate::image_streams::{rebuild_over, report_over};
-use crate::streams::run_over;
+use crate::many_streams::run_many_over;
+use crate::streams::{Show, run_over};
 use frame_image::Watched;
 use frame_words::{Fault, Geometry};
 use std::alloc::Global;
 use std::io::{Read, Write};
+use std::sync::Wait;
+use std::thread::Threads;
 
 const USAGE: &str = "usage: llfree run CHILDREN CORES [FRAMES] \
     | llfree image CHILDREN CORES [FRAMES] | llfree rebuild | llfree report";
@@ -34,8 +40,10 @@ enum Failure {
 /// 0 done, 1 a refusal, 2 usage, 3 where memory or a device failed.
 ///
 /// A refusal's text and the usage text go to `errors`, each with a line feed; that a write to it
-/// fails changes no status. More cores than one are not served yet: they are answered as usage.
-pub fn run_program<I: Read, O: Write, E: Write>(
+/// fails changes no status. With several cores each has a thread of its own in each round, and the
+/// call waits for them.
+pub fn run_program<Rt: Threads + Wait, I: Read, O: Write, E: Write>(
+    rt: &Rt,
     alloc: Global,
     words: &[String],
     input: &mut Watched<I>,
@@ -51,8 +59,8 @@ pub fn run_program<I: Read, O: Write, E: Write>(
     ensures sound { result ≡ 0
         → (has_failed input.new ≡ false) × (has_failed output.new ≡ false) }
 
-    // The usage text comes for just the words that are not served, and nothing else is done.
-    ensures unserved { (result ≡ 2) ↔ IsUnserved (map string_bytes words.now) }
+    // The usage text comes for just the words that are no command, and nothing else is done.
+    ensures usage_text { (result ≡ 2) ↔ IsNoCommand (map string_bytes words.now) }
     ensures usage { result ≡ 2 → (input.new ≡ input.old) × (output.new ≡ output.old) }
 
     // Sizes that no memory has are refused before anything is read.
@@ -71,14 +79,14 @@ pub fn run_program<I: Read, O: Write, E: Write>(
     ensures too_long { IsServed (map string_bytes words.now)
         → IsTooLong (I.remaining (device_of input.old)) → result ≡ 3 }
 
-    // Only a command that is served has it. Then nothing was written, or a front up to a failed
+    // Only a command with lawful sizes has it. Then nothing was written, or a front up to a failed
     // write.
     ensures stopped { result ≡ 3 → IsServed (map string_bytes words.now) }
     ensures front { result ≡ 3 → (output.new ≡ output.old) ⊎ ((has_failed output.new ≡ true)
         × DoesWordsFront (map string_bytes words.now) (I.remaining (device_of input.old))
         (O.contents (device_of output.old)) (O.contents (device_of output.new))) }
 {
-    match run_command(alloc, words, input, output) {
+    match run_command(rt, alloc, words, input, output) {
         Ok(()) => 0,
         Err(Failure::Usage) => {
             let _ = writeln!(errors, "{USAGE}");
@@ -92,7 +100,8 @@ pub fn run_program<I: Read, O: Write, E: Write>(
 }
 
 // Runs the command that the words name.
-fn run_command<I: Read, O: Write>(
+fn run_command<Rt: Threads + Wait, I: Read, O: Write>(
+    rt: &Rt,
     alloc: Global,
     words: &[String],
     input: &mut Watched<I>,
@@ -123,14 +132,15 @@ fn run_command<I: Read, O: Write>(
         (O.contents (device_of output.old)) (O.contents (device_of output.new)) }
 {
     match command_of(words) {
-        Some(command) => perform(alloc, command, input, output),
+        Some(command) => perform(rt, alloc, command, input, output),
         None => Err(Failure::Usage),
     }
 }
 
 // Runs a command.
 #[tactic(auto, unfolding(crate::specs::Program::Does, crate::specs::Program::DoesFront))]
-fn perform<I: Read, O: Write>(
+fn perform<Rt: Threads + Wait, I: Read, O: Write>(
+    rt: &Rt,
     alloc: Global,
     command: Command,
     input: &mut Watched<I>,
@@ -160,7 +170,7 @@ fn perform<I: Read, O: Write>(
     match command {
         Command::Run(sizes, show) => {
             let geometry = geometry_of(sizes)?;
-            match run_over(alloc, geometry, show, input, output) {
+            match run_on(rt, alloc, geometry, show, input, output) {
                 Ok(()) => Ok(()),
                 Err(fault) => Err(Failure::Refused(fault)),
             }
@@ -176,16 +186,47 @@ fn perform<I: Read, O: Write>(
     }
 }
 
-// The geometry of these sizes, where it is served.
+// Runs the trace that is read: on one core here, on several with a thread for each.
+fn run_on<Rt: Threads + Wait, I: Read, O: Write>(
+    rt: &Rt,
+    alloc: Global,
+    geometry: Geometry,
+    show: Show,
+    input: &mut Watched<I>,
+    output: &mut Watched<O>,
+) -> Result<(), Fault>
+    ensures written { OnOk result (DoesRun geometry show (I.remaining (device_of input.old))
+        (O.contents (device_of output.old)) (O.contents (device_of output.new))) }
+    ensures sound { OnOk result ((has_failed input.new ≡ false) × (has_failed output.new ≡ false)) }
+    ensures read_failed { has_failed input.new ≡ true → IsErrOf result Fault.ReadFailed }
+    ensures limit { IsTooLong (I.remaining (device_of input.old))
+        → IsErrOf result Fault.ReadFailed ⊎ IsErrOf result Fault.NoMemory }
+    ensures bad_trace { (line : ℕ) → IsErrOf result (Fault.BadTrace line)
+        → IfSome (I.remaining (device_of input.old)) (λ text.
+        trace_of geometry.cores text ≡ Err line) }
+    ensures bad_range { IsErrOf result Fault.BadRange
+        → IfSome (I.remaining (device_of input.old)) (HasBadRanges geometry) }
+    ensures write_failed { IsErrOf result Fault.WriteFailed → (has_failed output.new ≡ true)
+        × DoesFrontOfRun geometry show (I.remaining (device_of input.old))
+        (O.contents (device_of output.old)) (O.contents (device_of output.new)) }
+    ensures others { IfErr result (λ e. IsRunFault e) }
+    ensures untouched { IfErr result (λ e. e ≢ Fault.WriteFailed → output.new ≡ output.old) }
+{
+    if geometry.cores() == 1 {
+        run_over(alloc, geometry, show, input, output)
+    } else {
+        run_many_over(rt, alloc, geometry, show, &OpenGate, input, output)
+    }
+}
+
+// The geometry of these sizes.
 fn geometry_of(sizes: Sizes) -> Result<Geometry, Failure>
     ensures sizes { IfOk result (IsOfSizes sizes) }
     ensures lawful { IfOk result (λ _. AreLawful sizes) }
-    ensures served { IfOk result (λ _. AreServed sizes) }
     ensures why { IfErr result (EndsSizes sizes) }
 {
     match memory_of(sizes) {
-        Ok(geometry) if sizes.cores == 1 => Ok(geometry),
-        Ok(_) => Err(Failure::Usage),
+        Ok(geometry) => Ok(geometry),
         Err(fault) => Err(Failure::Refused(fault)),
     }
 }

@@ -10,7 +10,9 @@ use std::alloc::{AllocError, Global};
 use std::cell::Cell;
 use std::io::{Error, ErrorKind, Read, Result as IoResult, Write};
 use std::process::Abort;
+use std::sync::Wait;
 use std::test::Fail;
+use std::thread::Threads;
 
 const TAKES: &[u8] = b"0,take,a,0\n0,take,b,3\n0,take,c,0\n";
 
@@ -20,7 +22,12 @@ const USAGE: &str = "usage: llfree run CHILDREN CORES [FRAMES] \
     | llfree image CHILDREN CORES [FRAMES] | llfree rebuild | llfree report\n";
 
 // The status, the output and the errors of the program.
-fn runs(alloc: Global, words: &[&str], text: &[u8]) -> Result<(u8, Vec<u8>, Vec<u8>), AllocError> {
+fn runs(
+    rt: &(impl Threads + Wait),
+    alloc: Global,
+    words: &[&str],
+    text: &[u8],
+) -> Result<(u8, Vec<u8>, Vec<u8>), AllocError> {
     let mut list = Vec::new(alloc);
     for word in words {
         list.push(String::from_str(alloc, word)?)?;
@@ -30,20 +37,27 @@ fn runs(alloc: Global, words: &[&str], text: &[u8]) -> Result<(u8, Vec<u8>, Vec<
     let status = {
         let mut input = Watched::new(text);
         let mut output = Watched::new(&mut taken);
-        run_program(alloc, list.as_slice(), &mut input, &mut output, &mut errors)
+        run_program(
+            rt,
+            alloc,
+            list.as_slice(),
+            &mut input,
+            &mut output,
+            &mut errors,
+        )
     };
     Ok((status, taken, errors))
 }
 
 // Checks what a run of a trace prints.
 fn answers(
-    rt: &impl Abort,
+    rt: &(impl Abort + Threads + Wait),
     alloc: Global,
     words: &[&str],
     text: &str,
     want: &str,
 ) -> Result<(), AllocError> {
-    let (status, output, errors) = runs(alloc, words, text.as_bytes())?;
+    let (status, output, errors) = runs(rt, alloc, words, text.as_bytes())?;
     assert_eq!(rt; status, 0, "on {text}");
     assert_eq!(rt; output.as_slice(), want.as_bytes(), "on {text}");
     assert!(rt; errors.is_empty());
@@ -135,7 +149,7 @@ fn the_longest_text_has_16777216_bytes(rt: HostRuntime) -> Result<(), Fail> {
     let mut text = Vec::new(rt.alloc());
     text.extend_from_slice(b"0,take,a,0\n")?;
     text.resize(16_777_216, b'\n')?;
-    let (status, output, errors) = runs(rt.alloc(), &["run", "1", "1"], text.as_slice())?;
+    let (status, output, errors) = runs(&rt, rt.alloc(), &["run", "1", "1"], text.as_slice())?;
     assert_eq!(rt; status, 0);
     assert_eq!(rt;
         output.as_slice(),
@@ -143,7 +157,7 @@ fn the_longest_text_has_16777216_bytes(rt: HostRuntime) -> Result<(), Fail> {
     );
     assert!(rt; errors.is_empty());
     text.push(b'\n')?;
-    let (status, output, errors) = runs(rt.alloc(), &["run", "1", "1"], text.as_slice())?;
+    let (status, output, errors) = runs(&rt, rt.alloc(), &["run", "1", "1"], text.as_slice())?;
     assert_eq!(rt; status, 3);
     assert!(rt; output.is_empty());
     assert_eq!(rt; errors.as_slice(), b"llfree: read failed\n".as_slice());
@@ -156,7 +170,7 @@ fn a_trace_has_1000000_records_at_most(rt: HostRuntime) -> Result<(), Fail> {
     for _record in 0..1_000_000u32 {
         text.extend_from_slice(b"0,give,a,\n")?;
     }
-    let (status, output, errors) = runs(rt.alloc(), &["run", "1", "1"], text.as_slice())?;
+    let (status, output, errors) = runs(&rt, rt.alloc(), &["run", "1", "1"], text.as_slice())?;
     assert_eq!(rt; status, 0);
     assert!(rt;
         output
@@ -165,7 +179,7 @@ fn a_trace_has_1000000_records_at_most(rt: HostRuntime) -> Result<(), Fail> {
     );
     assert!(rt; errors.is_empty());
     text.extend_from_slice(b"0,give,a,\n")?;
-    let (status, output, errors) = runs(rt.alloc(), &["run", "1", "1"], text.as_slice())?;
+    let (status, output, errors) = runs(&rt, rt.alloc(), &["run", "1", "1"], text.as_slice())?;
     assert_eq!(rt; status, 1);
     assert!(rt; output.is_empty());
     assert_eq!(rt;
@@ -217,7 +231,7 @@ fn refused_traces_print_nothing(rt: HostRuntime) -> Result<(), Fail> {
         ("0,take,a,0\n\u{feff}0,take,a,0\n", 2),
         ("0,take,a,0\n\n\n1,take,b,0\n", 2),
     ] {
-        let (status, output, errors) = runs(rt.alloc(), &["run", "1", "1"], text.as_bytes())?;
+        let (status, output, errors) = runs(&rt, rt.alloc(), &["run", "1", "1"], text.as_bytes())?;
         let want = format!(in rt.alloc(); "llfree: bad trace at record {line}\n")?;
         assert_eq!(rt; status, 1, "on {text}");
         assert!(rt; output.is_empty());
@@ -238,10 +252,10 @@ fn command_lines_have_their_statuses(rt: HostRuntime) -> Result<(), Fail> {
         ("run", "x", "1", 2, USAGE),
         ("run", "1", "", 2, USAGE),
         ("run", "0000000001", "1", 2, USAGE),
-        ("run", "1", "2", 2, USAGE),
         ("Run", "1", "1", 2, USAGE),
     ] {
         let (answer, output, errors) = runs(
+            &rt,
             rt.alloc(),
             &[command, children, cores],
             b"0,take,a,0",
@@ -250,10 +264,36 @@ fn command_lines_have_their_statuses(rt: HostRuntime) -> Result<(), Fail> {
         assert!(rt; output.is_empty());
         assert_eq!(rt; errors.as_slice(), want.as_bytes());
     }
-    let (answer, output, errors) = runs(rt.alloc(), &["run"], b"")?;
+    let (answer, output, errors) = runs(&rt, rt.alloc(), &["run"], b"")?;
     assert_eq!(rt; answer, 2);
     assert!(rt; output.is_empty());
     assert_eq!(rt; errors.as_slice(), USAGE.as_bytes());
+    Ok(())
+}
+
+#[test]
+fn several_cores_are_served(rt: HostRuntime) -> Result<(), Fail> {
+    let moved = "0,take,a,0\n,round,,\n0,move,a,1\n1,give,a,\n";
+    for (text, want) in [
+        (
+            moved,
+            "1,0,Taken,0,0\n3,0,Moved,0,0\n4,1,Given,0,0\nend,,Closed,0,4096\n",
+        ),
+        (
+            "0,take,a,0\n,round,,\n1,take,b,0\n",
+            "1,0,Taken,0,0\n3,1,Taken,1,0\nend,,Closed,2,4094\n",
+        ),
+        ("", "end,,Closed,0,4096\n"),
+    ] {
+        answers(&rt, rt.alloc(), &["run", "8", "2"], text, want)?;
+    }
+    let image = runs(&rt, rt.alloc(), &["image", "8", "2"], moved.as_bytes())?;
+    assert_eq!(rt; image.0, 0);
+    assert!(rt;
+        image
+            .1
+            .ends_with(b"tree,0,1,1,\ncore,0,0,4095,\ncore,1,,,\n")
+    );
     Ok(())
 }
 
@@ -374,6 +414,7 @@ fn a_reader_that_fails_ends_the_run(rt: HostRuntime) -> Result<(), Fail> {
         let mut output = Watched::new(Vec::new(rt.alloc()));
         let mut errors = Vec::new(rt.alloc());
         let status = run_program(
+            &rt,
             rt.alloc(),
             words.as_slice(),
             &mut input,
@@ -407,6 +448,7 @@ fn a_writer_that_fails_ends_the_run(rt: HostRuntime) -> Result<(), Fail> {
                 let mut input = Watched::new(TAKES);
                 let mut output = Watched::new(writer);
                 let status = run_program(
+                    &rt,
                     rt.alloc(),
                     words.as_slice(),
                     &mut input,
@@ -438,6 +480,7 @@ fn a_failed_errors_stream_changes_no_status(rt: HostRuntime) -> Result<(), Fail>
     let mut input = Watched::new(b"0,take,a,x".as_slice());
     let mut output = Watched::new(Vec::new(rt.alloc()));
     let status = run_program(
+        &rt,
         rt.alloc(),
         words.as_slice(),
         &mut input,

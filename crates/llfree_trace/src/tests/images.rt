@@ -7,7 +7,9 @@ use frame_words::Fault;
 use std::alloc::Global;
 use std::cell::Cell;
 use std::process::Abort;
+use std::sync::Wait;
 use std::test::Fail;
+use std::thread::Threads;
 
 const HURT: &str = "llfree,1,1,1,\nchild,0,0,0,0000000000000007{}\ntree,0,0,0,\ncore,0,,,\n";
 
@@ -35,14 +37,14 @@ fn spelled(alloc: Global, short: &str) -> Result<Vec<u8>, Fail> {
 
 // Checks what a command prints.
 fn prints(
-    rt: &impl Abort,
+    rt: &(impl Abort + Threads + Wait),
     alloc: Global,
     words: &[&str],
     input: &[u8],
     want: &str,
 ) -> Result<(), Fail> {
     let want = spelled(alloc, want)?;
-    let (status, output, errors) = runs(alloc, words, input)?;
+    let (status, output, errors) = runs(rt, alloc, words, input)?;
     assert_eq!(rt; status, 0);
     assert_eq!(rt; output.as_slice(), want.as_slice());
     assert!(rt; errors.is_empty());
@@ -75,7 +77,7 @@ fn images_are_rebuilt_and_reported(rt: HostRuntime) -> Result<(), Fail> {
 fn a_run_shows_its_image(rt: HostRuntime) -> Result<(), Fail> {
     let alloc = rt.alloc();
     let text = b"0,take,a,0\n0,take,b,1\n0,give,a,\n0,take,c,0\n".as_slice();
-    let (status, image, _) = runs(alloc, &["image", "1", "1"], text)?;
+    let (status, image, _) = runs(&rt, alloc, &["image", "1", "1"], text)?;
     assert_eq!(rt; status, 0);
     let want = "llfree,1,1,1,\nchild,0,509,0,000000000000000d{}\ntree,0,509,0,\ncore,0,,,\n";
     prints(&rt, alloc, &["rebuild"], image.as_slice(), want)?;
@@ -106,7 +108,7 @@ fn texts_that_are_no_image_are_refused(rt: HostRuntime) -> Result<(), Fail> {
     for (short, want) in rows {
         let text = spelled(rt.alloc(), short)?;
         for command in ["rebuild", "report"] {
-            let (status, output, errors) = runs(rt.alloc(), &[command], text.as_slice())?;
+            let (status, output, errors) = runs(&rt, rt.alloc(), &[command], text.as_slice())?;
             assert_eq!(rt; status, 1);
             assert!(rt; output.is_empty());
             assert_eq!(rt; errors.as_slice(), want.as_bytes());
@@ -129,7 +131,7 @@ fn sizes_are_looked_at_before_anything_is_read(rt: HostRuntime) -> Result<(), Fa
         ("rebuild", "2", "1024", 2, USAGE),
     ] {
         let words = [command, children, "1", frames];
-        let (answer, output, errors) = runs(rt.alloc(), &words, b"0,take,a,x")?;
+        let (answer, output, errors) = runs(&rt, rt.alloc(), &words, b"0,take,a,x")?;
         assert_eq!(rt; answer, status);
         assert!(rt; output.is_empty());
         assert_eq!(rt; errors.as_slice(), want.as_bytes());
@@ -141,7 +143,7 @@ fn sizes_are_looked_at_before_anything_is_read(rt: HostRuntime) -> Result<(), Fa
         &["image"],
         &[],
     ] {
-        let (answer, output, errors) = runs(rt.alloc(), words, b"")?;
+        let (answer, output, errors) = runs(&rt, rt.alloc(), words, b"")?;
         assert_eq!(rt; answer, 2);
         assert!(rt; output.is_empty());
         assert_eq!(rt; errors.as_slice(), USAGE.as_bytes());
@@ -173,7 +175,7 @@ fn a_memory_may_end_inside_a_child(rt: HostRuntime) -> Result<(), Fail> {
     let mut text = image.into_bytes();
     text.extend_from_slice(ends.as_bytes())?;
     text.extend_from_slice(b"\ntree,0,300,0,\ncore,0,,,\n")?;
-    let (status, output, _) = runs(alloc, &["image", "1", "1", "300"], b"")?;
+    let (status, output, _) = runs(&rt, alloc, &["image", "1", "1", "300"], b"")?;
     assert_eq!(rt; status, 0);
     assert_eq!(rt; output.as_slice(), text.as_slice());
     let report = "tree,0,212,300,300,150,75,37,18,9,4,2,1,0\n\

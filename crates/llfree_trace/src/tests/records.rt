@@ -69,7 +69,7 @@ fn ranges_that_may_not_be_held_back_print_nothing(rt: HostRuntime) -> Result<(),
         ",reserve,4294967295,4294967295\n",
         ",reserve,0,0\n0,take,a,0\n",
     ] {
-        let (status, output, errors) = runs(rt.alloc(), &["run", "1", "1"], text.as_bytes())?;
+        let (status, output, errors) = runs(&rt, rt.alloc(), &["run", "1", "1"], text.as_bytes())?;
         assert_eq!(rt; status, 1, "on {text}");
         assert!(rt; output.is_empty());
         assert_eq!(rt;
@@ -79,7 +79,7 @@ fn ranges_that_may_not_be_held_back_print_nothing(rt: HostRuntime) -> Result<(),
         );
     }
     let words = ["run", "1", "1", "300"];
-    let (status, output, errors) = runs(rt.alloc(), &words, b",reserve,299,2\n")?;
+    let (status, output, errors) = runs(&rt, rt.alloc(), &words, b",reserve,299,2\n")?;
     assert_eq!(rt; status, 1);
     assert!(rt; output.is_empty());
     assert_eq!(rt; errors.as_slice(), b"llfree: bad range\n".as_slice());
@@ -96,7 +96,7 @@ fn a_trace_holds_back_1024_ranges_at_most(rt: HostRuntime) -> Result<(), Fail> {
     let words = ["run", "5", "1"];
     answers(&rt, alloc, &words, text.as_str(), "end,,Closed,1024,1536\n")?;
     text.push_str(",reserve,2048,1\n")?;
-    let (status, output, errors) = runs(alloc, &words, text.as_bytes())?;
+    let (status, output, errors) = runs(&rt, alloc, &words, text.as_bytes())?;
     assert_eq!(rt; status, 1);
     assert!(rt; output.is_empty());
     assert_eq!(rt; errors.as_slice(), b"llfree: bad range\n".as_slice());
@@ -139,7 +139,7 @@ fn refused_records_are_named(rt: HostRuntime) -> Result<(), Fail> {
         (",reserve,0,0\n0,take,a,x\n", 2),
         (",take,a,0\n", 1),
     ] {
-        let (status, output, errors) = runs(rt.alloc(), &["run", "1", "1"], text.as_bytes())?;
+        let (status, output, errors) = runs(&rt, rt.alloc(), &["run", "1", "1"], text.as_bytes())?;
         let want = format!(in rt.alloc(); "llfree: bad trace at record {line}\n")?;
         assert_eq!(rt; status, 1, "on {text}");
         assert!(rt; output.is_empty());
@@ -155,11 +155,11 @@ fn a_million_rounds_are_a_trace(rt: HostRuntime) -> Result<(), Fail> {
         text.extend_from_slice(b",round,,\n")?;
     }
     let words = ["run", "1", "1"];
-    let (status, output, _) = runs(rt.alloc(), &words, text.as_slice())?;
+    let (status, output, _) = runs(&rt, rt.alloc(), &words, text.as_slice())?;
     assert_eq!(rt; status, 0);
     assert_eq!(rt; output.as_slice(), b"end,,Closed,0,512\n".as_slice());
     text.extend_from_slice(b",round,,\n")?;
-    let (status, output, errors) = runs(rt.alloc(), &words, text.as_slice())?;
+    let (status, output, errors) = runs(&rt, rt.alloc(), &words, text.as_slice())?;
     assert_eq!(rt; status, 1);
     assert!(rt; output.is_empty());
     assert_eq!(rt;

@@ -8,13 +8,13 @@ pub returns-in-Ok-clause-done : goal.returns-in-Ok-clause-done
 unfolding Does
 returns-in-Ok-clause-done g c =
     let made = c.in_ok-geometry-in-Run.ensures in
-    rw c.in-Run.is (c.in_ok-geometry-in-Run.geometry, made.sizes, (made.lawful, made.served), c.in-Ok.ensures.written)
+    rw c.in-Run.is (c.in_ok-geometry-in-Run.geometry, made.sizes, made.lawful, c.in-Ok.ensures.written)
 
 pub returns-in-Err-clause-why : goal.returns-in-Err-clause-why
 returns-in-Err-clause-why g c =
     let made = c.in_ok-geometry-in-Run.ensures in
     let why = c.in-Err.ensures in
-    run_ends c.args.command c.in-Run.sizes c.in-Run.show _ _ c.in-Err.fault c.in-Run.is made.lawful made.served made.sizes why.others
+    run_ends c.args.command c.in-Run.sizes c.in-Run.show _ _ c.in-Err.fault c.in-Run.is made.lawful made.sizes why.others
     (λ line e. why.bad_trace line (ap Err e)) (λ e. why.bad_range (ap Err e))
 
 pub returns-in-Err-clause-front : goal.returns-in-Err-clause-front
@@ -25,7 +25,7 @@ returns-in-Err-clause-front g c = λ e.
     rw c.in-Run.is (
       c.in_ok-geometry-in-Run.geometry,
       made.sizes,
-      (made.lawful, made.served),
+      made.lawful,
       (c.in-Err.ensures.write_failed (ap Err failed)).1,
     )
 
