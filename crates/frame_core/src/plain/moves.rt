@@ -19,14 +19,14 @@ use crate::turns::{
     taken_whole, tree_paid, unreserved,
 };
 use frame_model::{FrameBlock, HeldBlock, Place, PlainBlock};
-use frame_words::{Geometry, local, local_of, tree_free};
+use frame_words::{
+    CHILD_FRAMES, CHILD_WORDS, Geometry, HUGE_ORDER, TREE_CHILDREN, WORD_FRAMES, local, local_of,
+    tree_free,
+};
 use std::collections::VecDeque;
 
-const HUGE_ORDER: u8 = 9;
-
-const CHILD_FRAMES: u32 = 512;
-
-const TREE_CHILDREN: u32 = 8;
+// The bit words of a whole tree.
+pub(crate) const TREE_WORDS: u32 = CHILD_WORDS * TREE_CHILDREN;
 
 // The number of the word in a table of these sizes.
 #[tactic(auto, unfolding(frame_model::specs::Words::entry_place, frame_model::specs::Words::tree_place, frame_model::specs::Words::local_place, frame_model::specs::Words::bits_place, frame_model::specs::Words::word_count))]
@@ -155,10 +155,10 @@ impl Moves for PlainMoves {
 
     fn claim(&mut self, word: u32, seen: u64, mask: u64) -> bool {
         let (bit, order) = run_of(mask);
-        self.charged = with_less(self.charged, word / 8, 1 << order);
-        self.paid = with_less(self.paid, word / 64, 1 << order);
+        self.charged = with_less(self.charged, word / CHILD_WORDS, 1 << order);
+        self.paid = with_less(self.paid, word / TREE_WORDS, 1 << order);
         self.own.push_front_reserved(FrameBlock {
-            frame: 64 * word + bit,
+            frame: WORD_FRAMES * word + bit,
             order,
         });
         self.words[number_of(self.geometry, Place::Bits(word))] = seen | mask;
@@ -169,12 +169,12 @@ impl Moves for PlainMoves {
     fn release(&mut self, word: u32, mask: u64) {
         let found = plain_word(&self.words, self.geometry, Place::Bits(word));
         let (bit, order) = run_of(mask);
-        self.charged = with_more(self.charged, word / 8, 1 << order);
-        self.paid = with_more(self.paid, word / 64, 1 << order);
+        self.charged = with_more(self.charged, word / CHILD_WORDS, 1 << order);
+        self.paid = with_more(self.paid, word / TREE_WORDS, 1 << order);
         leave(
             &mut self.own,
             FrameBlock {
-                frame: 64 * word + bit,
+                frame: WORD_FRAMES * word + bit,
                 order,
             },
         );
