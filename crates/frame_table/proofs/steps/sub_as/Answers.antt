@@ -19,19 +19,23 @@ fetch_sub-requires g c =
     let slots = t.grid.shared.table_id.slots in
     let turn : ℕ → ℕ = λ old. (old + (2 ^ 64 - c.args.n)) % 2 ^ 64 in
     let inside = place_inside (key_at t) kind (view_of c.args.seat.now) c.requires.may.may in
-    let At : ℕ → Type 0 = λ i. Allows (Holds t.grid.shared.key) slots seat.id seat.me i turn (IsChangedAs kind (step slots i c.args.n 0 mathlib.Core.Option.none) seat.me) in (
+    let At : ℕ → Type 0 = λ i. Allows (Holds t.grid.shared.key) slots seat.id seat.me i turn
+    (IsChangedAs kind (step slots i c.args.n 0 mathlib.Core.Option.none) seat.me) in (
       sits.table,
       omega (arith, t.words, c.requires.may.word, inside),
       subst At (sym c.requires.may.word)
-          (change_allows t.grid.shared.key slots seat.id seat.me sits.bare sits.about kind (omega (arith, c.requires.may.sits.one)) c.requires.may.may c.args.n turn c.requires.always c.requires.left),
+          (change_allows t.grid.shared.key slots seat.id seat.me sits.bare sits.about kind (omega (arith, c.requires.may.sits.one))
+          c.requires.may.may c.args.n turn c.requires.always c.requires.left),
     )
 
 after : (g : given.Over) (c : goal.After-fetch_sub g)
-    → Stepped (id_of c.args.table.now) (key_at c.args.table.now) c.fetch_sub.new.seat.table_id c.args.seat.now.seat.me c.fetch_sub.new.seat.me c.args.word None (effect next g.P.Stepping.kind c.fetch_sub.result (view_of c.args.seat.now))
+    → Stepped (id_of c.args.table.now) (key_at c.args.table.now) c.fetch_sub.new.seat.table_id c.args.seat.now.seat.me
+    c.fetch_sub.new.seat.me c.args.word None (effect next g.P.Stepping.kind c.fetch_sub.result (view_of c.args.seat.now))
 after g c =
     let t = c.args.table.now in
     let seat = c.args.seat.now.seat in
-    changed (id_of t) (key_at t) seat.table_id c.fetch_sub.new.seat.table_id seat.me c.fetch_sub.new.seat.me c.requires.may.sits.at c.fetch_sub.ensures.0 c.args.word g.P.Stepping.kind t.grid.shared.table_id.slots c.args.n c.fetch_sub.result c.fetch_sub.ensures.2
+    changed (id_of t) (key_at t) seat.table_id c.fetch_sub.new.seat.table_id seat.me c.fetch_sub.new.seat.me c.requires.may.sits.at
+    c.fetch_sub.ensures.0 c.args.word g.P.Stepping.kind t.grid.shared.table_id.slots c.args.n c.fetch_sub.result c.fetch_sub.ensures.2
 
 pub returns : goal.returns
 returns g c =
