@@ -1,5 +1,5 @@
 -- Rebuilt words are so whether the memory is sealed or not.
-use Rattle.std.proofs.Common.{false, true, List, ℕ}
+use Rattle.std.proofs.Common.{false, List, [], ℕ}
 use Rattle.frame_words.specs.declared.geometry.Geometry.{Geometry}
 use Rattle.frame_core.specs.Key.{key_of}
 use Rattle.frame_core.specs.Words.{bits_place, tree_place, local_place, tree_word_of, tree_free_of, reserved_of, local_word_of, rest_of, bit_word_of, set_of}
