@@ -5,6 +5,7 @@ ghost use Rattle.std.specs.VecDeque.{deque_len, deque_capacity};
 ghost use Rattle.frame_words.specs.Geometry.{most_children};
 ghost use Rattle.frame_model.specs.Steps.Amounts.{put_in};
 ghost use Rattle.frame_model.specs.Block.{block};
+ghost use Rattle.frame_model.specs.Key.{key_of};
 ghost use Rattle.frame_model.specs.Words.{run, word_count};
 ghost use Rattle.frame_core.specs.Moves.{place_of, IsPlace, OfRun};
 ghost use Rattle.frame_core.specs.Plain.{plain_key};
@@ -29,11 +30,18 @@ use std::collections::VecDeque;
 pub(crate) const TREE_WORDS: u32 = CHILD_WORDS * TREE_CHILDREN;
 
 // The number of the word in a table of these sizes.
-#[tactic(auto, unfolding(frame_model::specs::Words::entry_place, frame_model::specs::Words::tree_place, frame_model::specs::Words::local_place, frame_model::specs::Words::bits_place, frame_model::specs::Words::word_count))]
 pub(crate) fn number_of(geometry: Geometry, place: Place) -> usize
     requires { IsPlace (plain_key geometry true) place }
     ensures number { (sealed : Bool) → result ≡ place_of (plain_key geometry sealed) place }
     ensures inside { (sealed : Bool) → result < word_count (plain_key geometry sealed) }
+{
+    place_number(geometry, place)
+}
+
+fn place_number(geometry: Geometry, place: Place) -> usize
+    requires { IsPlace (key_of geometry) place }
+    ensures number { result ≡ place_of (key_of geometry) place }
+    ensures inside { result < word_count (key_of geometry) }
 {
     match place {
         Place::Entry(child) => entry_place(child),
