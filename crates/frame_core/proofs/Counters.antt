@@ -12,7 +12,7 @@ use Rattle.frame_words.proofs.WordLemmas.{free_in-entry_word, flag_in-entry_word
 use Rattle.frame_model.proofs.HeldBack.{in_range_held_back}
 use Rattle.frame_model.specs.declared.key.Key.{Key}
 use Rattle.frame_model.specs.Key.{frame_count, tree_count, children_in, children_of, size_of, is_in_range, is_boot_frame}
-use Rattle.frame_model.specs.Words.{tree_place, local_place, bits_place, word_count, free_of, huge_of, tree_word_of, tree_free_of}
+use Rattle.frame_model.specs.Words.{tree_place, local_place, bits_place, free_of, huge_of, tree_word_of, tree_free_of}
 use Rattle.frame_model.specs.Words.{reserved_of, local_word_of, rest_of, bit_of, bit_word_of, set_of, with_entry, with_tree, with_bits}
 use Rattle.frame_model.specs.Words.{AreInRange}
 use Rattle.frame_core.specs.Image.{FitsTree, IsImage, IsAllFree, IsUncounted, IsCountedBelow, HasSameBits}

@@ -11,9 +11,9 @@ use Rattle.frame_model.specs.declared.key.Key.{Key}
 use Rattle.frame_model.specs.declared.view.View.{View}
 use Rattle.frame_core.specs.declared.plain.party.Company.{Company}
 use Rattle.frame_model.specs.Key.{tree_count, size_of}
-use Rattle.frame_model.specs.Words.{entry_place, tree_place, local_place, bits_place, word_count}
-use Rattle.frame_model.specs.Words.{entry_of, free_of, huge_of, tree_word_of, tree_free_of}
-use Rattle.frame_model.specs.Words.{reserved_of, local_word_of, rest_of, bit_word_of, bit_of}
+use Rattle.frame_model.specs.Words.{entry_place, tree_place, local_place, bits_place}
+use Rattle.frame_model.specs.Words.{entry_of, huge_of, tree_word_of, tree_free_of}
+use Rattle.frame_model.specs.Words.{local_word_of, rest_of, bit_word_of, bit_of}
 use Rattle.frame_model.specs.Words.{count_on, IsRest, AreInRange}
 use Rattle.frame_core.specs.Image.{FitsTree, IsImage}
 use Rattle.frame_core.specs.Plain.{plain_key, Agrees}
