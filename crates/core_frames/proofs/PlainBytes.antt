@@ -7,7 +7,7 @@ use Rattle.std.proofs.lemmas.Bool.Decides.{nat_tests}
 use Rattle.std.proofs.lemmas.Nat.{pow_pos}
 use Rattle.std.specs.List.Sorted.{IsPermutation}
 use Rattle.std.proofs.lemmas.List.Sorted.{IsPermutation-refl, IsPermutation-sym, IsPermutation-trans, IsPermutation-append_left, IsPermutation-append_right, IsPermutation-append_comm}
-use Rattle.std.proofs.lemmas.List.Elements.{Contains-append_cases}
+use Rattle.std.proofs.lemmas.List.Elements.{Contains-append_cases, Contains-append_left, Contains-append_right}
 use Rattle.std.proofs.lemmas.List.Sums.{sum_by-append, sum_by-cons}
 use Rattle.frame_model.specs.declared.block.FrameBlock.{FrameBlock}
 use Rattle.frame_core.specs.Block.{block, covers}
@@ -96,6 +96,19 @@ module _ {X : Type 0} (gives : ℕ → ℕ → List X) where
             (λ (n : ℕ). Contains (gives n (get_or items t.0 0)) x) e t.2),
       ))
       (Contains-append_cases (gives from item) (gathered gives (from + 1) items) x has)
+
+  -- what an item gives is gathered
+  pub gathered-Contains : (from : ℕ) (items : List ℕ) (i : ℕ) → i < length items → (x : X)
+      → Contains (gives (from + i) (get_or items i 0)) x → Contains (gathered gives from items) x
+  gathered-Contains from [] i h x has = absurd (omega arith)
+  gathered-Contains from (item ∷ items) zero h x has =
+      let e : from + 0 ≡ from = omega arith in
+      Contains-append_left (gives from item) (gathered gives (from + 1) items) x
+      (subst (λ (n : ℕ). Contains (gives n item) x) e has)
+  gathered-Contains from (item ∷ items) (suc i) h x has =
+      let e : from + suc i ≡ from + 1 + i = omega arith in
+      Contains-append_right (gives from item) (gathered gives (from + 1) items) x
+      (gathered-Contains (from + 1) items i (omega arith) x (subst (λ (n : ℕ). Contains (gives n (get_or items i 0)) x) e has))
 
   -- where no item gives anything, nothing is gathered
   pub gathered-none : (from : ℕ) (items : List ℕ)
@@ -263,6 +276,17 @@ module _ (bytes : List ℕ) where
       × (get_or bytes b.frame 0 ≡ first_out + b.order)
   unfolding out_of
   out_byte b has = byte_of first_out bytes b has
+
+  pub out_named : (frame order : ℕ) → order ≤ 9 → frame < length bytes → get_or bytes frame 0 ≡ first_out + order
+      → Contains (out_of bytes) (block frame order)
+  unfolding out_of
+  out_named frame order low h is =
+      gathered-Contains (begun first_out) 0 bytes frame h (block frame order)
+      (let e : frame ≡ 0 + frame = omega arith in
+      subst (λ (x : ℕ). Contains (begun first_out x (get_or bytes frame 0)) (block frame order)) e
+      (subst (λ (n : ℕ). Contains (begun first_out frame n) (block frame order)) (sym is)
+      (subst (λ (xs : List FrameBlock). Contains xs (block frame order)) (sym (begun_at first_out frame order low))
+      (0, omega arith, refl))))
 
   pub out_given : (b : FrameBlock) → Contains (out_of bytes) b → IsPermutation (b ∷ out_of (set bytes b.frame 0)) (out_of bytes)
   unfolding out_of

@@ -1,9 +1,10 @@
 //! An allocator for one thread: the moves over its words, which nobody else steps, and a byte a frame
 //! for the block that begins there.
 
-ghost use Rattle.std.specs.Prelude.{◌≡◌, ◌⊎◌, ◌↔◌, ◌<◌, [], ◌∷◌, OnOk, OnErr, IfOk, IfErr};
+ghost use Rattle.std.specs.Prelude.{◌≡◌, ◌⊎◌, ◌↔◌, ◌<◌, [], ◌∷◌, OnOk, OnErr, IfOk, IfErr, IfSome, IfNone};
 ghost use Rattle.std.specs.List.{Contains};
 ghost use Rattle.std.specs.List.Sorted.{IsPermutation};
+ghost use Rattle.frame_core.specs.Block.{block as block_at};
 ghost use Rattle.frame_core.specs.Holding.{IsHolding};
 ghost use Rattle.frame_core.specs.Key.{AreRanges, sealed_key};
 ghost use Rattle.frame_core.specs.Laws.{AddsUp};
@@ -133,6 +134,24 @@ impl PlainAllocator {
         };
         self.starts[block.frame() as usize] = out_byte(order);
         Ok(block)
+    }
+
+    /// The block of these numbers, where it is out.
+    pub fn find_out(&self, frame: u32, order: u8) -> Option<PlainBlock>
+        ensures some { IfSome result (λ b. (b ≡ block_at frame order) × Contains self.now.out b) }
+        ensures none { IfNone result (¬ Contains self.now.out (block_at frame order)) }
+    {
+        let starts = &self.starts;
+        let place = frame as usize;
+        if place >= starts.len() {
+            return None;
+        }
+        let start = starts[place];
+        if order <= HUGE_ORDER && start == out_byte(order) {
+            Some(PlainBlock::of(frame, order))
+        } else {
+            None
+        }
     }
 
     /// Takes back a block that is out.

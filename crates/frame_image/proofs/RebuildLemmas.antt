@@ -1,14 +1,13 @@
 -- How rebuilding goes on child by child and tree by tree.
-use Rattle.std.proofs.Common.{◌≡◌, ◌≢◌, ◌∙◌, ⊎_elim, ℕ, zero, suc, ◌+◌, ◌-◌, ◌*◌, ◌/◌, ◌%◌, ◌^◌, ◌<◌, ◌≤◌, List, length, get_or, map, replicate, refl, ap, sym, subst, arith}
-use Rattle.std.specs.Int.{bit_at}
+use Rattle.std.proofs.Common.{◌≡◌, ◌≢◌, ◌∙◌, ⊎_elim, ℕ, zero, suc, ◌+◌, ◌-◌, ◌*◌, ◌/◌, ◌^◌, ◌<◌, ◌≤◌, List, length, get_or, map, replicate, refl, ap, sym, subst, arith}
 use Rattle.std.specs.List.{sum_by, range_with_len}
 use Rattle.std.proofs.lemmas.Bool.{cases_eq}
 use Rattle.std.proofs.lemmas.List.FromFn.{get_or-map-range_with_len, length-map-range_with_len}
 use Rattle.frame_words.specs.Words.{entry_word, free_in, flag_in}
 use Rattle.frame_words.proofs.WordLemmas.{free_in-entry_word, flag_in-entry_word, entry_word-lt}
 use Rattle.frame_model.specs.declared.key.Key.{Key}
-use Rattle.frame_core.specs.Key.{tree_count, children_in, children_of, size_of, frame_count}
-use Rattle.frame_core.specs.Words.{free_of, huge_of, tree_free_of, bit_word_of, bit_of, set_of, with_tree, AreInRange}
+use Rattle.frame_core.specs.Key.{tree_count, children_in, children_of, size_of}
+use Rattle.frame_core.specs.Words.{free_of, huge_of, tree_free_of, bit_word_of, set_of, with_tree, AreInRange}
 use Rattle.frame_core.specs.Image.{Contents, IsImage, SetsPastEnd, blank_words, with_child}
 use Rattle.frame_core.specs.Rebuilt.{rebuilt_free, rebuilt_in_tree, rebuilt_bits, IsRebuilt}
 use Rattle.frame_model.proofs.Sums.{range_same}

@@ -1,5 +1,5 @@
 -- What a report says: the numbers of each tree, and those of all memory.
-use Rattle.std.specs.Prelude.{ℕ, zero, suc, ◌+◌, ◌-◌, ◌*◌, List, [], ◌∷◌, ◌++◌, map, get_or, codes, decimal}
+use Rattle.std.specs.Prelude.{ℕ, zero, suc, ◌+◌, ◌-◌, List, [], ◌∷◌, ◌++◌, map, get_or, codes, decimal}
 use Rattle.std.specs.List.{range_with_len, flat_map}
 use Rattle.csv.specs.Writing.{default_writer, row_text}
 use Rattle.frame_model.specs.declared.key.Key.{Key}

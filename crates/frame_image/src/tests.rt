@@ -1,5 +1,6 @@
 mod devices;
 mod images;
 mod refusals;
+mod reopening;
 mod reports;
 mod texts;

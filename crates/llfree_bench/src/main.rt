@@ -1,11 +1,18 @@
-//! Measures pairs of a take and a give on a shared table. Its words are the pairs of a thread and
-//! the rounds, of which the fastest counts; with no words it prints nothing.
+//! Measures pairs of a take and a give on a shared table; with the word `allocator` first, takes and
+//! gives of a whole memory. The other words are the pairs of a thread and the rounds, of which the
+//! fastest counts; with no words it prints nothing.
 #![tactic(auto)]
 
 ghost use Rattle.std.specs.Prelude.{◌≤◌};
 
+mod allocator_rows;
+mod hand;
+mod phases;
 mod rows;
+mod turns;
+mod works;
 
+use allocator_rows::print_all;
 use rows::{Plan, Row, fastest};
 use std::alloc::Global;
 use std::rt::Clock;
@@ -17,21 +24,10 @@ const ORDERS: [u8; 5] = [0, 3, 6, 7, 9];
 const THREADS: [u32; 3] = [1, 2, 4];
 
 // The pairs of a thread, and the rounds.
-fn plan_of(rt: &HostRuntime) -> io::Result<Option<Plan>> {
-    let mut arguments = env::args(rt)?.skip(1);
-    let Some(count) = arguments.next() else {
-        return Ok(None);
-    };
-    let Some(rounds) = arguments.next() else {
-        return Ok(None);
-    };
-    let Ok(count) = count.as_str().parse::<u32>() else {
-        return Ok(None);
-    };
-    let Ok(rounds) = rounds.as_str().parse::<u32>() else {
-        return Ok(None);
-    };
-    Ok(Some(Plan { count, rounds }))
+fn plan_of(count: Option<String>, rounds: Option<String>) -> Option<Plan> {
+    let count = count?.as_str().parse::<u32>().ok()?;
+    let rounds = rounds?.as_str().parse::<u32>().ok()?;
+    Some(Plan { count, rounds })
 }
 
 // A line for each order: which trees, threads, order, tenths of a nanosecond for a pair of one
@@ -58,15 +54,33 @@ fn print_rows<R: Threads + Clock + Print + Sync>(
     Ok(())
 }
 
-fn main(rt: HostRuntime) -> io::Result<()> {
-    let Some(plan) = plan_of(&rt)? else {
-        return Ok(());
-    };
+fn print_tables<R: Threads + Clock + Print + Sync>(
+    rt: &R,
+    alloc: Global,
+    plan: Plan,
+) -> io::Result<()> {
     for threads in THREADS {
-        print_rows(&rt, rt.alloc(), false, threads, plan)?;
+        print_rows(rt, alloc, false, threads, plan)?;
     }
     for threads in THREADS {
-        print_rows(&rt, rt.alloc(), true, threads, plan)?;
+        print_rows(rt, alloc, true, threads, plan)?;
     }
     Ok(())
+}
+
+fn main(rt: HostRuntime) -> io::Result<()> {
+    let mut words = env::args(&rt)?.skip(1);
+    let Some(first) = words.next() else {
+        return Ok(());
+    };
+    if first.as_str() == "allocator" {
+        let Some(plan) = plan_of(words.next(), words.next()) else {
+            return Ok(());
+        };
+        return print_all(&rt, rt.alloc(), plan);
+    }
+    let Some(plan) = plan_of(Some(first), words.next()) else {
+        return Ok(());
+    };
+    print_tables(&rt, rt.alloc(), plan)
 }

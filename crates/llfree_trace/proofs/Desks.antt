@@ -6,8 +6,7 @@ use Rattle.std.proofs.lemmas.List.Sums.{sum_by-append}
 use Rattle.core_frames.specs.PlainState.{PlainState, held_by, memory_by, HoldsExactly}
 use Rattle.held_blocks.specs.LabelledBlocks.{TakesFirst}
 use Rattle.held_blocks.specs.declared.labelled_block.LabelledBlock.{LabelledBlock}
-use Rattle.frame_core.specs.Block.{IsBlock, covers}
-use Rattle.frame_model.specs.declared.key.Key.{Key}
+use Rattle.frame_core.specs.Block.{covers}
 use Rattle.frame_core.specs.View.{boot_blocks}
 use Rattle.frame_core.specs.Holding.{IsFreeBlock, holders}
 use Rattle.frame_core.specs.QuietTake.{QuietTake}

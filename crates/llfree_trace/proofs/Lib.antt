@@ -7,3 +7,12 @@ pub mod Moving
 pub mod Running
 pub mod Commands
 pub mod Statuses
+pub mod Boot
+mod Replies
+pub mod Workers
+pub mod Merging
+pub mod Interleaving
+mod NewDesks
+pub mod MovingDesks
+pub mod GoingOn
+mod Ended

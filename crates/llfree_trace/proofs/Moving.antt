@@ -1,6 +1,5 @@
 -- A block that leaves a holding and joins it again.
-use Rattle.std.proofs.Common.{◌≡◌, ◌+◌, ◌<◌, ◌≤◌, ◌^◌, ℕ, List, [], ◌∷◌, ◌++◌, arith}
-use Rattle.std.proofs.lemmas.Nat.{pow_pos}
+use Rattle.std.proofs.Common.{List, [], ◌∷◌, ◌++◌, arith}
 use Rattle.frame_core.specs.Block.{IsBlock, covers}
 use Rattle.frame_core.specs.Holding.{IsFreeBlock, IsHolding, holders}
 use Rattle.frame_model.specs.declared.key.Key.{Key}

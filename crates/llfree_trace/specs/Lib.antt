@@ -2,8 +2,10 @@ pub mod Trace
 pub mod TraceText
 pub mod AnswerText
 pub mod Outcome
+pub mod Rounds
 pub mod Desk
 pub mod Streams
+pub mod ManyStreams
 pub mod Program
 pub mod Command
 pub mod ImageStreams

@@ -156,14 +156,12 @@ impl PlainDesk {
         ensures fault { IfErr result (λ e. e ≡ Fault.NoMemory) }
     {
         self.list.reserve(label)?;
-        match self.list.remove_oldest(label) {
-            Some(held) => {
-                let reply = Reply::Moved(held.block.frame(), held.block.order());
-                self.list.add(held);
-                Ok(reply)
-            }
-            None => Ok(Reply::Refused(Fault::NotHeld)),
-        }
+        let Some(held) = self.list.remove_oldest(label) else {
+            return Ok(Reply::Refused(Fault::NotHeld));
+        };
+        let reply = Reply::Moved(held.block.frame(), held.block.order());
+        self.list.add(held);
+        Ok(reply)
     }
 
     // The words of the memory. Blocks of the list stay held.

@@ -60,7 +60,7 @@ pub fn run_program<I: Read, O: Write, E: Write>(
     ensures not_begun { HasBadSizes (map string_bytes words.now)
         → (input.new ≡ input.old) × (output.new ≡ output.old) }
 
-    // The sizes, or a record of what was read, are refused, and nothing was written.
+    // The sizes, a record of what was read or its ranges are refused, and nothing was written.
     ensures why_refused { result ≡ 1 → HasBadSizes (map string_bytes words.now)
         ⊎ HasBadText (map string_bytes words.now) (I.remaining (device_of input.old)) }
     ensures refused { result ≡ 1 → output.new ≡ output.old }

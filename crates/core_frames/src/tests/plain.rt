@@ -328,6 +328,35 @@ fn the_fourth_give_reserves_its_tree(rt: HostRuntime) -> Result<(), Fail> {
     Ok(())
 }
 
+// Three gives into the first tree, one into the own reservation, which clears the record, and three
+// more: only the next one reserves the tree.
+#[test]
+fn only_gives_in_a_row_reserve_a_tree(rt: HostRuntime) -> Result<(), Fail> {
+    let mut asks = Vec::new(rt.alloc());
+    for child in 0..9u32 {
+        asks.push(Ask::Take(0, 9, Ok(512 * child)))?;
+    }
+    for _i in 0..3u32 {
+        asks.push(Ask::Give(0, 0))?;
+    }
+    asks.push(Ask::Give(0, 5))?;
+    for _i in 0..4u32 {
+        asks.push(Ask::Give(0, 0))?;
+    }
+    let before = image_of(rt.alloc(), (16, 1), &asks[..16])?;
+    assert_eq!(rt;
+        (tree_at(&before, 0), rest_at(&before, 0)),
+        (Some((3072, false)), Some((1, 4096)))
+    );
+    let image = image_of(rt.alloc(), (16, 1), &asks)?;
+    assert_eq!(rt;
+        (tree_at(&image, 0), tree_at(&image, 1)),
+        (Some((0, true)), Some((4096, false)))
+    );
+    assert_eq!(rt; rest_at(&image, 0), Some((0, 3584)));
+    Ok(())
+}
+
 // The third core begins at a tree that is wholly free, and takes from one that is partly free.
 #[test]
 fn trees_that_are_partly_free_come_first(rt: HostRuntime) -> Result<(), Fail> {

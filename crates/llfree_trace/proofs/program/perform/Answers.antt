@@ -1,4 +1,4 @@
-use Rattle.std.proofs.Common.{◌≡◌, ◌∙◌, ap, Err}
+use Rattle.std.proofs.Common.{◌≡◌, ap, Err}
 use Rattle.frame_words.specs.declared.fault.Fault.TheVariants as fault
 use Rattle.llfree_trace.specs.Program.{Does, DoesFront}
 use Rattle.llfree_trace.proofs.Statuses.{run_ends, rebuild_ends, report_ends}

@@ -1,4 +1,4 @@
-use Rattle.std.proofs.Common.{◌≡◌, ◌<◌, ◌≤◌, ◌+◌, ◌*◌, ◌^◌, ◌∷◌, ◌++◌, [], refl, arith}
+use Rattle.std.proofs.Common.{◌≤◌, refl, arith}
 use Rattle.std.proofs.lemmas.Nat.{pow_pos}
 use Rattle.llfree_trace.specs.Outcome.{Moves}
 use Rattle.llfree_trace.proofs.Desks.{agrees_moved}
@@ -19,14 +19,14 @@ add-requires-clause-apart c =
     let held = rw (← c.self.view_is) at c.requires in
     left_apart _ _ c.self.inside.list.entries _ c.in-Some.held held takes
 
-pub invariant_of-self-in-Some : goal.invariant_of-self-in-Some
-invariant_of-self-in-Some c =
+pub invariant_of-self-2 : goal.invariant_of-self-2
+invariant_of-self-2 c =
     let takes = rw c.reserve.ensures.entries at c.in-Some.ensures.taken in
     rw c.add.ensures.entries (agrees_moved c.self.inside.allocator c.self.inside.list.entries _ c.in-Some.held _ c.self.invariant takes)
 
-pub returns-in-Some-clause-step : goal.returns-in-Some-clause-step
+pub returns-clause-step : goal.returns-clause-step
 unfolding Moves
-returns-in-Some-clause-step c = λ others.
+returns-clause-step c = λ others.
     let takes = rw c.reserve.ensures.entries at c.in-Some.ensures.taken in
     rw (← c.self.view_is, c.frame.ensures, c.order.ensures) (record {
       entry = c.in-Some.held;
@@ -36,14 +36,14 @@ returns-in-Some-clause-step c = λ others.
       goes_last = rw c.add.ensures.entries refl;
     })
 
-pub returns-in-Some-clause-lawful : goal.returns-in-Some-clause-lawful
-returns-in-Some-clause-lawful c =
+pub returns-clause-lawful : goal.returns-clause-lawful
+returns-clause-lawful c =
     let takes = rw c.reserve.ensures.entries at c.in-Some.ensures.taken in
     let held = rw (← c.self.view_is) at c.requires in
     rw c.add.ensures.entries (moved_lawful _ _ c.self.inside.list.entries _ c.in-Some.held held takes)
 
-pub returns-in-None-clause-step : goal.returns-in-None-clause-step
+pub returns-in_default-clause-step : goal.returns-in_default-clause-step
 unfolding Moves
-returns-in-None-clause-step c = λ others.
-    let none = rw c.reserve.ensures.entries at c.in-None.ensures.none in
-    rw (← c.self.view_is, c.in-None.ensures.unchanged, c.reserve.ensures.entries) (none, refl)
+returns-in_default-clause-step c = λ others.
+    let none = rw c.reserve.ensures.entries at c.in_default.ensures.none in
+    rw (← c.self.view_is, c.in_default.ensures.unchanged, c.reserve.ensures.entries) (none, refl)

@@ -1,4 +1,3 @@
-use Rattle.std.proofs.Common.{◌≡◌, ◌+◌, ◌≤◌, max}
 use Rattle.llfree_trace.proofs.Running.{asked, moved, step_lawful, unanswered}
 use Rattle.llfree_trace.proofs.desk.PlainDesk.run.Goals as goal
 
