@@ -10,10 +10,9 @@ ghost use Rattle.core_frames.specs.Searches.{MayVisitFor, MayGiveBack, Brings, G
 
 use super::attempts::{try_refund_own, try_reserve};
 use super::habit::Habit;
-use super::orders::frames_of;
 use super::trees::install;
 use frame_core::{HeldBlock, Moves};
-use frame_words::tree_of;
+use frame_words::{frames_of, tree_of};
 use low_frames::give_low;
 
 /// Gives the block back, whichever core took it.

@@ -6,14 +6,9 @@ ghost use Rattle.frame_core.specs.Block.{block};
 ghost use Rattle.frame_core.specs.Image.{key_in};
 ghost use Rattle.core_frames.specs.LeftFrames.{bit_in, AreBitWordsOf, AreFlagsOf, IsShown, HasCleared};
 
-use crate::orders::{MOST_ORDER, frames_of};
 use frame_core::Image;
-use frame_words::{Fault, child_of};
+use frame_words::{CHILD_WORDS, Fault, HUGE_ORDER, WORD_FRAMES, child_of, frames_of};
 use std::alloc::Global;
-
-const CHILD_WORDS: u32 = 8;
-
-const WORD_FRAMES: u32 = 64;
 
 /// The bits of frames, and the flags of children.
 #[derive(Drop)]
@@ -74,7 +69,7 @@ pub(crate) fn is_shown(left: &LeftFrames, frames: u32, frame: u32, order: u8) ->
     if frame % n != 0 || n > frames || frame > frames - n {
         return false;
     }
-    if order == MOST_ORDER {
+    if order == HUGE_ORDER {
         return left.huge[child_of(frame) as usize];
     }
     are_set(left.bits.as_slice(), frame, frame + n)
@@ -90,7 +85,7 @@ pub(crate) fn clear_block(left: &mut LeftFrames, frame: u32, order: u8)
     ensures { HasCleared (block frame order) left.old.bits.items left.old.huge.items
         left.new.bits.items left.new.huge.items }
 {
-    if order == MOST_ORDER {
+    if order == HUGE_ORDER {
         left.huge[child_of(frame) as usize] = false;
         return;
     }

@@ -11,7 +11,6 @@ mod habit;
 mod keeping;
 mod left_frames;
 mod opening;
-mod orders;
 mod own_tree;
 mod plain;
 mod ranges;

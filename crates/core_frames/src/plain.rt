@@ -23,20 +23,17 @@ mod starts;
 use super::drain::drain;
 use super::gives::give_by;
 use super::habit::Habit;
-use super::orders::MOST_ORDER;
 use super::ranges::may_hold_back;
 use super::splits::split_by;
 use super::takes::take_by;
 use frame_core::{HeldBlock, Image, Moves, PlainBlock, PlainMoves};
-use frame_words::{Fault, Geometry, TakeFault};
+use frame_words::{CHILD_FRAMES, Fault, Geometry, HUGE_ORDER, TakeFault};
 use starts::{NONE, kept_byte, out_byte};
 use std::alloc::Global;
 use std::marker::Model;
 
-const CHILD_FRAMES: u32 = 512;
-
 /// Above every order: no take was refused since the last give.
-const NO_ORDER: u8 = MOST_ORDER + 1;
+const NO_ORDER: u8 = HUGE_ORDER + 1;
 
 /// The frames of a memory, taken and given by one thread for each of its cores. Where several
 /// blocks are free, which one a take answers is not said.
@@ -123,7 +120,7 @@ impl PlainAllocator {
         ensures geometry { (self.new.geometry ≡ self.old.geometry) × (self.new.ranges ≡ self.old.ranges) }
         ensures lawful { OnOk result (IsHolding (memory_by self.new) (held_by self.new)) }
     {
-        if order >= self.refused && order <= MOST_ORDER {
+        if order >= self.refused && order <= HUGE_ORDER {
             drain(&mut self.moves);
             return Err(TakeFault::NoBlock);
         }
@@ -150,7 +147,7 @@ impl PlainAllocator {
             return None;
         }
         let start = starts[place];
-        if order <= MOST_ORDER && start == out_byte(order) {
+        if order <= HUGE_ORDER && start == out_byte(order) {
             Some(PlainBlock::of(frame, order))
         } else {
             None

@@ -15,12 +15,8 @@ ghost use Rattle.core_frames.specs.Splits.{
   HandsOutTwo,
 };
 
-use super::orders::{MOST_ORDER, frames_of};
 use frame_core::{HeldBlock, Moves};
-use frame_words::child_of;
-
-/// The bit words of a child.
-const CHILD_WORDS: u32 = 8;
+use frame_words::{CHILD_WORDS, HUGE_ORDER, child_of, frames_of};
 
 /// Hands out the halves of a block in its place, the lower first. A block of order 0 has none, and
 /// is handed back.
@@ -45,7 +41,7 @@ fn bring_in<M: Moves>(m: &mut M, held: M::Held)
 {
     let (frame, order) = (held.frame(), held.order());
     m.hand_in(held);
-    if order < MOST_ORDER {
+    if order < HUGE_ORDER {
         return;
     }
     break_up(m, child_of(frame));

@@ -5,9 +5,8 @@ ghost use Rattle.core_frames.specs.Left.{left_blocks, IsSurvivorsOf, Adopts};
 
 use crate::allocator::Allocator;
 use crate::left_frames::{LeftFrames, clear_block, is_shown};
-use crate::orders::MOST_ORDER;
 use frame_table::{Block, GroundSeat};
-use frame_words::{Fault, Geometry};
+use frame_words::{Fault, Geometry, HUGE_ORDER};
 
 /// The frames that were held before the opening and that nobody has adopted since.
 #[derive(Drop)]
@@ -28,7 +27,7 @@ impl Survivors {
         ensures adopts { Adopts allocator.now (block frame order) result
             (left_blocks self.old) (left_blocks self.new) }
     {
-        if order > MOST_ORDER {
+        if order > HUGE_ORDER {
             return Err(Fault::BadOrder);
         }
         if !is_shown(&self.left, self.geometry.frames(), frame, order) {

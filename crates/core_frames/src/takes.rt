@@ -9,11 +9,10 @@ ghost use Rattle.core_frames.specs.Searches.{MayBegin, MaySearch, Searches, Take
 
 use super::drain::drain;
 use super::habit::Habit;
-use super::orders::MOST_ORDER;
 use super::own_tree::take_own;
 use super::trees::{Pass, take_anywhere};
 use frame_core::Moves;
-use frame_words::TakeFault;
+use frame_words::{HUGE_ORDER, TakeFault};
 
 /// Takes a block of `2^order` frames. Where no block was found it is contended if an exchange was
 /// lost on the way, else there is no block. What rested in local words may then stand in the words
@@ -25,7 +24,7 @@ pub fn take_by<M: Moves>(m: &mut M, habit: &mut Habit, order: u8) -> Result<M::H
         + (2200 * tree_count (M.at m.old).key + 3 * (M.at m.old).key.cores + 800) }
     ensures habit { habit.new ≡ habit.old }
 {
-    if order > MOST_ORDER {
+    if order > HUGE_ORDER {
         return Err(TakeFault::BadOrder);
     }
     m.clear_missed();

@@ -1,5 +1,6 @@
 -- Words of which only the bits past the end are set: no part is known yet.
-use Rattle.std.proofs.Common.{◌≡◌, ℕ, ◌+◌, ◌-◌, ◌*◌, ◌/◌, ◌%◌, ◌^◌, ◌<◌, ◌≤◌, List, length, get_or, map, min, replicate, refl, ap, sym, subst, ◌∙◌, arith, None, ◌++◌, [], ◌∷◌, append_assoc, append-nil}
+use Rattle.std.proofs.Common.{◌≡◌, ℕ, ◌+◌, ◌-◌, ◌*◌, ◌/◌, ◌%◌, ◌^◌, ◌<◌, ◌≤◌, List, length, get_or, map, min, replicate, ap, sym}
+use Rattle.std.proofs.Common.{subst, ◌∙◌, arith, None, ◌++◌, [], ◌∷◌, append_assoc, append-nil}
 use Rattle.std.specs.Int.{bit_at}
 use Rattle.std.specs.List.{range_with_len}
 use Rattle.std.proofs.Math.Pow.{pow_mono}
@@ -10,7 +11,9 @@ use Rattle.frame_words.proofs.LaneLemmas.{lane_in-zero}
 use Rattle.frame_words.proofs.WordLemmas.{free_in-zero, flag_in-zero, rest_in-zero}
 use Rattle.frame_model.specs.declared.key.Key.{Key}
 use Rattle.frame_model.specs.Key.{tree_count, frame_count}
-use Rattle.frame_model.specs.Words.{run, entry_word_count, entry_place, tree_place, local_place, bits_place, word_count, entry_of, free_of, huge_of, tree_word_of, tree_free_of, reserved_of, local_word_of, rest_of, bit_word_of, bit_of, IsRest, AreInRange}
+use Rattle.frame_model.specs.Words.{entry_word_count, entry_place, tree_place, local_place, bits_place, word_count, entry_of, free_of}
+use Rattle.frame_model.specs.Words.{huge_of, tree_word_of, tree_free_of, reserved_of, local_word_of, rest_of, bit_word_of, bit_of, IsRest}
+use Rattle.frame_model.specs.Words.{AreInRange}
 use Rattle.frame_core.specs.Image.{IsImage, IsUncounted, bits_past, blank_words}
 use Rattle.frame_model.proofs.Bits.{bit_at_run_inside}
 use Rattle.frame_core.proofs.Counters.{uncounted_image}

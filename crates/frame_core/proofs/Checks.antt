@@ -1,5 +1,6 @@
 -- What the tests of a move's conditions tell of the own view.
-use Rattle.std.proofs.Common.{◌≡◌, ◌≢◌, ⊎_elim, ℕ, zero, suc, ◌+◌, ◌*◌, ◌%◌, ◌/◌, ◌^◌, ◌<◌, ◌≤◌, List, [], ◌∷◌, Bool, true, false, Option, Some, None, get_or, length, take, refl, ap, sym, subst, ◌∙◌, arith}
+use Rattle.std.proofs.Common.{◌≡◌, ◌≢◌, ⊎_elim, ℕ, zero, suc, ◌+◌, ◌*◌, ◌%◌, ◌/◌, ◌^◌, ◌<◌, ◌≤◌, List, [], ◌∷◌, Bool, true, false, Option}
+use Rattle.std.proofs.Common.{Some, None, get_or, length, take, refl, ap, sym, subst, ◌∙◌, arith}
 use Rattle.std.specs.Prelude.{nat_eq, nat_lt, slice_get}
 use Rattle.std.proofs.lemmas.Bool.Decides.{nat_tests}
 use Rattle.std.proofs.lemmas.Bool.{cases_eq}
@@ -24,7 +25,8 @@ use Rattle.frame_model.specs.Steps.Amounts.{Leaves}
 use Rattle.frame_model.specs.Without.{without, HasFrames}
 use Rattle.frame_model.proofs.Without.{without_leaves}
 use Rattle.frame_model.proofs.Amounts.{names_here, names_none, names_else}
-use Rattle.frame_model.proofs.Blocks.{smalls_cons, wholes_cons, smalls_none, wholes_none, in_block, small_elsewhere, whole_elsewhere, whole_here}
+use Rattle.frame_model.proofs.Blocks.{smalls_cons, wholes_cons, smalls_none, wholes_none, in_block, small_elsewhere, whole_elsewhere}
+use Rattle.frame_model.proofs.Blocks.{whole_here}
 use Rattle.frame_core.proofs.PlainOuts.{first_counts}
 use Rattle.frame_core.proofs.PlainOwn.{run_from, run_order}
 use Rattle.frame_model.proofs.Bits.{ones_run}

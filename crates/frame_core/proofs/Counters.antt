@@ -9,9 +9,12 @@ use Rattle.std.proofs.lemmas.Bool.Decides.{nat_tests}
 use Rattle.std.proofs.lemmas.Nat.Bits.{bit_at-zero}
 use Rattle.frame_words.specs.Words.{entry_word, free_in, flag_in}
 use Rattle.frame_words.proofs.WordLemmas.{free_in-entry_word, flag_in-entry_word, entry_word-lt}
+use Rattle.frame_model.proofs.HeldBack.{in_range_held_back}
 use Rattle.frame_model.specs.declared.key.Key.{Key}
 use Rattle.frame_model.specs.Key.{frame_count, tree_count, children_in, children_of, size_of, is_in_range, is_boot_frame}
-use Rattle.frame_model.specs.Words.{tree_place, local_place, bits_place, word_count, free_of, huge_of, tree_word_of, tree_free_of, reserved_of, local_word_of, rest_of, bit_of, bit_word_of, set_of, with_entry, with_tree, with_bits, AreInRange}
+use Rattle.frame_model.specs.Words.{tree_place, local_place, bits_place, free_of, huge_of, tree_word_of, tree_free_of}
+use Rattle.frame_model.specs.Words.{reserved_of, local_word_of, rest_of, bit_of, bit_word_of, set_of, with_entry, with_tree, with_bits}
+use Rattle.frame_model.specs.Words.{AreInRange}
 use Rattle.frame_core.specs.Image.{FitsTree, IsImage, IsAllFree, IsUncounted, IsCountedBelow, HasSameBits}
 use Rattle.frame_model.specs.Rebuilt.{rebuilt_free, rebuilt_in_tree, rebuilt_bits, IsRebuilt}
 use Rattle.frame_model.specs.Openings.{IsSealedOpening}
@@ -222,24 +225,6 @@ whole_all_free key ws o whole none =
 
 -- The words of a memory do not depend on the ranges that its key names.
 module _ (key : Key) (rs : List (ℕ × ℕ)) (ws : List ℕ) where
-  pub in_range_ranged : AreInRange key ws → AreInRange (record key { ranges = rs }) ws
-  unfolding word_count tree_place local_place bits_place tree_free_of reserved_of tree_word_of rest_of local_word_of bit_word_of
-  in_range_ranged r = record {
-    count = r.count;
-    anchor = r.anchor;
-    entry_words = r.entry_words;
-    free = r.free;
-    huge = r.huge;
-    absent = r.absent;
-    tree_free = r.tree_free;
-    reserved = r.reserved;
-    locals = r.locals;
-    rests = r.rests;
-    bits = r.bits;
-    between = r.between;
-    beside = r.beside;
-  }
-
   pub counted_ranged : IsCountedBelow key ws key.children (tree_count key)
       → IsCountedBelow (record key { ranges = rs }) ws key.children (tree_count key)
   unfolding tree_place local_place bits_place tree_free_of reserved_of tree_word_of rest_of local_word_of set_of
@@ -262,7 +247,7 @@ pub counted_opens : (key : Key) (rs : List (ℕ × ℕ)) (ws : List ℕ) → key
     → IsSealedOpening (record key { ranges = rs }) ws
 counted_opens key rs ws sealed r f bits = record {
   sealed = sealed;
-  exact = counted_exact (record key { ranges = rs }) ws (in_range_ranged key rs ws r) (counted_ranged key rs ws f);
+  exact = counted_exact (record key { ranges = rs }) ws (in_range_held_back key rs key.sealed ws r) (counted_ranged key rs ws f);
   unflagged = f.huge;
   boot_frames = λ x h. bit_ranged key rs ws x ∙ bits x h;
 }

@@ -6,6 +6,7 @@ pub mod PlainBlocks
 pub mod PlainSteps
 pub mod PlainOwn
 pub mod PlainOuts
+pub mod PlainPlaces
 pub mod PlainFilled
 pub mod PlainOpening
 pub mod PlainImage

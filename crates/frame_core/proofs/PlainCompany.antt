@@ -11,7 +11,8 @@ use Rattle.frame_model.specs.declared.view.View.{View}
 use Rattle.frame_core.specs.declared.plain.party.Party.{Party}
 use Rattle.frame_core.specs.declared.plain.party.Company.{Company}
 use Rattle.frame_model.specs.Block.{smalls}
-use Rattle.frame_model.specs.View.{small_in, whole_in, ground_small_in, marks, charged_in, paid_on, reserves, blocks_out, ground_in, idle, IsViewOf}
+use Rattle.frame_model.specs.View.{small_in, whole_in, ground_small_in, marks, charged_in, paid_on, reserves, blocks_out, ground_in, idle}
+use Rattle.frame_model.specs.View.{IsViewOf}
 use Rattle.frame_model.specs.Fit.{total, Fit}
 use Rattle.frame_core.specs.Plain.{IsFresh, IsOutIn, IsOf, AreOf, AreHeld, Agrees}
 use Rattle.frame_model.proofs.Amounts.{count_none, is_at_none, names_none}

@@ -1,18 +1,19 @@
 -- The words of plain moves are those of an image, sealed or not.
-use Rattle.std.proofs.Common.{◌≡◌, ℕ, ◌<◌, ◌≤◌, List, ◌∷◌, Some, Bool, get_or, refl, ap, sym, subst, ◌∙◌, arith}
+use Rattle.std.proofs.Common.{◌≡◌, ℕ, ◌<◌, ◌≤◌, List, [], ◌∷◌, Some, Bool, get_or, refl, ap, sym, subst, ◌∙◌, arith}
 use Rattle.std.specs.Option.{ForSome}
 use Rattle.std.proofs.Math.Logic.{∥∥₁_elim}
 use Rattle.std.proofs.Math.Bridge.{le_prop}
 use Rattle.std.proofs.Math.Nat.{ℕ_set}
 use Rattle.frame_words.specs.declared.geometry.Geometry.{Geometry}
 use Rattle.frame_words.specs.Words.{rest_in}
+use Rattle.frame_model.proofs.HeldBack.{in_range_held_back}
 use Rattle.frame_model.specs.declared.key.Key.{Key}
 use Rattle.frame_model.specs.declared.view.View.{View}
 use Rattle.frame_core.specs.declared.plain.party.Company.{Company}
 use Rattle.frame_model.specs.Key.{tree_count, size_of}
-use Rattle.frame_model.specs.Words.{entry_place, tree_place, local_place, bits_place, word_count}
-use Rattle.frame_model.specs.Words.{entry_of, free_of, huge_of, tree_word_of, tree_free_of}
-use Rattle.frame_model.specs.Words.{reserved_of, local_word_of, rest_of, bit_word_of, bit_of}
+use Rattle.frame_model.specs.Words.{entry_place, tree_place, local_place, bits_place}
+use Rattle.frame_model.specs.Words.{entry_of, huge_of, tree_word_of, tree_free_of}
+use Rattle.frame_model.specs.Words.{local_word_of, rest_of, bit_word_of, bit_of}
 use Rattle.frame_model.specs.Words.{count_on, IsRest, AreInRange}
 use Rattle.frame_core.specs.Image.{FitsTree, IsImage}
 use Rattle.frame_core.specs.Plain.{plain_key, Agrees}
@@ -81,23 +82,7 @@ module _ {them : Company} (key : Key) (words bytes : List ℕ) (v : View)
 
 pub range_resealed : (geometry : Geometry) (a b : Bool) (words : List ℕ)
     → AreInRange (plain_key geometry a) words → AreInRange (plain_key geometry b) words
-unfolding entry_place tree_place local_place bits_place word_count entry_of free_of huge_of
-    tree_word_of tree_free_of reserved_of local_word_of rest_of bit_word_of
-range_resealed geometry a b words r = record {
-  count = r.count;
-  anchor = r.anchor;
-  entry_words = r.entry_words;
-  free = r.free;
-  huge = r.huge;
-  absent = r.absent;
-  tree_free = r.tree_free;
-  reserved = r.reserved;
-  locals = r.locals;
-  rests = r.rests;
-  bits = r.bits;
-  between = r.between;
-  beside = r.beside;
-}
+range_resealed geometry a b words r = in_range_held_back (plain_key geometry a) [] b words r
 
 pub image_resealed : (geometry : Geometry) (a b : Bool) (words : List ℕ)
     → IsImage (plain_key geometry a) words → IsImage (plain_key geometry b) words

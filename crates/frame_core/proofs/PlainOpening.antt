@@ -18,7 +18,8 @@ use Rattle.frame_model.specs.Rebuilt.{IsRebuilt}
 use Rattle.frame_model.specs.View.{idle, ground_with, fixed_ground}
 use Rattle.frame_model.specs.Openings.{held_blocks, reopener, IsSealedOpening}
 use Rattle.frame_model.specs.Fit.{total, Fit}
-use Rattle.frame_core.specs.Plain.{plain_key, is_out_byte, out_count, plain_view, HasNoShare, IsOutIn, AreOf, Agrees, FitsIdle, FitsReopened}
+use Rattle.frame_core.specs.Plain.{plain_key, is_out_byte, out_count, plain_view, HasNoShare, IsOutIn, AreOf, Agrees, FitsIdle}
+use Rattle.frame_core.specs.Plain.{FitsReopened}
 use Rattle.frame_model.proofs.Opening.{sealed_fits, reopening_fits}
 use Rattle.frame_model.proofs.Steps.Cutting.{part_ground_keeps}
 use Rattle.frame_core.proofs.PlainOuts.{byte_none}

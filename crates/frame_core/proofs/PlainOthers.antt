@@ -1,5 +1,6 @@
 -- Who steps next: the own view and that of a party of the company change places.
-use Rattle.std.proofs.Common.{◌≡◌, ◌≢◌, inl, inr, ⊎_elim, ℕ, ℤ, zero, suc, ◌+ℤ◌, ◌-ℤ◌, ◌+◌, ◌/◌, ◌<◌, List, [], ◌∷◌, Option, Some, length, get_or, set, refl, ap, sym, subst, ◌∙◌, arith}
+use Rattle.std.proofs.Common.{◌≡◌, ◌≢◌, inl, inr, ⊎_elim, ℕ, ℤ, zero, suc, ◌+ℤ◌, ◌-ℤ◌, ◌+◌, ◌/◌, ◌<◌, List, [], ◌∷◌, Option, Some, length}
+use Rattle.std.proofs.Common.{get_or, set, refl, ap, sym, subst, ◌∙◌, arith}
 use Rattle.std.specs.List.{All}
 use Rattle.std.proofs.Math.Logic.{∥∥₁_map}
 use Rattle.std.proofs.lemmas.Int.{ints}

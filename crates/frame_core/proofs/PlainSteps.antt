@@ -1,5 +1,6 @@
 -- A step of plain moves: what it leaves of the words and of the state.
-use Rattle.std.proofs.Common.{◌≡◌, ◌≢◌, ℕ, zero, suc, ◌+◌, ◌^◌, ◌<◌, ◌≤◌, List, [], ◌∷◌, Option, None, Some, get_or, set, refl, ap, sym, subst, ◌∙◌, true, arith}
+use Rattle.std.proofs.Common.{◌≡◌, ◌≢◌, ℕ, zero, suc, ◌+◌, ◌^◌, ◌<◌, ◌≤◌, List, [], ◌∷◌, Option, None, Some, get_or, set, refl, ap, sym}
+use Rattle.std.proofs.Common.{subst, ◌∙◌, true, arith}
 use Rattle.std.specs.Prelude.{slice_get}
 use Rattle.std.specs.Option.{ForSome}
 use Rattle.std.proofs.Math.Logic.{∥∥₁_elim, ∥∥₁_map}
@@ -12,7 +13,8 @@ use Rattle.frame_core.specs.declared.plain.party.Company.{Company}
 use Rattle.frame_core.specs.declared.plain.PlainMoves.{PlainMoves}
 use Rattle.frame_model.specs.Key.{tree_count, size_of}
 use Rattle.frame_words.specs.Words.{free_in, flag_in, lane_in, rest_in, local_word}
-use Rattle.frame_model.specs.Words.{run, entry_place, tree_place, local_place, rest_of, count_on, IsRest, free_of, tree_free_of, resting_on, held_in_tree}
+use Rattle.frame_model.specs.Words.{run, entry_place, tree_place, local_place, rest_of, count_on, IsRest, free_of, tree_free_of, resting_on}
+use Rattle.frame_model.specs.Words.{held_in_tree}
 use Rattle.frame_model.specs.View.{charged_in, paid_on}
 use Rattle.frame_model.specs.Fit.{Fit}
 use Rattle.frame_model.specs.Steps.{Kind, swap_local, place, seen_by, turned, IsFoundBy, IsMade, May, effect}
@@ -26,7 +28,8 @@ use Rattle.frame_model.proofs.Steps.Seats.{look_keeps}
 use Rattle.frame_core.specs.Plain.{plain_tick, plain_mover, Agrees}
 use Rattle.frame_core.specs.PlainState.{key_by, words_by, view_by}
 use Rattle.frame_model.proofs.Steps.Every.{kind_keeps}
-use Rattle.frame_model.proofs.Steps.Shared.{at-le-total, free_of_is, huge_of_is, entry_of_is, tree_free_is, reserved_is, rest_of_is, bit_word_is}
+use Rattle.frame_model.proofs.Steps.Shared.{at-le-total, free_of_is, huge_of_is, entry_of_is, tree_free_is, reserved_is, rest_of_is}
+use Rattle.frame_model.proofs.Steps.Shared.{bit_word_is}
 use Rattle.frame_model.proofs.Steps.Locals.{rest-le-resting}
 use Rattle.frame_model.proofs.Amounts.{count_on_here}
 

@@ -7,7 +7,8 @@ use Rattle.frame_words.proofs.WordLemmas.{entry_word-parts}
 use Rattle.frame_words.proofs.LaneLemmas.{lane_in-place, same_lanes}
 use Rattle.frame_model.specs.declared.key.Key.{Key}
 use Rattle.frame_model.specs.Key.{tree_count}
-use Rattle.frame_model.specs.Words.{entry_place, tree_place, local_place, bits_place, word_count, entry_word_count, entry_of, free_of, huge_of, tree_word_of, tree_free_of, reserved_of, local_word_of, rest_of, bit_word_of, AreInRange}
+use Rattle.frame_model.specs.Words.{entry_place, tree_place, local_place, bits_place, word_count, entry_word_count, entry_of, free_of}
+use Rattle.frame_model.specs.Words.{huge_of, tree_word_of, tree_free_of, reserved_of, local_word_of, rest_of, bit_word_of, AreInRange}
 
 -- two lists of words say the same of the children, trees and cores below these numbers
 pub record SaysSame (key : Key) (old new : List ℕ) (child tree core : ℕ) : Type 0 where

@@ -1,5 +1,6 @@
 -- Each half of a move by a script, joined to what the trait tells of the move.
-use Rattle.std.proofs.Common.{◌≡◌, ◌≢◌, ◌⊎◌, inl, inr, ⊎_elim, ℕ, ◌-◌, ◌<◌, ◌≤◌, List, ◌∷◌, length, get_or, Bool, true, false, ◌||◌, Option, Some, refl, ap, sym, subst, ◌∙◌, arith}
+use Rattle.std.proofs.Common.{◌≡◌, ◌≢◌, ◌⊎◌, inl, inr, ⊎_elim, ℕ, ◌-◌, ◌<◌, ◌≤◌, List, ◌∷◌, length, get_or, Bool, true, false, ◌||◌, Option}
+use Rattle.std.proofs.Common.{Some, refl, ap, sym, subst, ◌∙◌, arith}
 use Rattle.std.specs.Prelude.{slice_get, slice_index}
 use Rattle.std.specs.List.{All}
 use Rattle.std.proofs.Math.Logic.{∥∥₁_map}
@@ -132,7 +133,8 @@ pub record IsWith (p : PlainMoves) (r w : ScriptMoves) : Type 0 where
   pub missed : w.missed ≡ r.missed
   pub read : w.read ≡ r.read
 
-module _ (m r w n : ScriptMoves) (p : PlainMoves) (kind : Kind) (q : ℕ) (ready : IsReady m r) (with : IsWith p r w) (found : FindsWord q w n)
+module _ (m r w n : ScriptMoves) (p : PlainMoves) (kind : Kind) (q : ℕ) (ready : IsReady m r) (with : IsWith p r w)
+    (found : FindsWord q w n)
     (here : q ≡ place (key_by p) kind) (ticks : (v : View) → (after plain_tick kind v).moves ≡ plain_tick v.moves) where
   now : n.plain ≡ p
   now = found.plain ∙ with.plain

@@ -1,5 +1,5 @@
 -- What a mover is told and tells: which word a place is, and what a step leaves of the words.
-use Rattle.std.specs.Prelude.{◌≡◌, ◌≢◌, ℕ, ◌+◌, ◌*◌, ◌^◌, ◌<◌, ◌≤◌, List, Option, Some, IfSome, Bool, MatchBool, slice_index, slice_set}
+use Rattle.std.specs.Prelude.{◌≡◌, ◌≢◌, ℕ, ◌+◌, ◌*◌, ◌^◌, ◌<◌, ◌≤◌, List, Option, Some, IfSome, Bool, MatchBool, slice_index}
 use Rattle.frame_words.specs.declared.geometry.Geometry.{Geometry}
 use Rattle.frame_words.specs.Words.{free_in, flag_in, lane_in, rest_in}
 use Rattle.frame_model.specs.declared.block.FrameBlock.{FrameBlock}
@@ -11,7 +11,7 @@ use Rattle.frame_model.specs.Key.{tree_count}
 use Rattle.frame_model.specs.Block.{block}
 use Rattle.frame_model.specs.Words.{run, entry_place, tree_place, local_place, bits_place, IsRest}
 use Rattle.frame_model.specs.View.{IsIdle}
-use Rattle.frame_model.specs.Steps.{Kind, release, give_huge, drop_flag, place, turned, effect, words_after}
+use Rattle.frame_model.specs.Steps.{Kind, release, give_huge, drop_flag, place, effect, words_after}
 use Rattle.frame_model.specs.Seats.{Cut, hand_out}
 use Rattle.frame_model.specs.Without.{without}
 

@@ -57,7 +57,8 @@ plain_outs {them} key words bytes v b agrees out = record {
 }
 
 -- the own view is one of the memory
-own_is : {them : Company} (key : Key) (words bytes : List ℕ) (v : View) → ∥ Agrees key them words bytes v ∥₁ → ∥ IsViewOf key v ∥₁
+own_is : {them : Company} (key : Key) (words bytes : List ℕ) (v : View)
+    → ∥ Agrees key them words bytes v ∥₁ → ∥ IsViewOf key v ∥₁
 own_is {them} key words bytes v agrees =
     ∥∥₁_map agrees (λ (a : Agrees key them words bytes v). All-head (IsViewOf key) v a.others a.fit.each)
 

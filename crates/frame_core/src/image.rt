@@ -13,8 +13,8 @@ mod fresh;
 
 use super::layout::{bits_place, entry_place, local_place, tree_place};
 use frame_words::{
-    Geometry, entry, entry_free, entry_huge, lane, local, local_of, tree as tree_word, tree_free,
-    tree_reserved, with_lane,
+    CHILD_WORDS, Geometry, entry, entry_free, entry_huge, lane, local, local_of, tree as tree_word,
+    tree_free, tree_reserved, with_lane,
 };
 use std::marker::Model;
 
@@ -101,7 +101,7 @@ impl Image {
         requires word { word < 8 }
         ensures { result ≡ bit_word_of (key_in self.now) self.now.words (8 * child + word) }
     {
-        self.word_at(bits_place(self.geometry(), 8 * child + word))
+        self.word_at(bits_place(self.geometry(), CHILD_WORDS * child + word))
     }
 
     /// The free frames that the word of the tree counts.
@@ -160,7 +160,7 @@ impl Image {
           words = with_bits (key_in self.old) self.old.words (8 * child + word) bits;
         } }
     {
-        let place = bits_place(self.geometry(), 8 * child + word);
+        let place = bits_place(self.geometry(), CHILD_WORDS * child + word);
         self.put(place, bits);
     }
 

@@ -6,14 +6,10 @@ ghost use Rattle.frame_model.specs.Key.{key_of, tree_count};
 ghost use Rattle.frame_model.specs.Words.{entry_word_count, entry_place, tree_place, local_place};
 ghost use Rattle.frame_model.specs.Words.{bits_place, word_count};
 
-use frame_words::Geometry;
+use frame_words::{CHILD_WORDS, Geometry, LANES};
 
 /// Words before the first entry, and words from one local word to the next: a cache line each.
 const LINE_WORDS: usize = 8;
-
-const LANES: usize = 4;
-
-const CHILD_WORDS: usize = 8;
 
 /// The place of the word that the entry of this child stands in, beside three others.
 #[inline]
@@ -22,7 +18,7 @@ pub fn entry_place(child: u32) -> usize
     ensures value { result ≡ entry_place child }
     ensures inside { (key : Key) → child < key.children → result < word_count key }
 {
-    LINE_WORDS + child as usize / LANES
+    LINE_WORDS + child as usize / LANES as usize
 }
 
 /// The place of the word of this tree.
@@ -63,14 +59,14 @@ pub fn word_count(geometry: Geometry) -> usize
 {
     first_local(geometry)
         + LINE_WORDS * geometry.cores as usize
-        + CHILD_WORDS * geometry.children as usize
+        + CHILD_WORDS as usize * geometry.children as usize
 }
 
 #[inline]
 fn entry_words(geometry: Geometry) -> usize
     ensures { result ≡ entry_word_count (key_of geometry) }
 {
-    (geometry.children as usize).div_ceil(LANES)
+    (geometry.children as usize).div_ceil(LANES as usize)
 }
 
 // Seven words behind the trees are not used, so that the first local word has its line alone.

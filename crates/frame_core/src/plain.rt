@@ -33,17 +33,10 @@ ghost use Rattle.frame_core.specs.Plain.{
 use super::image::Image;
 use super::moves::Moves;
 use frame_model::{Amount, FrameBlock};
-use frame_words::{Fault, Geometry};
-use party::Company;
+use frame_words::{CHILD_FRAMES, CHILD_WORDS, Fault, Geometry};
+use party::{Company, MOST_PIECES};
 use std::alloc::Global;
 use std::collections::VecDeque;
-
-const CHILD_FRAMES: usize = 512;
-
-const CHILD_WORDS: usize = 8;
-
-// While a block leaves, the blocks before and after stand in one queue: at most 512 each.
-const MOST_PIECES: usize = 1024;
 
 /// The words of a table, what the one who steps has in flight, and what all others have, who wait.
 #[derive(Drop)]
@@ -174,9 +167,12 @@ impl PlainMoves {
             view_by m ≡ idle (plain_key geometry sealed) geometry.cores) }
         ensures company { IfOk result IsByItself }
     {
-        let outs = vec![in alloc; 0; CHILD_FRAMES * geometry.children as usize]?;
+        let outs = vec![in alloc; 0; CHILD_FRAMES as usize * geometry.children as usize]?;
         let own = VecDeque::with_capacity(alloc, MOST_PIECES)?;
-        let filled = VecDeque::with_capacity(alloc, CHILD_WORDS * geometry.children as usize + 1)?;
+        let filled = VecDeque::with_capacity(
+            alloc,
+            CHILD_WORDS as usize * geometry.children as usize + 1,
+        )?;
         Ok(PlainMoves {
             geometry,
             sealed,

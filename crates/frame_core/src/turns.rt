@@ -18,16 +18,12 @@ ghost use Rattle.frame_model.specs.Steps.{
   Rest,
 };
 
-use frame_words::{entry, entry_free, lane, tree, tree_free, with_lane};
-
-const LANES: u32 = 4;
+use frame_words::{CHILD_FRAMES, FLAG, LANES, entry, entry_free, lane, tree, tree_free, with_lane};
 
 const LANE_BITS: u32 = 16;
 
-const FLAG: u64 = 32768;
-
-/// A flag less, and 512 free frames more.
-const HUGE_GIVEN: u64 = 32256;
+/// A flag less, and the free frames of a child more.
+const HUGE_GIVEN: u64 = FLAG - CHILD_FRAMES as u64;
 
 /// The entry has `n` free frames less.
 #[inline]

@@ -1,22 +1,12 @@
 -- Rebuilt words are so whether the memory is sealed or not.
-use Rattle.std.proofs.Common.{false, true, List, ℕ}
+use Rattle.std.proofs.Common.{false, List, [], ℕ}
 use Rattle.frame_words.specs.declared.geometry.Geometry.{Geometry}
 use Rattle.frame_core.specs.Key.{key_of}
 use Rattle.frame_core.specs.Words.{bits_place, tree_place, local_place, tree_word_of, tree_free_of, reserved_of, local_word_of, rest_of, bit_word_of, set_of}
 use Rattle.frame_core.specs.Rebuilt.{rebuilt_free, rebuilt_in_tree, rebuilt_bits, IsRebuilt}
 use Rattle.frame_core.specs.Plain.{plain_key}
-use Rattle.frame_core.proofs.PlainImage.{range_resealed}
+use Rattle.frame_model.proofs.HeldBack.{rebuilt_held_back}
 
 pub exact_resealed : (geometry : Geometry) (words : List ℕ) → IsRebuilt (key_of geometry) words words
     → IsRebuilt (plain_key geometry false) words words
-unfolding bits_place tree_place local_place tree_word_of tree_free_of reserved_of local_word_of rest_of bit_word_of
-    set_of rebuilt_free rebuilt_in_tree rebuilt_bits
-exact_resealed geometry words r = record {
-  in_range = range_resealed geometry true false words r.in_range;
-  huge = r.huge;
-  free = r.free;
-  bits = r.bits;
-  trees = r.trees;
-  unreserved = r.unreserved;
-  resting = r.resting;
-}
+exact_resealed geometry words r = rebuilt_held_back (key_of geometry) [] false words words r

@@ -1,6 +1,7 @@
 -- Four classes of steps, by the word that they write, and how each keeps the fit: an entry, a bit word, a tree word, a local word.
 -- A step owes what its own word and its own view change by; the readers of the other classes stay.
-use Rattle.std.proofs.Common.{◌≡◌, ◌≢◌, ⊎_elim, ℕ, ◌+◌, ◌*◌, ◌/◌, ◌%◌, ◌^◌, ◌<◌, ◌≤◌, max, List, [], ◌∷◌, ◌++◌, length, get_or, take, drop, set, refl, ap, ◌∙◌, arith, length-take, get_or-take, get_or-drop}
+use Rattle.std.proofs.Common.{◌≡◌, ◌≢◌, ⊎_elim, ℕ, ◌+◌, ◌*◌, ◌/◌, ◌%◌, ◌^◌, ◌<◌, ◌≤◌, max, List, [], ◌∷◌, ◌++◌, length, get_or, take, drop}
+use Rattle.std.proofs.Common.{set, refl, ap, ◌∙◌, arith, length-take, get_or-take, get_or-drop}
 use Rattle.std.specs.List.{sum_by, All}
 use Rattle.std.specs.Int.{bit_at}
 use Rattle.std.specs.Int.Count.{ones}
@@ -14,10 +15,13 @@ use Rattle.frame_words.specs.Words.{free_in, flag_in, rest_in, local_word}
 use Rattle.frame_model.specs.declared.key.Key.{Key}
 use Rattle.frame_model.specs.declared.view.View.{View}
 use Rattle.frame_model.specs.Key.{frame_count, tree_count, child_of, tree_of_child}
-use Rattle.frame_model.specs.Words.{bit_of, bit_word_of, bits_place, set_of, free_of, huge_of, held_of, held_in_tree, tree_free_of, reserved_of, rest_of, count_on, is_on, with_entry, with_tree, with_local, with_bits, IsRest, AreInRange}
-use Rattle.frame_model.specs.View.{small_in, whole_in, fills, marks, charged_in, paid_on, reserves, blocks_out, ground_small_in, ground_in, IsViewOf}
+use Rattle.frame_model.specs.Words.{bit_of, bit_word_of, bits_place, set_of, free_of, huge_of, held_of, held_in_tree, tree_free_of}
+use Rattle.frame_model.specs.Words.{reserved_of, rest_of, count_on, is_on, with_entry, with_tree, with_local, with_bits, IsRest, AreInRange}
+use Rattle.frame_model.specs.View.{small_in, whole_in, fills, marks, charged_in, paid_on, reserves, blocks_out, ground_small_in, ground_in}
+use Rattle.frame_model.specs.View.{IsViewOf}
 use Rattle.frame_model.specs.Fit.{total, Fit}
-use Rattle.frame_model.proofs.Words.{held_is, tree_here, tree_else, tree_same, EntryWritten, entry_written, TreeWritten, tree_written, LocalWritten, local_written, BitsWritten, bits_written}
+use Rattle.frame_model.proofs.Words.{held_is, tree_here, tree_else, tree_same, EntryWritten, entry_written, TreeWritten, tree_written}
+use Rattle.frame_model.proofs.Words.{LocalWritten, local_written, BitsWritten, bits_written}
 use Rattle.frame_model.proofs.Keeps.{Balanced, turn_keeps, cut_keeps, join_keeps}
 use Rattle.frame_model.proofs.Bits.{ones-le}
 

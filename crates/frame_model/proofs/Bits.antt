@@ -5,7 +5,8 @@ use Rattle.std.specs.Int.Count.{ones, ones_step, ones_cat, ones-ones}
 use Rattle.std.specs.Int.Bits.{bit_and, bit_or, or_step, and_step}
 use Rattle.std.proofs.Math.Nat.{pow-suc}
 use Rattle.std.proofs.lemmas.Nat.{pow_pos, and_le_l, or_lt}
-use Rattle.std.proofs.lemmas.Nat.Bits.{bit_at_and, bit_at_or, bit_at-lt, bit_at-zero, bit_at_not, bit_at_mask_inside, bit_at_mask_below, bit_at_mask_above, same_from_bits_below}
+use Rattle.std.proofs.lemmas.Nat.Bits.{bit_at_and, bit_at_or, bit_at-lt, bit_at-zero, bit_at_not, bit_at_mask_inside, bit_at_mask_below}
+use Rattle.std.proofs.lemmas.Nat.Bits.{bit_at_mask_above, same_from_bits_below}
 use lib.Pow.{high_ones, pow_mono}
 use Rattle.frame_model.specs.Words.{run}
 

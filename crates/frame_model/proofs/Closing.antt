@@ -1,5 +1,6 @@
 -- Once one idle view has all shares, the counters add up, and where nothing is lent the held frames are just the kept ones.
-use Rattle.std.proofs.Common.{◌≡◌, ℕ, zero, suc, pos, ◌+◌, ◌-◌, ◌*◌, ◌/◌, ◌<◌, ◌≤◌, List, [], ◌∷◌, length, get_or, Bool, true, false, refl, ap, sym, ◌∙◌, arith}
+use Rattle.std.proofs.Common.{◌≡◌, ℕ, zero, suc, pos, ◌+◌, ◌-◌, ◌*◌, ◌/◌, ◌<◌, ◌≤◌, List, [], ◌∷◌, length, get_or, Bool, true, false, refl}
+use Rattle.std.proofs.Common.{ap, sym, ◌∙◌, arith}
 use Rattle.std.specs.Prelude.{if◌then◌else◌, nat_eq, map}
 use Rattle.std.specs.List.{sum_by, All}
 use Rattle.std.proofs.lemmas.List.Sums.{sum_by-cons, get_or-le-sum_by}
@@ -15,7 +16,8 @@ use Rattle.frame_model.specs.declared.view.View.{View}
 use Rattle.frame_model.specs.Key.{tree_count, children_in, children_of, size_of}
 use Rattle.frame_model.specs.Block.{smalls, wholes}
 use Rattle.frame_model.specs.Words.{set_of, free_of, huge_of, held_of, held_in_tree, tree_free_of, resting_on}
-use Rattle.frame_model.specs.View.{count_in, names, is_at, whole_in, marks, charged_in, paid_on, reserves, blocks_out, ground_in, spent, ground_with, boot_blocks, fixed_ground, IsIdle, HasNoPart, HasOneBlock}
+use Rattle.frame_model.specs.View.{count_in, names, is_at, whole_in, marks, charged_in, paid_on, reserves, blocks_out, ground_in, spent}
+use Rattle.frame_model.specs.View.{ground_with, boot_blocks, fixed_ground, IsIdle, HasNoPart, HasOneBlock}
 use Rattle.frame_model.specs.Fit.{total, Fit}
 use Rattle.frame_model.specs.Rebuilt.{rebuilt_free, rebuilt_in_tree}
 use Rattle.frame_model.specs.Laws.{AddsUp, HoldsJust, EveryClosingAddsUp, EveryClosingHoldsTheKept}

@@ -6,7 +6,8 @@ use Rattle.frame_model.specs.Words.{word_count}
 use Rattle.frame_model.specs.View.{spent}
 use Rattle.frame_model.specs.Steps.{place, turned, seen_by, IsMade, effect, after_load, next}
 use Rattle.frame_model.specs.Seats.{left_by, right_by, joined_by, MayCut, MayJoin}
-use Rattle.frame_model.specs.Events.{State, eye, sighting, Event, loads, makes, loses, loses_at_will, cuts, joins, loser, Has, MayStep, IsExchange, Happens, LeadsTo}
+use Rattle.frame_model.specs.Events.{State, eye, sighting, Event, loads, makes, loses, loses_at_will, cuts, joins, loser, Has, MayStep}
+use Rattle.frame_model.specs.Events.{IsExchange, Happens, LeadsTo}
 
 -- what a seat has, and has read
 abbrev pub seat : State → ℕ → Eye

@@ -1,7 +1,8 @@
 -- The words of a memory depend neither on the ranges that its key names nor on its seal.
 use Rattle.std.proofs.Common.{ℕ, List, [], Option, None, Some, Bool, false}
 use Rattle.frame_model.specs.declared.key.Key.{Key}
-use Rattle.frame_model.specs.Words.{tree_place, local_place, bits_place, word_count, tree_word_of, tree_free_of, reserved_of, local_word_of, rest_of, bit_word_of, set_of, IsRest, AreInRange}
+use Rattle.frame_model.specs.Words.{tree_place, local_place, bits_place, word_count, tree_word_of, tree_free_of, reserved_of, local_word_of}
+use Rattle.frame_model.specs.Words.{rest_of, bit_word_of, set_of, IsRest, AreInRange}
 use Rattle.frame_model.specs.Rebuilt.{rebuilt_free, rebuilt_in_tree, rebuilt_bits, IsRebuilt}
 use Rattle.frame_model.specs.Stops.{unsealed}
 

@@ -9,8 +9,10 @@ use lib.ListN.{get_elem?}
 use Rattle.frame_model.specs.declared.key.Key.{Key}
 use Rattle.frame_model.specs.declared.view.View.{View}
 use Rattle.frame_model.specs.Key.{frame_count, tree_count, child_of}
-use Rattle.frame_model.specs.Words.{bit_of, free_of, huge_of, held_of, held_in_tree, tree_free_of, reserved_of, resting_on, cores_on, AreInRange}
-use Rattle.frame_model.specs.View.{small_in, whole_in, marks, charged_in, paid_on, reserves, blocks_out, ground_small_in, ground_in, fixed_ground, IsViewOf}
+use Rattle.frame_model.specs.Words.{bit_of, free_of, huge_of, held_of, held_in_tree, tree_free_of, reserved_of, resting_on, cores_on}
+use Rattle.frame_model.specs.Words.{AreInRange}
+use Rattle.frame_model.specs.View.{small_in, whole_in, marks, charged_in, paid_on, reserves, blocks_out, ground_small_in, ground_in}
+use Rattle.frame_model.specs.View.{fixed_ground, IsViewOf}
 use Rattle.frame_model.specs.Fit.{total, Fit}
 use Rattle.frame_model.proofs.Sums.{sum_set}
 

@@ -1,5 +1,6 @@
 -- Words that equal their own rebuilding fit views that hold just what they hold and have nothing in flight.
-use Rattle.std.proofs.Common.{◌≡◌, inr, ℕ, zero, suc, ◌+◌, ◌-◌, ◌*◌, ◌/◌, ◌%◌, ◌<◌, ◌≤◌, List, [], ◌∷◌, Some, true, false, refl, ap, ◌∙◌, arith}
+use Rattle.std.proofs.Common.{◌≡◌, inr, ℕ, zero, suc, ◌+◌, ◌-◌, ◌*◌, ◌/◌, ◌%◌, ◌<◌, ◌≤◌, List, [], ◌∷◌, Some, true, false, refl, ap, ◌∙◌}
+use Rattle.std.proofs.Common.{arith}
 use Rattle.std.specs.Prelude.{if◌then◌else◌, nat_eq, nat_le}
 use Rattle.std.specs.List.{sum_by, All, range_with_len}
 use Rattle.std.specs.Int.{bit_at}
@@ -12,15 +13,19 @@ use Rattle.frame_model.specs.declared.key.Key.{Key}
 use Rattle.frame_model.specs.declared.view.View.{View}
 use Rattle.frame_model.specs.Key.{frame_count, tree_count, child_of, children_in, children_of, size_of, is_boot_frame}
 use Rattle.frame_model.specs.Block.{IsBlock, smalls, wholes}
-use Rattle.frame_model.specs.Words.{bit_of, bit_word_of, set_of, free_of, huge_of, held_of, held_in_tree, tree_free_of, rest_of, count_on, is_on, resting_on, cores_on}
-use Rattle.frame_model.specs.View.{small_in, whole_in, fills, marks, charged_in, paid_on, reserves, blocks_out, ground_small_in, ground_in, idle, spent, ground_with, boot_blocks, fixed_ground, IsViewOf}
+use Rattle.frame_model.specs.Words.{bit_of, bit_word_of, set_of, free_of, huge_of, held_of, held_in_tree, tree_free_of, rest_of, count_on}
+use Rattle.frame_model.specs.Words.{is_on, resting_on, cores_on}
+use Rattle.frame_model.specs.View.{small_in, whole_in, fills, marks, charged_in, paid_on, reserves, blocks_out, ground_small_in, ground_in}
+use Rattle.frame_model.specs.View.{idle, spent, ground_with, boot_blocks, fixed_ground, IsViewOf}
 use Rattle.frame_model.specs.Fit.{total, Fit}
 use Rattle.frame_model.specs.Rebuilt.{rebuilt_free, rebuilt_in_tree, rebuilt_bits, IsRebuilt}
-use Rattle.frame_model.specs.Openings.{set_blocks, huge_blocks, held_blocks, IsSealedOpening, IsReopening, reopener, opened, EveryRunFromSealed, EveryRunFromReopening}
+use Rattle.frame_model.specs.Openings.{set_blocks, huge_blocks, held_blocks, IsSealedOpening, IsReopening, reopener, opened}
+use Rattle.frame_model.specs.Openings.{EveryRunFromSealed, EveryRunFromReopening}
 use Rattle.frame_model.proofs.Sums.{sum_plus}
 use Rattle.frame_model.proofs.Amounts.{count_none, is_at_none, names_none, count_on_none, is_on_none}
 use Rattle.frame_model.proofs.Blocks.{smalls_none, wholes_none, smalls_both, wholes_both}
-use Rattle.frame_model.proofs.Chosen.{frames_smalls, frames_wholes, frames_are_blocks, children_wholes, children_smalls, children_are_blocks}
+use Rattle.frame_model.proofs.Chosen.{frames_smalls, frames_wholes, frames_are_blocks, children_wholes, children_smalls}
+use Rattle.frame_model.proofs.Chosen.{children_are_blocks}
 use Rattle.frame_model.proofs.Words.{held_is}
 use Rattle.frame_model.proofs.Keeps.{total_is}
 use Rattle.frame_model.proofs.Balances.{set-le}
@@ -64,7 +69,8 @@ module _ (key : Key) (ws : List ℕ) (r : IsRebuilt key ws ws) where
       by : (n : ℕ) → huge_of ws c ≡ n → n ≤ 1
           → free_of ws c ≡ (if nat_eq (huge_of ws c) 0 then 512 - set_of key ws c else 0)
           → free_of ws c + held_of key ws c ≡ 512
-      by zero e l f = let g : free_of ws c ≡ 512 - set_of key ws c = rw e at f in omega (arith, held_is key ws c, set-le key ws c r.in_range h)
+      by zero e l f = let g : free_of ws c ≡ 512 - set_of key ws c = rw e at f in omega
+          (arith, held_is key ws c, set-le key ws c r.in_range h)
       by (suc zero) e l f = let g : free_of ws c ≡ 0 = rw e at f in omega (arith, held_is key ws c, set-le key ws c r.in_range h)
       by (suc (suc n)) e l f = absurd (omega arith)
 
@@ -84,18 +90,28 @@ module _ (key : Key) (ws : List ℕ) (r : IsRebuilt key ws ws) where
 
   pub no_resting : (t : ℕ) → resting_on key ws t ≡ 0
   unfolding resting_on
-  no_resting t = omega (arith, range_all (λ k. count_on t (rest_of key ws k)) 0 0 key.cores (λ k l h. ap (count_on t) (r.resting k (omega arith)) ∙ count_on_none t))
+  no_resting t = omega (
+    arith,
+    range_all (λ k. count_on t (rest_of key ws k)) 0 0 key.cores
+        (λ k l h. ap (count_on t) (r.resting k (omega arith)) ∙ count_on_none t),
+  )
 
   no_cores : (t : ℕ) → cores_on key ws t ≡ 0
   unfolding cores_on
-  no_cores t = omega (arith, range_all (λ k. is_on t (rest_of key ws k)) 0 0 key.cores (λ k l h. ap (is_on t) (r.resting k (omega arith)) ∙ is_on_none t))
+  no_cores t = omega (
+    arith,
+    range_all (λ k. is_on t (rest_of key ws k)) 0 0 key.cores
+        (λ k l h. ap (is_on t) (r.resting k (omega arith)) ∙ is_on_none t),
+  )
 
   flagged_clear : (x : ℕ) → x < frame_count key → bit_of key ws x + huge_of ws (child_of x) ≤ 1
   unfolding rebuilt_bits bit_of
   flagged_clear x h =
       let same : x / 64 / 8 ≡ child_of x = omega arith in
-      let e : bit_word_of key ws (x / 64) ≡ (if nat_eq (huge_of ws (x / 64 / 8)) 0 then bit_word_of key ws (x / 64) else 0) = r.bits (x / 64) (omega arith) in
-      by (huge_of ws (x / 64 / 8)) refl (omega (arith, r.in_range.huge (child_of x) (omega arith), ap (huge_of ws) same)) (ap (huge_of ws) same) e
+      let e : bit_word_of key ws (x / 64) ≡ (if nat_eq (huge_of ws (x / 64 / 8)) 0 then bit_word_of key ws (x / 64) else 0) = r.bits
+      (x / 64) (omega arith) in
+      by (huge_of ws (x / 64 / 8)) refl (omega (arith, r.in_range.huge (child_of x) (omega arith), ap (huge_of ws) same))
+      (ap (huge_of ws) same) e
     where
       by : (n : ℕ) → huge_of ws (x / 64 / 8) ≡ n → n ≤ 1 → huge_of ws (x / 64 / 8) ≡ huge_of ws (child_of x)
           → bit_word_of key ws (x / 64)
@@ -105,7 +121,8 @@ module _ (key : Key) (ws : List ℕ) (r : IsRebuilt key ws ws) where
         where
           bit-le-one : bit_at (bit_word_of key ws (x / 64)) (x % 64) ≤ 1
           bit-le-one = bit-le key ws x
-      by (suc zero) e l s f = let g : bit_word_of key ws (x / 64) ≡ 0 = rw e at f in omega (arith, ap (λ n. bit_at n (x % 64)) g, bit_at-zero (x % 64))
+      by (suc zero) e l s f = let g : bit_word_of key ws (x / 64) ≡ 0 = rw e at f in omega
+          (arith, ap (λ n. bit_at n (x % 64)) g, bit_at-zero (x % 64))
       by (suc (suc n)) e l s f = absurd (omega arith)
 
   pub resting_fits : (shares : ℕ) (views : List View) → Rests key shares ws views → Fit key shares ws views
@@ -202,7 +219,8 @@ sealed_fits key ws shares h o =
 set_smalls : (key : Key) (ws : List ℕ) (x : ℕ) → x < frame_count key
     → smalls x (set_blocks key ws) ≡ bit_of key ws x
 unfolding set_blocks
-set_smalls key ws x h = frames_smalls (λ f. nat_eq (bit_of key ws f) 1) (frame_count key) x h ∙ one_or_none (bit_of key ws x) (bit-le key ws x)
+set_smalls key ws x h = frames_smalls (λ f. nat_eq (bit_of key ws f) 1) (frame_count key) x h
+    ∙ one_or_none (bit_of key ws x) (bit-le key ws x)
   where
     one_or_none : (n : ℕ) → n ≤ 1 → (if nat_eq n 1 then 1 else 0) ≡ n
     one_or_none zero l = refl
@@ -230,7 +248,8 @@ huge_smalls key ws x = children_smalls (λ d. nat_eq (huge_of ws d) 1) key.child
 pub held_are_blocks : (key : Key) (ws : List ℕ) → All (IsBlock key) (held_blocks key ws)
 unfolding huge_blocks set_blocks
 held_are_blocks key ws =
-    All-append (IsBlock key) (huge_blocks key ws) (set_blocks key ws) (children_are_blocks key (λ d. nat_eq (huge_of ws d) 1)) (frames_are_blocks key (λ f. nat_eq (bit_of key ws f) 1))
+    All-append (IsBlock key) (huge_blocks key ws) (set_blocks key ws) (children_are_blocks key (λ d. nat_eq (huge_of ws d) 1))
+    (frames_are_blocks key (λ f. nat_eq (bit_of key ws f) 1))
 
 pub held_smalls : (key : Key) (ws : List ℕ) (x : ℕ) → x < frame_count key
     → smalls x (held_blocks key ws) ≡ bit_of key ws x
@@ -310,7 +329,9 @@ reopening_fits key ws shares h o =
     })
 
 pub every_run_from_sealed : EveryRunFromSealed
-every_run_from_sealed key ws shares events s h o run = every_run_fits key shares (opened ws (idle key shares)) events s (sealed_fits key ws shares h o) run
+every_run_from_sealed key ws shares events s h o run = every_run_fits key shares (opened ws (idle key shares)) events s
+    (sealed_fits key ws shares h o) run
 
 pub every_run_from_reopening : EveryRunFromReopening
-every_run_from_reopening key ws shares events s h o run = every_run_fits key shares (opened ws (reopener key ws shares)) events s (reopening_fits key ws shares h o) run
+every_run_from_reopening key ws shares events s h o run = every_run_fits key shares (opened ws (reopener key ws shares)) events s
+    (reopening_fits key ws shares h o) run

@@ -3,7 +3,8 @@ use Rattle.std.proofs.Common.{◌≡◌, ◌≢◌, ℕ, ◌*◌, ◌<◌, List,
 use Rattle.frame_words.specs.Words.{rest_in}
 use Rattle.frame_model.specs.declared.key.Key.{Key}
 use Rattle.frame_model.specs.Key.{tree_count}
-use Rattle.frame_model.specs.Words.{entry_word_count, entry_place, tree_place, local_place, bits_place, local_word_of, rest_of, bit_word_of, with_entry, with_tree, with_local, with_bits}
+use Rattle.frame_model.specs.Words.{entry_word_count, entry_place, tree_place, local_place, bits_place, local_word_of, rest_of, bit_word_of}
+use Rattle.frame_model.specs.Words.{with_entry, with_tree, with_local, with_bits}
 use Rattle.frame_model.proofs.Words.{entry-lt-local, entry-lt-bits, tree-lt-local, tree-lt-bits, local-lt-bits, child-has-lane}
 
 module _ (key : Key) (ws : List ℕ) where

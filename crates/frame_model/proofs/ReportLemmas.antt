@@ -1,5 +1,6 @@
 -- The held frames, counted one by one, are those that bits and flags tell by the child.
-use Rattle.std.proofs.Common.{◌≡◌, ⊎_elim, ℕ, zero, suc, ◌+◌, ◌*◌, ◌/◌, ◌%◌, ◌^◌, ◌<◌, ◌≤◌, List, [], ◌∷◌, length, get_or, take, drop, refl, ap, subst, ◌∙◌, arith, length-drop, get_or-drop}
+use Rattle.std.proofs.Common.{◌≡◌, ⊎_elim, ℕ, zero, suc, ◌+◌, ◌*◌, ◌/◌, ◌%◌, ◌^◌, ◌<◌, ◌≤◌, List, [], ◌∷◌, length, get_or, take, drop, refl}
+use Rattle.std.proofs.Common.{ap, subst, ◌∙◌, arith, length-drop, get_or-drop}
 use Rattle.std.specs.List.{sum_by, range_with_len}
 use Rattle.std.specs.Int.{bit_at}
 use Rattle.std.specs.Int.Count.{ones, ones_step}

@@ -10,7 +10,8 @@ use Rattle.frame_model.specs.View.{spent}
 use Rattle.frame_model.specs.Fit.{Fit}
 use Rattle.frame_model.specs.Steps.{place, turned, effect, after_load, next}
 use Rattle.frame_model.specs.Seats.{left_by, right_by, joined_by}
-use Rattle.frame_model.specs.Events.{State, eye, views_of, sighting, Event, loads, makes, loses, loses_at_will, cuts, joins, loser, Happens, Fits, EveryRunFits}
+use Rattle.frame_model.specs.Events.{State, eye, views_of, sighting, Event, loads, makes, loses, loses_at_will, cuts, joins, loser, Happens}
+use Rattle.frame_model.specs.Events.{Fits, EveryRunFits}
 use Rattle.frame_model.proofs.Steps.Shared.{named, view_of}
 use Rattle.frame_model.proofs.Steps.Seats.{look_keeps}
 use Rattle.frame_model.proofs.Steps.Every.{kind_keeps, seat_cut_keeps, seat_join_keeps}

@@ -1,5 +1,6 @@
 -- What remains of a list of blocks that a block leaves.
-use Rattle.std.proofs.Common.{◌≡◌, ◌≢◌, ◌⊎◌, inl, inr, ⊎_elim, ℕ, zero, suc, ◌+◌, ◌*◌, ◌/◌, ◌%◌, ◌^◌, ◌<◌, ◌≤◌, List, [], ◌∷◌, ◌++◌, length, get_or, Bool, true, false, refl, ap, sym, subst, ◌∙◌, arith}
+use Rattle.std.proofs.Common.{◌≡◌, ◌≢◌, ◌⊎◌, inl, inr, ⊎_elim, ℕ, zero, suc, ◌+◌, ◌*◌, ◌/◌, ◌%◌, ◌^◌, ◌<◌, ◌≤◌, List, [], ◌∷◌, ◌++◌, length}
+use Rattle.std.proofs.Common.{get_or, Bool, true, false, refl, ap, sym, subst, ◌∙◌, arith}
 use Rattle.std.specs.Prelude.{Contains, if◌then◌else◌, cond, flat_map}
 use Rattle.std.specs.List.{sum_by, All}
 use Rattle.std.proofs.lemmas.Bool.{cases_lt}
@@ -14,7 +15,8 @@ use Rattle.frame_model.specs.Key.{child_of}
 use Rattle.frame_model.specs.Block.{block, IsBlock, covers, small_at, whole_at, smalls, wholes}
 use Rattle.frame_model.specs.Steps.Amounts.{Leaves}
 use Rattle.frame_model.specs.Without.{is_same, times, less_one, is_apart, is_inside, remains, remainder, without, HasFrames}
-use Rattle.frame_model.proofs.Blocks.{smalls_cons, wholes_cons, smalls_none, wholes_none, smalls_both, wholes_both, in_block, before_block, behind_block, not_whole, halves}
+use Rattle.frame_model.proofs.Blocks.{smalls_cons, wholes_cons, smalls_none, wholes_none, smalls_both, wholes_both, in_block, before_block}
+use Rattle.frame_model.proofs.Blocks.{behind_block, not_whole, halves}
 
 -- The same block.
 

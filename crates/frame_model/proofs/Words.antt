@@ -1,5 +1,7 @@
 -- What each reader says after each write: of the place that was written what was put there, of every other what it said before.
-use Rattle.std.proofs.Common.{◌≡◌, ◌≢◌, ◌⊎◌, inl, inr, ⊎_elim, ℕ, ◌+◌, ◌-◌, ◌*◌, ◌/◌, ◌%◌, ◌^◌, ◌<◌, ◌≤◌, max, List, length, get_or, take, drop, set, refl, ap, sym, subst, ◌∙◌, arith, get_or-set_other, get_or-set_same, length-take, length-drop, get_or-take, get_or-drop}
+use Rattle.std.proofs.Common.{◌≡◌, ◌≢◌, ◌⊎◌, inl, inr, ⊎_elim, ℕ, ◌+◌, ◌-◌, ◌*◌, ◌/◌, ◌%◌, ◌^◌, ◌<◌, ◌≤◌, max, List, length, get_or, take}
+use Rattle.std.proofs.Common.{drop, set, refl, ap, sym, subst, ◌∙◌, arith, get_or-set_other, get_or-set_same, length-take, length-drop}
+use Rattle.std.proofs.Common.{get_or-take, get_or-drop}
 use Rattle.std.specs.List.{sum_by}
 use Rattle.std.specs.Int.{bit_at}
 use Rattle.std.specs.Int.Count.{ones}
@@ -11,7 +13,10 @@ use Rattle.std.proofs.lemmas.List.Sums.{sum_by-set}
 use Rattle.frame_words.specs.Words.{free_in, flag_in, lane_in, lane_put, rest_in, local_word}
 use Rattle.frame_model.specs.declared.key.Key.{Key}
 use Rattle.frame_model.specs.Key.{tree_count, children_in, tree_of_child}
-use Rattle.frame_model.specs.Words.{entry_word_count, entry_place, tree_place, local_place, bits_place, word_count, entry_of, free_of, huge_of, tree_word_of, tree_free_of, reserved_of, local_word_of, rest_of, bit_word_of, bit_of, set_of, held_of, held_in_tree, count_on, is_on, resting_on, cores_on, with_entry, with_tree, with_local, with_bits, IsRest, AreInRange}
+use Rattle.frame_model.specs.Words.{entry_word_count, entry_place, tree_place, local_place, bits_place, word_count, entry_of, free_of}
+use Rattle.frame_model.specs.Words.{huge_of, tree_word_of, tree_free_of, reserved_of, local_word_of, rest_of, bit_word_of, bit_of, set_of}
+use Rattle.frame_model.specs.Words.{held_of, held_in_tree, count_on, is_on, resting_on, cores_on, with_entry, with_tree, with_local}
+use Rattle.frame_model.specs.Words.{with_bits, IsRest, AreInRange}
 use Rattle.frame_model.proofs.Sums.{range_same, range_but}
 use Rattle.frame_words.proofs.LaneLemmas.{lane_in-lane_put, lane_in-lane_put_other, lane_put-lt}
 
@@ -59,7 +64,8 @@ module _ (ws : List ℕ) (p n : ℕ) where
   at_here h = get_or-set_same ws p n 0 h
 
   at_below : (b : ℕ) → p < length ws → n < b → (i : ℕ) → get_or ws i 0 < b → get_or (set ws p n) i 0 < b
-  at_below b h l i m = ⊎_elim (λ (e : i ≡ p). omega (arith, at_here h, ap (λ j. get_or (set ws p n) j 0) e)) (λ ne. omega (arith, at_else i ne)) (cases_eq i p)
+  at_below b h l i m = ⊎_elim (λ (e : i ≡ p). omega (arith, at_here h, ap (λ j. get_or (set ws p n) j 0) e))
+      (λ ne. omega (arith, at_else i ne)) (cases_eq i p)
 
 -- What the readers say of a list in which the words of a child, of a core, and so on, are those of another.
 
@@ -90,12 +96,14 @@ module _ (key : Key) (ws new : List ℕ) where
   resting_same : ((k : ℕ) → k < key.cores → local_word_of key new k ≡ local_word_of key ws k) → (t : ℕ)
       → resting_on key new t ≡ resting_on key ws t
   unfolding resting_on
-  resting_same all t = range_same (λ k. count_on t (rest_of key ws k)) (λ k. count_on t (rest_of key new k)) 0 key.cores (λ k l h. ap (count_on t) (rest_same k (all k (omega arith))))
+  resting_same all t = range_same (λ k. count_on t (rest_of key ws k)) (λ k. count_on t (rest_of key new k)) 0 key.cores
+      (λ k l h. ap (count_on t) (rest_same k (all k (omega arith))))
 
   cores_same : ((k : ℕ) → k < key.cores → local_word_of key new k ≡ local_word_of key ws k) → (t : ℕ)
       → cores_on key new t ≡ cores_on key ws t
   unfolding cores_on
-  cores_same all t = range_same (λ k. is_on t (rest_of key ws k)) (λ k. is_on t (rest_of key new k)) 0 key.cores (λ k l h. ap (is_on t) (rest_same k (all k (omega arith))))
+  cores_same all t = range_same (λ k. is_on t (rest_of key ws k)) (λ k. is_on t (rest_of key new k)) 0 key.cores
+      (λ k l h. ap (is_on t) (rest_same k (all k (omega arith))))
 
   bit_same : (x : ℕ) → bit_word_of key new (x / 64) ≡ bit_word_of key ws (x / 64)
       → bit_of key new x ≡ bit_of key ws x
@@ -112,11 +120,13 @@ module _ (key : Key) (ws new : List ℕ) (c : ℕ) (h : c < key.children)
     (others : (d : ℕ) → d < key.children → d ≢ c → held_of key new d ≡ held_of key ws d) where
   pub tree_else : (t : ℕ) → t ≢ tree_of_child c → held_in_tree key new t ≡ held_in_tree key ws t
   unfolding held_in_tree
-  tree_else t ne = range_same (held_of key ws) (held_of key new) (8 * t) (children_in key t) (λ d l r. others d (omega arith) (λ e. ne (omega arith)))
+  tree_else t ne = range_same (held_of key ws) (held_of key new) (8 * t) (children_in key t)
+      (λ d l r. others d (omega arith) (λ e. ne (omega arith)))
 
   pub tree_here : held_in_tree key new (tree_of_child c) + held_of key ws c ≡ held_in_tree key ws (tree_of_child c) + held_of key new c
   unfolding held_in_tree
-  tree_here = range_but (held_of key ws) (held_of key new) (8 * (c / 8)) (children_in key (c / 8)) c (omega arith) (omega arith) (λ d l r ne. others d (omega arith) ne)
+  tree_here = range_but (held_of key ws) (held_of key new) (8 * (c / 8)) (children_in key (c / 8)) c (omega arith) (omega arith)
+      (λ d l r ne. others d (omega arith) ne)
 
 pub tree_same : (key : Key) (ws new : List ℕ)
     → ((d : ℕ) → d < key.children → held_of key new d ≡ held_of key ws d) → (t : ℕ)
@@ -169,7 +179,8 @@ module _ (key : Key) (ws : List ℕ) (c e : ℕ) (r : AreInRange key ws) (h : c 
   entry_beside d ne s =
       let lanes : d % 4 ≢ c % 4 = (λ q. ne (omega arith)) in
       let p : 8 + d / 4 ≡ 8 + c / 4 = omega arith in
-      ap (λ i. lane_in (get_or (with_entry ws c e) i 0) d) p ∙ ap (λ n. lane_in n d) e_there ∙ lane_in-lane_put_other (get_or ws (8 + c / 4) 0) c d e small lanes
+      ap (λ i. lane_in (get_or (with_entry ws c e) i 0) d) p ∙ ap (λ n. lane_in n d) e_there
+      ∙ lane_in-lane_put_other (get_or ws (8 + c / 4) 0) c d e small lanes
       ∙ ap (λ i. lane_in (get_or ws i 0) d) (sym p)
 
   entry_far : (d : ℕ) → d / 4 ≢ c / 4 → entry_of (with_entry ws c e) d ≡ entry_of ws d
@@ -194,7 +205,8 @@ module _ (key : Key) (ws : List ℕ) (c e : ℕ) (r : AreInRange key ws) (h : c 
   e_sets : (d : ℕ) → set_of key (with_entry ws c e) d ≡ set_of key ws d
   unfolding set_of with_entry
   e_sets d =
-      ap (λ xs. sum_by ones (take 8 xs)) (drop-set-lt (bits_place key (8 * d)) ws (entry_place c) (lane_put (get_or ws (entry_place c) 0) c e) (entry-lt-bits key c (8 * d) e_lane))
+      ap (λ xs. sum_by ones (take 8 xs)) (drop-set-lt (bits_place key (8 * d)) ws (entry_place c)
+      (lane_put (get_or ws (entry_place c) 0) c e) (entry-lt-bits key c (8 * d) e_lane))
 
   e_count : length (with_entry ws c e) ≡ length ws
   unfolding with_entry
@@ -202,7 +214,8 @@ module _ (key : Key) (ws : List ℕ) (c e : ℕ) (r : AreInRange key ws) (h : c 
 
   e_lanes : (d : ℕ) → d < 4 * entry_word_count key → get_or (with_entry ws c e) (entry_place d) 0 < 2 ^ 64
   unfolding with_entry
-  e_lanes d q = at_below ws (entry_place c) (lane_put (get_or ws (entry_place c) 0) c e) (2 ^ 64) e_room (lane_put-lt (get_or ws (entry_place c) 0) c e (r.entry_words c e_lane) small) (entry_place d) (r.entry_words d q)
+  e_lanes d q = at_below ws (entry_place c) (lane_put (get_or ws (entry_place c) 0) c e) (2 ^ 64) e_room
+      (lane_put-lt (get_or ws (entry_place c) 0) c e (r.entry_words c e_lane) small) (entry_place d) (r.entry_words d q)
 
   e_anchor : (i : ℕ) → i < 8 → i ≢ entry_place c
   unfolding entry_place
@@ -248,8 +261,10 @@ module _ (key : Key) (ws : List ℕ) (c e : ℕ) (r : AreInRange key ws) (h : c 
           count = e_count ∙ r.count;
           anchor = λ i q. e_word i (e_anchor i q) ∙ r.anchor i q;
           entry_words = e_lanes;
-          free = λ d q. ⊎_elim (λ s. omega (arith, e_free_here, ap (free_of new) s)) (λ n. omega (arith, free_same key ws new d (entry_else d n), r.free d q)) (cases_eq d c);
-          huge = λ d q. ⊎_elim (λ s. omega (arith, e_huge_here, ap (huge_of new) s)) (λ n. omega (arith, huge_same key ws new d (entry_else d n), r.huge d q)) (cases_eq d c);
+          free = λ d q. ⊎_elim (λ s. omega (arith, e_free_here, ap (free_of new) s))
+              (λ n. omega (arith, free_same key ws new d (entry_else d n), r.free d q)) (cases_eq d c);
+          huge = λ d q. ⊎_elim (λ s. omega (arith, e_huge_here, ap (huge_of new) s))
+              (λ n. omega (arith, huge_same key ws new d (entry_else d n), r.huge d q)) (cases_eq d c);
           absent = λ d low q. entry_else d (λ s. omega arith) ∙ r.absent d low q;
           tree_free = λ t q. omega (arith, tree_free_same key ws new t (e_tree t), r.tree_free t q);
           reserved = λ t q. omega (arith, reserved_same key ws new t (e_tree t), r.reserved t q);
@@ -319,7 +334,8 @@ module _ (key : Key) (ws : List ℕ) (t n : ℕ) (r : AreInRange key ws) (h : t 
 
   t_sets : (d : ℕ) → set_of key (with_tree key ws t n) d ≡ set_of key ws d
   unfolding set_of with_tree
-  t_sets d = ap (λ xs. sum_by ones (take 8 xs)) (drop-set-lt (bits_place key (8 * d)) ws (tree_place key t) n (tree-lt-bits key t (8 * d) h))
+  t_sets d = ap (λ xs. sum_by ones (take 8 xs)) (drop-set-lt (bits_place key (8 * d)) ws (tree_place key t) n
+      (tree-lt-bits key t (8 * d) h))
 
   t_count : length (with_tree key ws t n) ≡ length ws
   unfolding with_tree
@@ -364,8 +380,10 @@ module _ (key : Key) (ws : List ℕ) (t n : ℕ) (r : AreInRange key ws) (h : t 
           free = λ d q. omega (arith, t_free d q, r.free d q);
           huge = λ d q. omega (arith, t_huge d q, r.huge d q);
           absent = λ d low q. t_entry d q ∙ r.absent d low q;
-          tree_free = λ v q. ⊎_elim (λ s. omega (arith, t_free_here, ap (tree_free_of key new) s)) (λ ne. omega (arith, tree_free_same key ws new v (t_else v ne), r.tree_free v q)) (cases_eq v t);
-          reserved = λ v q. ⊎_elim (λ s. omega (arith, t_reserved_here, ap (reserved_of key new) s)) (λ ne. omega (arith, reserved_same key ws new v (t_else v ne), r.reserved v q)) (cases_eq v t);
+          tree_free = λ v q. ⊎_elim (λ s. omega (arith, t_free_here, ap (tree_free_of key new) s))
+              (λ ne. omega (arith, tree_free_same key ws new v (t_else v ne), r.tree_free v q)) (cases_eq v t);
+          reserved = λ v q. ⊎_elim (λ s. omega (arith, t_reserved_here, ap (reserved_of key new) s))
+              (λ ne. omega (arith, reserved_same key ws new v (t_else v ne), r.reserved v q)) (cases_eq v t);
           locals = λ k q. t_local k ∙ r.locals k q ∙ ap local_word (sym (rest_same key ws new k (t_local k)));
           rests = λ k q. subst (IsRest key) (sym (rest_same key ws new k (t_local k))) (r.rests k q);
           bits = λ w q. omega (arith, t_bits w, r.bits w q);
@@ -421,14 +439,24 @@ module _ (key : Key) (ws : List ℕ) (k n : ℕ) (r : AreInRange key ws) (h : k 
   unfolding resting_on
   l_resting t =
       let new : List ℕ = with_local key ws k n in
-      omega (arith, range_but (λ j. count_on t (rest_of key ws j)) (λ j. count_on t (rest_of key new j)) 0 key.cores k (omega arith) (omega arith) (λ j l q ne. ap (count_on t) (l_rest_else j ne)), ap (count_on t) l_rest)
+      omega (
+        arith,
+        range_but (λ j. count_on t (rest_of key ws j)) (λ j. count_on t (rest_of key new j)) 0 key.cores k (omega arith)
+            (omega arith) (λ j l q ne. ap (count_on t) (l_rest_else j ne)),
+        ap (count_on t) l_rest,
+      )
 
   l_cores : (t : ℕ)
       → cores_on key (with_local key ws k n) t + is_on t (rest_of key ws k) ≡ cores_on key ws t + is_on t (rest_in n)
   unfolding cores_on
   l_cores t =
       let new : List ℕ = with_local key ws k n in
-      omega (arith, range_but (λ j. is_on t (rest_of key ws j)) (λ j. is_on t (rest_of key new j)) 0 key.cores k (omega arith) (omega arith) (λ j l q ne. ap (is_on t) (l_rest_else j ne)), ap (is_on t) l_rest)
+      omega (
+        arith,
+        range_but (λ j. is_on t (rest_of key ws j)) (λ j. is_on t (rest_of key new j)) 0 key.cores k (omega arith)
+            (omega arith) (λ j l q ne. ap (is_on t) (l_rest_else j ne)),
+        ap (is_on t) l_rest,
+      )
 
   l_lanes : (d : ℕ) → d < 4 * entry_word_count key
       → get_or (with_local key ws k n) (entry_place d) 0 ≡ get_or ws (entry_place d) 0
@@ -448,7 +476,8 @@ module _ (key : Key) (ws : List ℕ) (k n : ℕ) (r : AreInRange key ws) (h : k 
 
   l_sets : (d : ℕ) → set_of key (with_local key ws k n) d ≡ set_of key ws d
   unfolding set_of with_local
-  l_sets d = ap (λ xs. sum_by ones (take 8 xs)) (drop-set-lt (bits_place key (8 * d)) ws (local_place key k) n (local-lt-bits key k (8 * d) h))
+  l_sets d = ap (λ xs. sum_by ones (take 8 xs)) (drop-set-lt (bits_place key (8 * d)) ws (local_place key k) n
+      (local-lt-bits key k (8 * d) h))
 
   l_count : length (with_local key ws k n) ≡ length ws
   unfolding with_local
@@ -474,7 +503,8 @@ module _ (key : Key) (ws : List ℕ) (k n : ℕ) (r : AreInRange key ws) (h : k 
 
   l_locals : n ≡ local_word (rest_in n) → (j : ℕ) → j < key.cores → (j ≡ k) ⊎ (j ≢ k)
       → local_word_of key (with_local key ws k n) j ≡ local_word (rest_of key (with_local key ws k n) j)
-  l_locals e j q (inl s) = ap (local_word_of key (with_local key ws k n)) s ∙ l_there ∙ e ∙ ap local_word (sym l_rest) ∙ ap (λ i. local_word (rest_of key (with_local key ws k n) i)) (sym s)
+  l_locals e j q (inl s) = ap (local_word_of key (with_local key ws k n)) s ∙ l_there ∙ e ∙ ap local_word (sym l_rest)
+      ∙ ap (λ i. local_word (rest_of key (with_local key ws k n) i)) (sym s)
   l_locals e j q (inr ne) = l_else j ne ∙ r.locals j q ∙ ap local_word (sym (l_rest_else j ne))
 
   l_rests : IsRest key (rest_in n) → (j : ℕ) → j < key.cores → (j ≡ k) ⊎ (j ≢ k)
@@ -549,7 +579,8 @@ module _ (ws : List ℕ) (p n from : ℕ) where
       let e : p ≡ from + w = omega arith in
       let below : w < 8 = omega arith in
       let eight : List ℕ = take 8 (drop from ws) in
-      let a : take 8 (drop from (set ws p n)) ≡ set eight w n = ap (λ j. take 8 (drop from (set ws j n))) e ∙ rw (drop-set-add, take-set-lt) refl in
+      let a : take 8 (drop from (set ws p n)) ≡ set eight w n = ap (λ j. take 8 (drop from (set ws j n))) e
+      ∙ rw (drop-set-add, take-set-lt) refl in
       let len : w < length eight = simp (length-take, length-drop) (omega arith) in
       let got : get_or eight w 0 ≡ get_or ws p 0 = rw (get_or-take, get_or-drop) (ap (λ j. get_or ws j 0) (sym e)) in
       omega (arith, ap (sum_by ones) a, sum_by-set ones eight w n 0 len, ap ones got)
@@ -577,13 +608,15 @@ module _ (key : Key) (ws : List ℕ) (w n : ℕ) (r : AreInRange key ws) (h : w 
   b_sets_here : set_of key (with_bits key ws w n) (w / 8) + ones (bit_word_of key ws w) ≡ set_of key ws (w / 8) + ones n
   unfolding set_of with_bits bit_word_of bits_place word_count
   b_sets_here =
-      eight_here ws (15 + entry_word_count key + tree_count key + 8 * key.cores + w) n (15 + entry_word_count key + tree_count key + 8 * key.cores + 8 * (w / 8))
+      eight_here ws (15 + entry_word_count key + tree_count key + 8 * key.cores + w) n
+      (15 + entry_word_count key + tree_count key + 8 * key.cores + 8 * (w / 8))
       (omega arith) (omega arith) (omega (arith, r.count))
 
   b_sets_else : (d : ℕ) → d ≢ w / 8 → set_of key (with_bits key ws w n) d ≡ set_of key ws d
   unfolding set_of with_bits bits_place
   b_sets_else d ne =
-      eight_other ws (15 + entry_word_count key + tree_count key + 8 * key.cores + w) n (15 + entry_word_count key + tree_count key + 8 * key.cores + 8 * d) (grind arith)
+      eight_other ws (15 + entry_word_count key + tree_count key + 8 * key.cores + w) n
+      (15 + entry_word_count key + tree_count key + 8 * key.cores + 8 * d) (grind arith)
 
   b_lanes : (d : ℕ) → d < 4 * entry_word_count key
       → get_or (with_bits key ws w n) (entry_place d) 0 ≡ get_or ws (entry_place d) 0

@@ -5,7 +5,8 @@ use Rattle.frame_model.specs.declared.block.FrameBlock.{FrameBlock}
 use Rattle.frame_model.specs.Seats.{hand_out}
 use Rattle.frame_model.specs.Key.{is_in_range, is_boot_frame}
 use Rattle.frame_model.specs.Block.{block, IsBlock, covers}
-use Rattle.frame_model.specs.Words.{entry_place, tree_place, local_place, bits_place, word_count, entry_of, free_of, huge_of, tree_word_of, tree_free_of, local_word_of, rest_of, bit_word_of, bit_of, count_on, resting_on}
+use Rattle.frame_model.specs.Words.{entry_place, tree_place, local_place, bits_place, word_count, entry_of, free_of, huge_of, tree_word_of}
+use Rattle.frame_model.specs.Words.{tree_free_of, local_word_of, rest_of, bit_word_of, bit_of, count_on, resting_on}
 use Rattle.frame_model.specs.View.{IsIdle, count_in, counted, boot_blocks, fixed_ground}
 use Rattle.frame_model.specs.Steps.Amounts.{more, less, IsRun, Leaves}
 use Rattle.frame_model.specs.Holding.{holders}
@@ -18,10 +19,13 @@ use Rattle.frame_model.specs.Laws.{paying_local, refunding_local, collecting, fi
 use Rattle.frame_model.specs.Laws.{parting_share, handing_out, recalling, parting_ground, adopting, joining_idle}
 use Rattle.frame_model.specs.Laws.{handing_in, keeping_in, loading, losing, losing_at_will}
 use Rattle.frame_model.specs.Openings.{EveryRunFromSealed, EveryRunFromReopening, set_blocks, huge_blocks}
-use Rattle.frame_model.specs.Stops.{Moment, Passes, stays, stops, opening_moment, unsealed, known_at, known_of, flying_of, is_lost, range_blocks, lost_frames, EveryStopIsSurvived, EveryStopIsExact, EveryMomentCanStop, EveryRebuildingExists, EveryRebuildingIsExact}
+use Rattle.frame_model.specs.Stops.{Moment, Passes, stays, stops, opening_moment, unsealed, known_at, known_of, flying_of, is_lost}
+use Rattle.frame_model.specs.Stops.{range_blocks, lost_frames, EveryStopIsSurvived, EveryStopIsExact, EveryMomentCanStop}
+use Rattle.frame_model.specs.Stops.{EveryRebuildingExists, EveryRebuildingIsExact}
 use Rattle.frame_model.specs.Without.{without, remains, remainder, is_apart, is_inside}
 use Rattle.frame_model.specs.WorkedRuns.{one_child, words_of_one, full_word, all_free, at_first, claimed_one, claims_second, one_claimed}
-use Rattle.frame_model.specs.WorkedLaws.{SafeRun, takes_and_keeps, ClosesWithOneKept, stop_at, StopIsSurvived, LosesAClaim, handed_out, LosesNoBlock, RebuildsToExact, FormsAreApart}
+use Rattle.frame_model.specs.WorkedLaws.{SafeRun, takes_and_keeps, ClosesWithOneKept, stop_at, StopIsSurvived, LosesAClaim, handed_out}
+use Rattle.frame_model.specs.WorkedLaws.{LosesNoBlock, RebuildsToExact, FormsAreApart}
 use Rattle.frame_model.proofs.Bits.{ones_zero}
 use Rattle.frame_model.proofs.Blocks.{smalls_cons, smalls_none, wholes_cons, wholes_none}
 use Rattle.frame_model.proofs.ComputedRuns.{seat, reached, AllAllowed, run_of, and_then, ◌⟫◌}
@@ -29,7 +33,8 @@ use Rattle.frame_model.proofs.Sample.Whole.{happening}
 use Rattle.frame_model.proofs.Sets.{ones_full}
 use Rattle.frame_model.proofs.Stopping.Sample.{ArePlain, before, allowed, is_key, passes_by}
 use Rattle.frame_model.proofs.WorkedRuns.Lost.{lost_set}
-use Rattle.frame_model.proofs.WorkedRuns.Pieces.{can_pay, can_charge, can_claim, claimed, claimed_are_blocks, two_words, small_covers, no_blocks}
+use Rattle.frame_model.proofs.WorkedRuns.Pieces.{can_pay, can_charge, can_claim, claimed, claimed_are_blocks, two_words, small_covers}
+use Rattle.frame_model.proofs.WorkedRuns.Pieces.{no_blocks}
 use Rattle.frame_model.proofs.WorkedRuns.Stops.{clear_64, set_64}
 use Rattle.frame_model.proofs.Without.{without_leaves}
 use Rattle.frame_model.proofs.HeldBack.{rebuilt_unsealed}
@@ -138,7 +143,8 @@ goes_before events plain all =
     passes_by first (record first { state = end }) events end plain (run_of one_child before events all)
     (stays (record first { state = end }))
 
-survived_with : EveryStopIsSurvived → EveryStopIsExact → EveryMomentCanStop → (events : List Event) (again : List ℕ) (known : List FrameBlock) (lost : ℕ)
+survived_with : EveryStopIsSurvived → EveryStopIsExact → EveryMomentCanStop
+    → (events : List Event) (again : List ℕ) (known : List FrameBlock) (lost : ℕ)
     → ArePlain events → AllAllowed one_child before events
     → IsRebuilt (unsealed one_child) (reached one_child before events).words again
     → known_at (stop_at (reached one_child before events) again) ≡ known
@@ -168,7 +174,8 @@ rebuilt_one : IsRebuilt (unsealed one_child) (reached one_child before claimed_o
 unfolding entry_place tree_place bits_place local_place word_count last_seen free_in flag_in entry_word lane_in
     lane_put lane_shift count_in counted more less
 rebuilt_one =
-    rebuilt_unsealed one_child _ _ (rebuilt_by_bits 384 384 0 448 full_word 0 0 0 0 0 0 0 (omega arith) (omega (arith, ones_zero, ones_full))
+    rebuilt_unsealed one_child _ _ (rebuilt_by_bits 384 384 0 448 full_word 0 0 0 0 0 0 0 (omega arith)
+    (omega (arith, ones_zero, ones_full))
     all_bits no_bits no_bits no_bits no_bits no_bits no_bits no_bits)
 
 lost_one : lost_frames (stop_at (reached one_child before claimed_one) one_claimed) ≡ 64
@@ -241,7 +248,8 @@ lost_none = refl
 
 pub loses_no_block : EveryStopIsSurvived → EveryStopIsExact → EveryMomentCanStop → LosesNoBlock
 loses_no_block survived exact can_stop =
-    survived_with survived exact can_stop handed_out two_claimed (block 0 7 ∷ []) 0 handed_plain handed_allowed rebuilt_two block_known lost_none
+    survived_with survived exact can_stop handed_out two_claimed (block 0 7 ∷ []) 0 handed_plain handed_allowed rebuilt_two block_known
+    lost_none
 
 pub rebuilds_to_exact : EveryRebuildingExists → EveryRebuildingIsExact → RebuildsToExact
 rebuilds_to_exact exists exact ws r =

@@ -4,7 +4,11 @@ use Rattle.std.specs.Prelude.{if◌then◌else◌, Bool, false, map}
 use Rattle.std.proofs.lemmas.List.Elements.{All-map, All-contains}
 use Rattle.frame_model.specs.Key.{is_boot_frame}
 use Rattle.frame_model.specs.Laws.{form_of}
-use Rattle.frame_model.specs.WrongStates.{BlocksOverlap, BlockIsOutside, SeatIsPastTheEnd, EntryPromisesTooMuch, HugeFramePromises, TreePromisesTooMuch, EntryIsOff, TreeIsOff, ReservationIsOff, RebuiltEntryDiffers, RebuiltTreeDiffers, SetWithoutABlock, ClearInABlock, FlagIsOff, KnownOverlap, KnownIsFree, NamedIsFree, LostWithoutAStop, LosesTooMuch, ExactEntryIsOff, ExactTreeIsOff, ReservedStill, RestingStill, FormIsMissing}
+use Rattle.frame_model.specs.WrongStates.{BlocksOverlap, BlockIsOutside, SeatIsPastTheEnd, EntryPromisesTooMuch, HugeFramePromises}
+use Rattle.frame_model.specs.WrongStates.{TreePromisesTooMuch, EntryIsOff, TreeIsOff, ReservationIsOff, RebuiltEntryDiffers}
+use Rattle.frame_model.specs.WrongStates.{RebuiltTreeDiffers, SetWithoutABlock, ClearInABlock, FlagIsOff, KnownOverlap, KnownIsFree}
+use Rattle.frame_model.specs.WrongStates.{NamedIsFree, LostWithoutAStop, LosesTooMuch, ExactEntryIsOff, ExactTreeIsOff, ReservedStill}
+use Rattle.frame_model.specs.WrongStates.{RestingStill, FormIsMissing}
 
 pub blocks_overlap : BlocksOverlap
 blocks_overlap key words views x two safe = omega (arith, safe.held.disjoint x)

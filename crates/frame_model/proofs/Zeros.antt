@@ -7,12 +7,14 @@ use Rattle.frame_words.proofs.LaneLemmas.{lane_in-zero}
 use Rattle.frame_words.proofs.WordLemmas.{free_in-zero, flag_in-zero, rest_in-zero}
 use Rattle.frame_model.specs.declared.key.Key.{Key}
 use Rattle.frame_model.specs.Key.{tree_count}
-use Rattle.frame_model.specs.Words.{entry_place, tree_place, local_place, bits_place, word_count, entry_of, free_of, huge_of, tree_word_of, tree_free_of, reserved_of, local_word_of, rest_of, bit_word_of, IsRest, AreInRange}
+use Rattle.frame_model.specs.Words.{entry_place, tree_place, local_place, bits_place, word_count, entry_of, free_of, huge_of, tree_word_of}
+use Rattle.frame_model.specs.Words.{tree_free_of, reserved_of, local_word_of, rest_of, bit_word_of, IsRest, AreInRange}
 
 -- every word of a list of zeros is 0
 pub get_or-zeros : (n i : ℕ) → get_or (replicate {A = ℕ} n 0) i 0 ≡ 0
 get_or-zeros n i =
-    ⊎_elim (λ h. get_or-replicate n i 0 0 h) (λ h. get_or_past (replicate {A = ℕ} n 0) i 0 (omega (arith, length-replicate {A = ℕ} n 0))) (cases_lt i n)
+    ⊎_elim (λ h. get_or-replicate n i 0 0 h) (λ h. get_or_past (replicate {A = ℕ} n 0) i 0 (omega (arith, length-replicate {A = ℕ} n 0)))
+    (cases_lt i n)
 
 pub local_word-none : local_word None ≡ 0
 unfolding local_word

@@ -8,25 +8,32 @@ use Rattle.frame_model.specs.declared.key.Key.{Key}
 use Rattle.frame_model.specs.declared.view.Eye.{Eye}
 use Rattle.frame_model.specs.declared.view.View.{View}
 use Rattle.frame_core.specs.View.{IsViewOf}
-use Rattle.frame_core.specs.Steps.{Kind, effect, after_load, after_loss, next}
+use Rattle.frame_core.specs.Steps.{Kind, place, effect, after_load, after_loss, next}
 use Rattle.frame_core.specs.Events.{sighting, last_seen}
 use Rattle.frame_core.specs.Moves.{ReadsBut}
 use Rattle.frame_core.specs.Mover.{IsApart}
 use Rattle.frame_table.specs.Rule.{Becomes, Looks, IsExchangedAs, IsChangedAs}
-use Rattle.frame_table.specs.Seats.{AreLaid, IsSeat}
+use Rattle.frame_table.specs.Seats.{AreLaid, IsSeat, Sits, key_at, id_of, view_of, reads_of}
+use Rattle.frame_table.specs.SeatSteps.{StaysBut}
+use Rattle.frame_table.specs.declared.seats.CoreSeat.{CoreSeat}
+use Rattle.frame_table.specs.declared.table.FrameTable.{FrameTable}
+use Rattle.atomic_table.specs.declared.shared.Seat.{Seat}
 use Rattle.frame_table.proofs.Laid.{reads_but, read_here, laid_found, laid_changed}
-use Rattle.frame_table.proofs.Effects.{effect_about}
+use Rattle.frame_model.proofs.Steps.Untouched.{untouched}
 
 -- The seat after a step is one of the same table, has this view, and has read this of the word.
-pub record Stepped (id : TableId) (key : Key) (seat : TableId) (old new : Me (Unit {0}) Eye) (i : ℕ) (read : Option ℕ) (v : View) : Type 0 where
+pub record Stepped (id : TableId) (key : Key) (seat : TableId) (old new : Me (Unit {0}) Eye) (i : ℕ) (read : Option ℕ) (v : View) : Type
+    0 where
   pub sits : IsSeat id key seat new
   pub view : new.0.view ≡ v
   pub apart : IsApart key new.0.view
   pub here : last_seen new.0.read i ≡ read
   pub others : ReadsBut i (last_seen old.0.read) (last_seen new.0.read)
 
-module _ (id : TableId) (key : Key) (seat after : TableId) (old new : Me (Unit {0}) Eye) (is : IsSeat id key seat old) (same : after ≡ seat) (i : ℕ) where
-  becomes : (read : Option ℕ) (v : View) → v.about ≡ old.0.view.about → AreLaid key (sighting i read ∷ old.0.read) → Becomes old (sighting i read) v new → Stepped id key after old new i read v
+module _ (id : TableId) (key : Key) (seat after : TableId) (old new : Me (Unit {0}) Eye) (is : IsSeat id key seat old)
+    (same : after ≡ seat) (i : ℕ) where
+  becomes : (read : Option ℕ) (v : View) → v.about ≡ old.0.view.about → AreLaid key (sighting i read ∷ old.0.read)
+      → Becomes old (sighting i read) v new → Stepped id key after old new i read v
   becomes read v about laid b =
       let read_is = ap (λ (e : Eye). e.read) b.0 in
       let view_is = ap (λ (e : Eye). e.view) b.0 in
@@ -44,13 +51,38 @@ module _ (id : TableId) (key : Key) (seat after : TableId) (old new : Me (Unit {
         others = subst (λ r. ReadsBut i (last_seen old.0.read) (last_seen r)) (sym read_is) (reads_but old.0.read i read);
       }
 
-  pub looked : (slots found : ℕ) → Looks (step slots i 0 0 none) old found new → Stepped id key after old new i (Some found) (after_load next old.0.view)
-  looked slots found l = becomes (Some found) (after_load next old.0.view) refl (laid_found key old.0.read i found is.laid (l.0 key is.about)) l.1
+  pub looked : (slots found : ℕ) → Looks (step slots i 0 0 none) old found new
+      → Stepped id key after old new i (Some found) (after_load next old.0.view)
+  looked slots found l = becomes (Some found) (after_load next old.0.view) refl
+      (laid_found key old.0.read i found is.laid (l.0 key is.about)) l.1
 
-  pub changed : (kind : Kind) (slots a found : ℕ) → IsChangedAs kind (step slots i a 0 none) old found new → Stepped id key after old new i None (effect next kind found old.0.view)
-  changed kind slots a found l = becomes None (effect next kind found old.0.view) (effect_about next kind found old.0.view) (laid_changed key old.0.read i is.laid) l.1
+  pub changed : (kind : Kind) (slots a found : ℕ) → IsChangedAs kind (step slots i a 0 none) old found new
+      → Stepped id key after old new i None (effect next kind found old.0.view)
+  changed kind slots a found l = becomes None (effect next kind found old.0.view) (untouched next kind found old.0.view).about
+      (laid_changed key old.0.read i is.laid) l.1
 
-  pub exchanged : (kind : Kind) (slots a b found : ℕ) (won : Bool) → eqb found a ≡ won → IsExchangedAs kind (step slots i a b none) old found new
-      → MatchBool won (Stepped id key after old new i None (effect next kind a old.0.view)) (Stepped id key after old new i (Some found) (after_loss next old.0.view))
-  exchanged kind slots a b found true e l = becomes None (effect next kind a old.0.view) (effect_about next kind a old.0.view) (laid_changed key old.0.read i is.laid) (subst (λ w. MatchBool w (Becomes old (sighting i None) (effect next kind a old.0.view) new) (Becomes old (sighting i (Some found)) (after_loss next old.0.view) new)) e l.1)
-  exchanged kind slots a b found false e l = becomes (Some found) (after_loss next old.0.view) refl (laid_found key old.0.read i found is.laid (l.0 key is.about)) (subst (λ w. MatchBool w (Becomes old (sighting i None) (effect next kind a old.0.view) new) (Becomes old (sighting i (Some found)) (after_loss next old.0.view) new)) e l.1)
+  pub exchanged : (kind : Kind) (slots a b found : ℕ) (won : Bool) → eqb found a ≡ won
+      → IsExchangedAs kind (step slots i a b none) old found new
+      → MatchBool won (Stepped id key after old new i None (effect next kind a old.0.view))
+      (Stepped id key after old new i (Some found) (after_loss next old.0.view))
+  exchanged kind slots a b found true e l = becomes None (effect next kind a old.0.view) (untouched next kind a old.0.view).about
+      (laid_changed key old.0.read i is.laid) (subst (λ w. MatchBool w (Becomes old (sighting i None) (effect next kind a old.0.view) new)
+      (Becomes old (sighting i (Some found)) (after_loss next old.0.view) new)) e l.1)
+  exchanged kind slots a b found false e l = becomes (Some found) (after_loss next old.0.view) refl
+      (laid_found key old.0.read i found is.laid (l.0 key is.about))
+      (subst (λ w. MatchBool w (Becomes old (sighting i None) (effect next kind a old.0.view) new)
+      (Becomes old (sighting i (Some found)) (after_loss next old.0.view) new)) e l.1)
+
+-- the seat of a core after such a step sits where it sat
+pub stays : (t : FrameTable) (old : CoreSeat) (sits : Sits t old) (kind : Kind) (i : ℕ) → i ≡ place (key_at t) kind
+    → (seat : Seat (Unit {0}) Eye) (read : Option ℕ) (v : View) → v.share ≡ (view_of old).share → v.is_ground ≡ (view_of old).is_ground
+    → Stepped (id_of t) (key_at t) seat.table_id old.seat.me seat.me i read v → StaysBut t kind old (record { seat = seat })
+stays t old sits kind i is seat read v share ground a = record {
+  sits = record {
+    at = a.sits;
+    one = ap (λ (u : View). u.share) a.view ∙ (share ∙ sits.one);
+    not_ground = ap (λ (u : View). u.is_ground) a.view ∙ (ground ∙ sits.not_ground);
+  };
+  apart = a.apart;
+  reads = subst (λ j. ReadsBut j (reads_of old) (last_seen seat.me.0.read)) is a.others;
+}

@@ -52,11 +52,14 @@ laid_none key = record {
 }
 
 -- a seat that has read nothing
-pub fresh_seat : (id : TableId) (key : Key) (seat : TableId) (me : Me (Unit {0}) Eye) (v : View) → seat ≡ id → me ≡ (eye v [], []) → v.about ≡ Some key → ∥ IsViewOf key v ∥₁ → IsSeat id key seat me
-fresh_seat id key seat me v at is about view = subst (IsSeat id key seat) (sym is) (record { table = at; bare = refl; about = about; is_view = view; laid = laid_none key })
+pub fresh_seat : (id : TableId) (key : Key) (seat : TableId) (me : Me (Unit {0}) Eye) (v : View) → seat ≡ id → me ≡ (eye v [], [])
+    → v.about ≡ Some key → ∥ IsViewOf key v ∥₁ → IsSeat id key seat me
+fresh_seat id key seat me v at is about view = subst (IsSeat id key seat) (sym is)
+    (record { table = at; bare = refl; about = about; is_view = view; laid = laid_none key })
 
 -- the first seat, from which a share was cut off
-pub dealt : (key : Key) (m s r : ℕ) (v w : View) → v ≡ moved m (idle key s) → w ≡ left_by next (part_share 1) v → s - 1 ≡ r → w ≡ moved w.moves (idle key r)
+pub dealt : (key : Key) (m s r : ℕ) (v w : View) → v ≡ moved m (idle key s) → w ≡ left_by next (part_share 1) v → s - 1 ≡ r
+    → w ≡ moved w.moves (idle key r)
 dealt key m s r v w is cut less =
     let e : w ≡ moved (m + 1) (idle key (s - 1)) = cut ∙ ap (left_by next (part_share 1)) is in
     let n : w.moves ≡ m + 1 = ap (λ (u : View). u.moves) e in
@@ -75,21 +78,27 @@ key_with image ranges sealed = record {
 abbrev Opens : List ℕ → Contents → List (ℕ × ℕ) → Bool → Type 0
 Opens words image ranges sealed =
     Fit (key_with image ranges sealed) image.geometry.cores words
-    ((if sealed then idle (key_with image ranges sealed) image.geometry.cores else reopener (key_with image ranges sealed) image.words image.geometry.cores) ∷ [])
+    ((if sealed then idle (key_with image ranges sealed) image.geometry.cores else reopener (key_with image ranges sealed) image.words
+    image.geometry.cores) ∷ [])
 
-pub opens_at : (o : Origin) (image : Contents) → o.image.value ≡ image → o.ranges.value.items ≡ [] → o.sealed ≡ false → 0 < image.geometry.cores
+pub opens_at : (o : Origin) (image : Contents) → o.image.value ≡ image → o.ranges.value.items ≡ [] → o.sealed ≡ false
+    → 0 < image.geometry.cores
     → IsRebuilt (unsealed_key image.geometry) image.words image.words → IsImage (key_of image.geometry) image.words
     → Fit (key_from o) (key_from o).cores image.words (first_view o ∷ [])
 unfolding bit_of bit_word_of bits_place
 opens_at o image is none unsealed cores exact laid =
-    let first : Opens image.words image [] false = reopening_fits (unsealed_key image.geometry) image.words image.geometry.cores cores (record { unsealed = refl; exact = exact; past_end = laid.past_end }) in
+    let first : Opens image.words image [] false = reopening_fits (unsealed_key image.geometry) image.words image.geometry.cores cores
+    (record { unsealed = refl; exact = exact; past_end = laid.past_end }) in
     let second : Opens image.words image [] o.sealed = subst (λ b. Opens image.words image [] b) (sym unsealed) first in
     let third : Opens image.words image o.ranges.value.items o.sealed = subst (λ r. Opens image.words image r o.sealed) (sym none) second in
     subst (λ i. Opens image.words i o.ranges.value.items o.sealed) (sym is) third
 
 pub opens_sealed : (o : Origin) (image : Contents) → o.image.value ≡ image → o.sealed ≡ true → 0 < image.geometry.cores
-    → IsSealedOpening (key_with image o.ranges.value.items true) image.words → Fit (key_from o) (key_from o).cores image.words (first_view o ∷ [])
+    → IsSealedOpening (key_with image o.ranges.value.items true) image.words
+    → Fit (key_from o) (key_from o).cores image.words (first_view o ∷ [])
 opens_sealed o image is closed cores opening =
-    let first : Opens image.words image o.ranges.value.items true = sealed_fits (key_with image o.ranges.value.items true) image.words image.geometry.cores cores opening in
-    let second : Opens image.words image o.ranges.value.items o.sealed = subst (λ b. Opens image.words image o.ranges.value.items b) (sym closed) first in
+    let first : Opens image.words image o.ranges.value.items true = sealed_fits (key_with image o.ranges.value.items true) image.words
+    image.geometry.cores cores opening in
+    let second : Opens image.words image o.ranges.value.items o.sealed = subst (λ b. Opens image.words image o.ranges.value.items b)
+    (sym closed) first in
     subst (λ i. Opens image.words i o.ranges.value.items o.sealed) (sym is) second

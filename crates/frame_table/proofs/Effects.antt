@@ -3,49 +3,15 @@ use Rattle.std.proofs.Common.{◌≡◌, ℕ, ◌*◌, ◌<◌, refl, arith}
 use Rattle.frame_model.specs.declared.key.Key.{Key}
 use Rattle.frame_model.specs.declared.view.View.{View}
 use Rattle.frame_core.specs.Words.{word_count, bits_place}
-use Rattle.frame_core.specs.Steps.{Kind, charge, refund, claim, release, take_huge, give_huge, tree_pay, tree_refund, reserve, swap_local, unreserve, local_pay, local_refund, collect, fill_word, drop_flag, place, May, effect}
-use Rattle.frame_core.specs.Seats.{Cut, part_share, hand_out, recall, part_ground, adopt, Join, join_idle, hand_in, keep_in, left_by, right_by, joined_by}
+use Rattle.frame_core.specs.Steps.{Kind, charge, refund, claim, release, take_huge, give_huge, tree_pay, tree_refund, reserve, swap_local}
+use Rattle.frame_core.specs.Steps.{unreserve, local_pay, local_refund, collect, fill_word, drop_flag, place, May}
+use Rattle.frame_core.specs.Seats.{Cut, part_share, hand_out, recall, part_ground, adopt, Join, join_idle, hand_in, keep_in, left_by}
+use Rattle.frame_core.specs.Seats.{right_by, joined_by}
 use Rattle.frame_core.proofs.ImageLemmas.{entry_place-lt, tree_place-lt, local_place-lt}
 
 bits_place-lt : (key : Key) (w : ℕ) → w < 8 * key.children → bits_place key w < word_count key
 unfolding bits_place word_count
 bits_place-lt key w h = omega arith
-
-pub effect_about : (t : ℕ → ℕ) (kind : Kind) (found : ℕ) (v : View) → (effect t kind found v).about ≡ v.about
-effect_about t (charge c seen n) found v = refl
-effect_about t (refund c n) found v = refl
-effect_about t (claim w seen from o) found v = refl
-effect_about t (release w from o rest) found v = refl
-effect_about t (take_huge c seen) found v = refl
-effect_about t (give_huge c rest) found v = refl
-effect_about t (tree_pay u seen n) found v = refl
-effect_about t (tree_refund u n) found v = refl
-effect_about t (reserve u seen) found v = refl
-effect_about t (swap_local k put) found v = refl
-effect_about t (unreserve u n) found v = refl
-effect_about t (local_pay k seen n) found v = refl
-effect_about t (local_refund k seen n) found v = refl
-effect_about t (collect u seen) found v = refl
-effect_about t (fill_word w) found v = refl
-effect_about t (drop_flag c rest) found v = refl
-
-pub effect_share : (t : ℕ → ℕ) (kind : Kind) (found : ℕ) (v : View) → (effect t kind found v).share ≡ v.share
-effect_share t (charge c seen n) found v = refl
-effect_share t (refund c n) found v = refl
-effect_share t (claim w seen from o) found v = refl
-effect_share t (release w from o rest) found v = refl
-effect_share t (take_huge c seen) found v = refl
-effect_share t (give_huge c rest) found v = refl
-effect_share t (tree_pay u seen n) found v = refl
-effect_share t (tree_refund u n) found v = refl
-effect_share t (reserve u seen) found v = refl
-effect_share t (swap_local k put) found v = refl
-effect_share t (unreserve u n) found v = refl
-effect_share t (local_pay k seen n) found v = refl
-effect_share t (local_refund k seen n) found v = refl
-effect_share t (collect u seen) found v = refl
-effect_share t (fill_word w) found v = refl
-effect_share t (drop_flag c rest) found v = refl
 
 pub left_about : (t : ℕ → ℕ) (cut : Cut) (v : View) → (left_by t cut v).about ≡ v.about
 left_about t (part_share n) v = refl

@@ -1,5 +1,6 @@
 -- Seats come out of a list from its end, and their views become one.
-use Rattle.std.proofs.Common.{◌≡◌, ℕ, zero, suc, ◌+◌, ◌<◌, ◌≤◌, pos, ◌+ℤ◌, List, [], ◌∷◌, ◌++◌, length, map, flat_map, get_or, take, sym, refl, ap, ◌∙◌, arith, subst, length-append, add-one}
+use Rattle.std.proofs.Common.{◌≡◌, ℕ, zero, suc, ◌+◌, ◌<◌, ◌≤◌, pos, ◌+ℤ◌, List, [], ◌∷◌, ◌++◌, length, map, flat_map, get_or, take, sym}
+use Rattle.std.proofs.Common.{refl, ap, ◌∙◌, arith, subst, length-append, add-one}
 use Rattle.std.specs.List.{All}
 use Rattle.std.proofs.lemmas.Int.{ints}
 use Rattle.std.proofs.lemmas.List.{map-append, append-nil}
@@ -36,11 +37,13 @@ module _ {A : Type 0} where
 
   -- what holds of all elements holds of all but the last
   pub all_front : (P : A → Type 0) (xs ys : List A) (x : A) → xs ≡ ys ++ x ∷ [] → All P xs → All P ys
-  all_front P xs ys x e h k d lt = subst P (ap (λ l. get_or l k d) e ∙ get_front ys x k d lt) (h k d (omega (arith, lt, ap length e, length-append ys (x ∷ []))))
+  all_front P xs ys x e h k d lt = subst P (ap (λ l. get_or l k d) e ∙ get_front ys x k d lt)
+      (h k d (omega (arith, lt, ap length e, length-append ys (x ∷ []))))
 
   -- and of the last
   pub all_last : (P : A → Type 0) (xs ys : List A) (x : A) → xs ≡ ys ++ x ∷ [] → All P xs → P x
-  all_last P xs ys x e h = subst P (ap (λ l. get_or l (length ys) x) e ∙ get_last ys x x) (h (length ys) x (omega (arith, ap length e, length-append ys (x ∷ []))))
+  all_last P xs ys x e h = subst P (ap (λ l. get_or l (length ys) x) e ∙ get_last ys x x)
+      (h (length ys) x (omega (arith, ap length e, length-append ys (x ∷ []))))
 
   pub taken_more : (xs ys : List A) (i : ℕ) (x : A) → ys ≡ take i xs → get_elem? xs i ≡ some x → ys ++ x ∷ [] ≡ take (i + 1) xs
   taken_more xs ys i x e at = ap (λ l. l ++ x ∷ []) e ∙ (more xs i x at ∙ ap (λ n. take n xs) (sym (add-one i)))

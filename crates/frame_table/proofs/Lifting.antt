@@ -1,5 +1,6 @@
 -- Each atomic operation on the table keeps its rule, since each step of the model keeps the fit.
-use Rattle.std.proofs.Common.{◌≡◌, ℕ, zero, suc, ◌<◌, eqb, Bool, true, false, List, [], ◌∷◌, ◌++◌, None, Some, map, set, get_or, sym, refl, ap, ◌∙◌, subst}
+use Rattle.std.proofs.Common.{◌≡◌, ℕ, zero, suc, ◌<◌, eqb, Bool, true, false, List, [], ◌∷◌, ◌++◌, None, Some, map, set, get_or, sym, refl}
+use Rattle.std.proofs.Common.{ap, ◌∙◌, subst}
 use Rattle.std.specs.Prelude.{MatchBool}
 use Rattle.std.proofs.lemmas.List.{map-set, map-append, set-get_or}
 use Rattle.std.proofs.lemmas.Map.Views.{exact_unsigned_eq}
@@ -24,13 +25,16 @@ use Rattle.frame_core.specs.Events.{eye, sighting}
 use Rattle.frame_model.proofs.Steps.Seats.{look_keeps}
 use Rattle.frame_model.proofs.Steps.Every.{kind_keeps, seat_cut_keeps, seat_join_keeps}
 use Rattle.frame_table.specs.declared.rule.Origin.{Origin}
-use Rattle.frame_table.specs.Rule.{key_from, eye_view, Holds, IsFoundFor, MayFind, IsOfOneMemory, Becomes, Looks, IsExchangedAs, IsChangedAs, left_eye, right_eye, both_eyes, nobody}
+use Rattle.frame_table.specs.Rule.{key_from, eye_view, Holds, IsFoundFor, MayFind, IsOfOneMemory, Becomes, Looks, IsExchangedAs}
+use Rattle.frame_table.specs.Rule.{IsChangedAs, left_eye, right_eye, both_eyes, nobody}
 use Rattle.frame_table.proofs.Laid.{found_in}
 
 -- a seat that holds no slot
-bare : (holds : State (Unit {0}) Eye → Type 0) (slots id : ℕ) (me : Me (Unit {0}) Eye) (i : ℕ) (f : ℕ → ℕ) (T : Me (Unit {0}) Eye → ℕ → Me (Unit {0}) Eye → Type 0) → me.1 ≡ []
+bare : (holds : State (Unit {0}) Eye → Type 0) (slots id : ℕ) (me : Me (Unit {0}) Eye) (i : ℕ) (f : ℕ → ℕ)
+    (T : Me (Unit {0}) Eye → ℕ → Me (Unit {0}) Eye → Type 0) → me.1 ≡ []
     → Allows holds slots id (me.0, []) i f (T (me.0, [])) → Allows holds slots id me i f (T me)
-bare holds slots id me i f T clear h = let P : List (ℕ × Unit {0}) → Type 0 = λ l. Allows holds slots id (me.0, l) i f (T (me.0, l)) in subst P (sym clear) h
+bare holds slots id me i f T clear h = let P : List (ℕ × Unit {0})
+    → Type 0 = λ l. Allows holds slots id (me.0, l) i f (T (me.0, l)) in subst P (sym clear) h
 
 at_once : (vs : List View) (id : ℕ) (v w : View) → get_elem? vs id ≡ some v → get_elem? (set vs id w) id ≡ some w
 at_once [] id v w at = absurd (some-ne-none v (sym at))
@@ -49,7 +53,8 @@ module _ (o : Origin) (slots id : ℕ) (e : Eye) (about : e.view.about ≡ Some 
     there = at_map eye_view s.views id e at
 
     -- the table after a step on one word
-    turned_to : (i n : ℕ) (w : Eye) → FitsAt (set s.words i n) (set (map eye_view s.views) id w.view) → Holds o (stepped s i n id [] w keeps)
+    turned_to : (i n : ℕ) (w : Eye) → FitsAt (set s.words i n) (set (map eye_view s.views) id w.view)
+        → Holds o (stepped s i n id [] w keeps)
     turned_to i n w fit = subst (FitsAt (set s.words i n)) (sym (map-set eye_view s.views id w)) fit
 
     -- and the view of the seat then
@@ -65,7 +70,8 @@ module _ (o : Origin) (slots id : ℕ) (e : Eye) (about : e.view.about ≡ Some 
     looked_fit : (m l : ℕ) → FitsAt s.words (set (map eye_view s.views) id (record e.view { moves = m; lost = l }))
     looked_fit m l = look_keeps key key.cores s.words (map eye_view s.views) id e.view holds there m l about
 
-    looked_at : (i m l : ℕ) (read : List Sighting) → Holds o (stepped s i (get_or s.words i 0) id [] (eye (record e.view { moves = m; lost = l }) read) keeps)
+    looked_at : (i m l : ℕ) (read : List Sighting) → Holds o
+        (stepped s i (get_or s.words i 0) id [] (eye (record e.view { moves = m; lost = l }) read) keeps)
     looked_at i m l read =
         let v : View = record e.view { moves = m; lost = l } in
         turned_to i (get_or s.words i 0) (eye v read)
@@ -75,10 +81,12 @@ module _ (o : Origin) (slots id : ℕ) (e : Eye) (about : e.view.about ≡ Some 
     looked_is m l = turned_is s.words (record e.view { moves = m; lost = l }) (looked_fit m l)
 
     finds : (i : ℕ) → IsFoundFor e.view i (get_or s.words i 0)
-    finds i k named = subst (λ (j : Key). Rattle.frame_table.specs.Rule.IsFoundIn j i (get_or s.words i 0)) (cc) (found_in key s.words i holds.words_in_range)
+    finds i k named = subst (λ (j : Key). Rattle.frame_table.specs.Rule.IsFoundIn j i (get_or s.words i 0)) (cc)
+        (found_in key s.words i holds.words_in_range)
 
     made_by : (kind : Kind) → 0 < e.view.share → May key kind e.view → IsMade kind (get_or s.words (place key kind) 0)
-        → FitsAt (set s.words (place key kind) (turned kind (get_or s.words (place key kind) 0))) (set (map eye_view s.views) id (effect next kind (get_or s.words (place key kind) 0) e.view))
+        → FitsAt (set s.words (place key kind) (turned kind (get_or s.words (place key kind) 0)))
+        (set (map eye_view s.views) id (effect next kind (get_or s.words (place key kind) 0) e.view))
     made_by kind share may made = kind_keeps next key key.cores s.words (map eye_view s.views) id e.view holds there kind share may made
 
   look_bare : (i : ℕ) → Allows (Holds o) slots id (e, []) i (λ n. n) (Looks (step slots i 0 0 none) (e, []))
@@ -119,17 +127,20 @@ module _ (o : Origin) (slots id : ℕ) (e : Eye) (about : e.view.about ≡ Some 
           let is_view = looked_is s holds at m l in
           (eye (after_loss next e.view) read, keeps, tt, looked_at s holds at i m l read, (finds s holds at i, (refl, refl, is_view)))
 
-      exchange_bare : Allows (Holds o) slots id (e, []) i (λ n. either (eqb n old) new n) (IsExchangedAs kind (step slots i old new none) (e, []))
+      exchange_bare : Allows (Holds o) slots id (e, []) i (λ n. either (eqb n old) new n)
+          (IsExchangedAs kind (step slots i old new none) (e, []))
       exchange_bare s holds homes at fits = chosen s holds at (eqb (get_or s.words i 0) old) refl
 
-    change_bare : (a : ℕ) (g : ℕ → ℕ) → seen_by kind ≡ None → ((n : ℕ) → n < 18446744073709551616 → MayFind key kind e.view n → turned kind n ≡ g n)
+    change_bare : (a : ℕ) (g : ℕ → ℕ) → seen_by kind ≡ None →
+        ((n : ℕ) → n < 18446744073709551616 → MayFind key kind e.view n → turned kind n ≡ g n)
         → Allows (Holds o) slots id (e, []) i g (IsChangedAs kind (step slots i a 0 none) (e, []))
     change_bare a g always is s holds homes at fits =
         let found : ℕ = get_or s.words i 0 in
         let w : Eye = eye (effect next kind found e.view) (sighting i None ∷ e.read) in
         let made : IsMade kind found = subst (λ o. IsFoundBy o found) (sym always) tt in
         let Q : ℕ → Type 0 = λ n. FitsAt (set s.words i n) (set (map eye_view s.views) id w.view) in
-        let fit : Q (g found) = subst Q (is found fits (s.words, (map eye_view s.views, (id, (holds, (there s holds at, refl)))))) (made_by s holds at kind share may made) in
+        let fit : Q (g found) = subst Q (is found fits (s.words, (map eye_view s.views, (id, (holds, (there s holds at, refl))))))
+        (made_by s holds at kind share may made) in
         let is_view = turned_is s holds at (set s.words i (g found)) w.view fit in
         (w, keeps, tt, turned_to s holds at i (g found) w fit, (finds s holds at i, (refl, refl, is_view)))
 
@@ -138,15 +149,18 @@ module _ (o : Origin) (slots id : ℕ) (e : Eye) (about : e.view.about ≡ Some 
       let fit = seat_cut_keeps next key key.cores s.words (map eye_view s.views) id e.view holds (there s holds at) cut may in
       let left : Eye = left_eye cut e in
       let right : Eye = right_eye cut e in
-      subst (FitsAt s.words) (sym (map-append eye_view (set s.views id left) (right ∷ []) ∙ ap (λ (vs : List View). vs ++ right.view ∷ []) (map-set eye_view s.views id left))) fit
+      subst (FitsAt s.words) (sym (map-append eye_view (set s.views id left) (right ∷ [])
+      ∙ ap (λ (vs : List View). vs ++ right.view ∷ []) (map-set eye_view s.views id left))) fit
 
-  pub join_joins : (other : ℕ) (f : Eye) (join : Join) → MayJoin join e.view f.view → Joins (Holds o) id e other f (both_eyes join e f) nobody
+  pub join_joins : (other : ℕ) (f : Eye) (join : Join) → MayJoin join e.view f.view
+      → Joins (Holds o) id e other f (both_eyes join e f) nobody
   join_joins other f join may s holds at apart at' =
       let both : Eye = both_eyes join e f in
       let vs : List View = map eye_view s.views in
       let there' : get_elem? vs other ≡ some f.view = at_map eye_view s.views other f (sym (set_else s.views id other both apart) ∙ at') in
       let fit = seat_join_keeps next key key.cores s.words vs id e.view holds (there s holds at) other f.view apart there' join may in
-      subst (FitsAt s.words) (sym (map-set eye_view (set s.views id both) other nobody ∙ ap (λ (l : List View). set l other spent) (map-set eye_view s.views id both))) fit
+      subst (FitsAt s.words) (sym (map-set eye_view (set s.views id both) other nobody
+      ∙ ap (λ (l : List View). set l other spent) (map-set eye_view s.views id both))) fit
 
 -- The same of any seat that holds no slot.
 
@@ -156,13 +170,17 @@ module _ (o : Origin) (slots id : ℕ) (me : Me (Unit {0}) Eye) (clear : me.1 �
 
   module _ (kind : Kind) (share : 0 < me.0.view.share) (may : May (key_from o) kind me.0.view) where
     pub exchange_allows : (old new : ℕ) → seen_by kind ≡ Some old → turned kind old ≡ new
-        → Allows (Holds o) slots id me (place (key_from o) kind) (λ n. either (eqb n old) new n) (IsExchangedAs kind (step slots (place (key_from o) kind) old new none) me)
+        → Allows (Holds o) slots id me (place (key_from o) kind) (λ n. either (eqb n old) new n)
+        (IsExchangedAs kind (step slots (place (key_from o) kind) old new none) me)
     exchange_allows old new seen is =
         let i : ℕ = place (key_from o) kind in
-        bare (Holds o) slots id me i (λ n. either (eqb n old) new n) (IsExchangedAs kind (step slots i old new none)) clear (exchange_bare o slots id me.0 about kind share may old new seen is)
+        bare (Holds o) slots id me i (λ n. either (eqb n old) new n) (IsExchangedAs kind (step slots i old new none)) clear
+        (exchange_bare o slots id me.0 about kind share may old new seen is)
 
-    pub change_allows : (a : ℕ) (g : ℕ → ℕ) → seen_by kind ≡ None → ((n : ℕ) → n < 18446744073709551616 → MayFind (key_from o) kind me.0.view n → turned kind n ≡ g n)
+    pub change_allows : (a : ℕ) (g : ℕ → ℕ) → seen_by kind ≡ None
+        → ((n : ℕ) → n < 18446744073709551616 → MayFind (key_from o) kind me.0.view n → turned kind n ≡ g n)
         → Allows (Holds o) slots id me (place (key_from o) kind) g (IsChangedAs kind (step slots (place (key_from o) kind) a 0 none) me)
     change_allows a g always is =
         let i : ℕ = place (key_from o) kind in
-        bare (Holds o) slots id me i g (IsChangedAs kind (step slots i a 0 none)) clear (change_bare o slots id me.0 about kind share may a g always is)
+        bare (Holds o) slots id me i g (IsChangedAs kind (step slots i a 0 none)) clear
+        (change_bare o slots id me.0 about kind share may a g always is)

@@ -1,5 +1,6 @@
 pub mod Rule
 pub mod Seats
+pub mod SeatSteps
 pub mod Ties
 pub mod Openings
 pub mod Closing

@@ -40,7 +40,9 @@ impl Block {
 }
 
 impl HeldBlock for Block {
-    ghost block_of = { λ b. block b.frame b.order };
+    ghost use Rattle.frame_table.specs.Seats.{block_in};
+
+    ghost block_of = { block_in };
 
     fn frame(&self) -> u32 {
         self.frame

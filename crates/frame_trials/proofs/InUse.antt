@@ -26,7 +26,7 @@ use Rattle.frame_model.proofs.OtherWords.{bit_word_of-with_tree}
 use Rattle.frame_model.proofs.Opening.{held_smalls, held_wholes, held_are_blocks}
 use Rattle.frame_model.proofs.RebuiltLemmas.{rebuilt_free-set, rebuilt_free-huge, rebuilt_bits-set, rebuilt_bits-huge}
 use Rattle.frame_model.proofs.Without.{without_leaves}
-use Rattle.frame_model.proofs.HeldBack.{in_range_unsealed}
+use Rattle.frame_model.proofs.HeldBack.{rebuilt_unsealed}
 use Rattle.frame_model.proofs.Stopping.Rebuilding.{bit_unsealed}
 use Rattle.frame_table.specs.Openings.{unsealed_key}
 use Rattle.frame_model.proofs.Words.{EntryWritten, BitsWritten, TreeWritten, entry_written, bits_written, tree_written}
@@ -182,21 +182,6 @@ module _ (key : Key) (ws : List ℕ) (two : key.children ≡ 2) (image : IsImage
   first_set x h =
       let inside : bit_at 255 (x % 64) ≡ 1 = bit_at_run_inside 0 8 (x % 64) (omega arith) (omega arith) in
       omega (arith, d.bits x, c.bits x, b.bits_here x (omega arith), inside)
-
--- rebuilding does not look at what the key names
-rebuilt_unsealed : (key : Key) (old new : List ℕ) → IsRebuilt key old new
-    → IsRebuilt (unsealed key) old new
-unfolding word_count tree_place local_place bits_place tree_word_of tree_free_of reserved_of local_word_of rest_of bit_word_of set_of
-    rebuilt_free rebuilt_in_tree rebuilt_bits
-rebuilt_unsealed key old new r = record {
-  in_range = in_range_unsealed key new r.in_range;
-  huge = r.huge;
-  free = r.free;
-  bits = r.bits;
-  trees = r.trees;
-  unreserved = r.unreserved;
-  resting = r.resting;
-}
 
 -- An image with these words.
 pub record IsInUse (image : Contents) : Type 0 where

@@ -5,7 +5,7 @@ ghost use Rattle.llfree_bench.specs.Hands.{IsHandOf};
 use crate::hand::Hand;
 use core_frames::Allocator;
 
-const MOST_ORDER: u32 = 9;
+const HUGE_ORDER: u32 = 9;
 
 /// What each hand does.
 #[derive(Clone, Copy)]
@@ -126,7 +126,7 @@ fn take_any(memory: &Allocator, hand: &mut Hand)
     ensures { IsHandOf memory.now hand.new }
 {
     hand.random = next(hand.random);
-    let order = hand.random.trailing_zeros().min(MOST_ORDER);
+    let order = hand.random.trailing_zeros().min(HUGE_ORDER);
     take(memory, hand, order as u8);
 }
 

@@ -20,7 +20,7 @@ const CHILDREN: u32 = 1024;
 
 const FRAMES: u32 = 512 * CHILDREN;
 
-const MOST_ORDER: u8 = 9;
+const HUGE_ORDER: u8 = 9;
 
 /// The blocks that all threads hold of mixed orders.
 const HELD: u32 = 49_152;
@@ -39,7 +39,7 @@ pub enum Work {
 
 /// The blocks of the order that a thread takes where all threads fill memory.
 pub fn share(threads: u32, order: u8) -> u32 {
-    (FRAMES >> order.min(MOST_ORDER)) / threads.max(1)
+    (FRAMES >> order.min(HUGE_ORDER)) / threads.max(1)
 }
 
 /// One round of the work, in a memory of its own.

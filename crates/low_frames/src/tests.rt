@@ -3,4 +3,5 @@
 mod answers;
 mod calls;
 mod counts;
+mod ends;
 mod scripted;

@@ -10,16 +10,8 @@ ghost use Rattle.frame_model.specs.Openings.{IsSealedOpening};
 
 use super::Image;
 use crate::layout::{bits_place, word_count};
-use frame_words::{Fault, Geometry};
+use frame_words::{CHILD_FRAMES, CHILD_WORDS, Fault, Geometry, TREE_CHILDREN, WORD_FRAMES};
 use std::alloc::Global;
-
-const CHILD_FRAMES: u32 = 512;
-
-const CHILD_WORDS: u32 = 8;
-
-const TREE_CHILDREN: u32 = 8;
-
-const WORD_FRAMES: u32 = 64;
 
 impl Image {
     /// No frame is held but those past the end, and no core has a reservation. Refused only for

@@ -16,9 +16,8 @@ ghost use Rattle.frame_model.specs.Without.{
 ghost use Rattle.frame_core.specs.Plain.{IsLow};
 
 use frame_model::FrameBlock;
+use frame_words::HUGE_ORDER;
 use std::collections::VecDeque;
-
-const HUGE_ORDER: u8 = 9;
 
 /// The block leaves the list.
 #[tactic(auto, unfolding(frame_model::specs::Without::without))]

@@ -14,9 +14,7 @@ use super::PlainMoves;
 use super::contents::{all_begin_in, all_of, count_smalls, count_wholes, none_of};
 use super::moves::{number_of, plain_word};
 use frame_model::{Amount, Place};
-use frame_words::child_of;
-
-const HUGE_ORDER: u8 = 9;
+use frame_words::{HUGE_ORDER, child_of};
 
 impl PlainMoves {
     // The word as it stands.

@@ -9,14 +9,8 @@ ghost use Rattle.frame_model.specs.View.{names};
 ghost use Rattle.frame_core.specs.Plain.{SomeBeginsElse, BeginsIn, IsOutside};
 
 use frame_model::FrameBlock;
-use frame_words::child_of;
+use frame_words::{CHILD_FRAMES, CHILD_WORDS, HUGE_ORDER, child_of};
 use std::collections::VecDeque;
-
-const HUGE_ORDER: u8 = 9;
-
-const CHILD_FRAMES: u32 = 512;
-
-const CHILD_WORDS: u32 = 8;
 
 // Each block begins in the child.
 pub(crate) fn all_begin_in(blocks: &VecDeque<FrameBlock>, child: u32) -> bool

@@ -5,6 +5,7 @@ ghost use Rattle.std.specs.VecDeque.{deque_len, deque_capacity};
 ghost use Rattle.frame_words.specs.Geometry.{most_children};
 ghost use Rattle.frame_model.specs.Steps.Amounts.{put_in};
 ghost use Rattle.frame_model.specs.Block.{block};
+ghost use Rattle.frame_model.specs.Key.{key_of};
 ghost use Rattle.frame_model.specs.Words.{run, word_count};
 ghost use Rattle.frame_core.specs.Moves.{place_of, IsPlace, OfRun};
 ghost use Rattle.frame_core.specs.Plain.{plain_key};
@@ -19,21 +20,28 @@ use crate::turns::{
     taken_whole, tree_paid, unreserved,
 };
 use frame_model::{FrameBlock, HeldBlock, Place, PlainBlock};
-use frame_words::{Geometry, local, local_of, tree_free};
+use frame_words::{
+    CHILD_FRAMES, CHILD_WORDS, Geometry, HUGE_ORDER, TREE_CHILDREN, WORD_FRAMES, local, local_of,
+    tree_free,
+};
 use std::collections::VecDeque;
 
-const HUGE_ORDER: u8 = 9;
-
-const CHILD_FRAMES: u32 = 512;
-
-const TREE_CHILDREN: u32 = 8;
+// The bit words of a whole tree.
+pub(crate) const TREE_WORDS: u32 = CHILD_WORDS * TREE_CHILDREN;
 
 // The number of the word in a table of these sizes.
-#[tactic(auto, unfolding(frame_model::specs::Words::entry_place, frame_model::specs::Words::tree_place, frame_model::specs::Words::local_place, frame_model::specs::Words::bits_place, frame_model::specs::Words::word_count))]
 pub(crate) fn number_of(geometry: Geometry, place: Place) -> usize
     requires { IsPlace (plain_key geometry true) place }
     ensures number { (sealed : Bool) → result ≡ place_of (plain_key geometry sealed) place }
     ensures inside { (sealed : Bool) → result < word_count (plain_key geometry sealed) }
+{
+    place_number(geometry, place)
+}
+
+fn place_number(geometry: Geometry, place: Place) -> usize
+    requires { IsPlace (key_of geometry) place }
+    ensures number { result ≡ place_of (key_of geometry) place }
+    ensures inside { result < word_count (key_of geometry) }
 {
     match place {
         Place::Entry(child) => entry_place(child),
@@ -155,10 +163,10 @@ impl Moves for PlainMoves {
 
     fn claim(&mut self, word: u32, seen: u64, mask: u64) -> bool {
         let (bit, order) = run_of(mask);
-        self.charged = with_less(self.charged, word / 8, 1 << order);
-        self.paid = with_less(self.paid, word / 64, 1 << order);
+        self.charged = with_less(self.charged, word / CHILD_WORDS, 1 << order);
+        self.paid = with_less(self.paid, word / TREE_WORDS, 1 << order);
         self.own.push_front_reserved(FrameBlock {
-            frame: 64 * word + bit,
+            frame: WORD_FRAMES * word + bit,
             order,
         });
         self.words[number_of(self.geometry, Place::Bits(word))] = seen | mask;
@@ -169,12 +177,12 @@ impl Moves for PlainMoves {
     fn release(&mut self, word: u32, mask: u64) {
         let found = plain_word(&self.words, self.geometry, Place::Bits(word));
         let (bit, order) = run_of(mask);
-        self.charged = with_more(self.charged, word / 8, 1 << order);
-        self.paid = with_more(self.paid, word / 64, 1 << order);
+        self.charged = with_more(self.charged, word / CHILD_WORDS, 1 << order);
+        self.paid = with_more(self.paid, word / TREE_WORDS, 1 << order);
         leave(
             &mut self.own,
             FrameBlock {
-                frame: 64 * word + bit,
+                frame: WORD_FRAMES * word + bit,
                 order,
             },
         );

@@ -6,18 +6,14 @@ ghost use Rattle.std.specs.List.{All};
 ghost use Rattle.frame_core.specs.Apart.{AreApart};
 
 use frame_model::{Amount, FrameBlock};
-use frame_words::{Fault, Geometry};
+use frame_words::{CHILD_FRAMES, CHILD_WORDS, Fault, Geometry};
 use std::alloc::Global;
 use std::collections::VecDeque;
 
-const CHILD_FRAMES: usize = 512;
+pub(crate) const STRANGERS: u32 = 8;
 
-const CHILD_WORDS: usize = 8;
-
-const STRANGERS: usize = 8;
-
-// While a block leaves, the blocks before and after stand in one queue: at most 512 each.
-const MOST_PIECES: usize = 1024;
+// While a block leaves, the blocks before and after stand in one queue: at most one a frame each.
+pub(crate) const MOST_PIECES: usize = 2 * CHILD_FRAMES as usize;
 
 /// What one seat has in flight.
 #[derive(Drop)]
@@ -56,7 +52,7 @@ impl Party {
         let own = VecDeque::with_capacity(alloc, MOST_PIECES)?;
         let filled = VecDeque::with_capacity(
             alloc,
-            CHILD_WORDS * geometry.children() as usize + 1,
+            CHILD_WORDS as usize * geometry.children() as usize + 1,
         )?;
         Ok(Party {
             share: 1,
@@ -83,8 +79,8 @@ impl Company {
         ensures outs { IfOk result (λ c. c.outs.items
             ≡ replicate (512 * geometry.children) 0) }
     {
-        let outs = vec![in alloc; 0; CHILD_FRAMES * geometry.children() as usize]?;
-        let mut parties = Vec::with_capacity(alloc, STRANGERS)?;
+        let outs = vec![in alloc; 0; CHILD_FRAMES as usize * geometry.children() as usize]?;
+        let mut parties = Vec::with_capacity(alloc, STRANGERS as usize)?;
         for _i in 0..STRANGERS {
             parties.push_reserved(Party::fresh(alloc, geometry)?);
         }

@@ -16,8 +16,7 @@ ghost use Rattle.frame_core.specs.ScriptState.{
 
 use super::{Cue, ScriptMoves, What};
 use crate::act::Act;
-
-const STRANGERS: u32 = 8;
+use crate::plain::party::STRANGERS;
 
 impl ScriptMoves {
     // Makes all cues of the next move, in their order; answers whether it is to be lost.

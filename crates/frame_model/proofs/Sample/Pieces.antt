@@ -14,7 +14,8 @@ use Rattle.frame_model.specs.View.{NoneBut, names, LiesIn}
 use Rattle.frame_model.specs.Steps.{Rest}
 use Rattle.frame_model.specs.Steps.Amounts.{Leaves, IsRun}
 use Rattle.frame_model.specs.Events.{State, eye}
-use Rattle.frame_model.proofs.Blocks.{smalls_none, wholes_none, smalls_cons, wholes_cons, not_whole, whole_here, small_elsewhere, whole_elsewhere, halves}
+use Rattle.frame_model.proofs.Blocks.{smalls_none, wholes_none, smalls_cons, wholes_cons, not_whole, whole_here, small_elsewhere}
+use Rattle.frame_model.proofs.Blocks.{whole_elsewhere, halves}
 
 -- one child, one core, and words that were in use before
 abbrev pub key : Key

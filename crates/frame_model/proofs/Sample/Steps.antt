@@ -4,13 +4,15 @@ use Rattle.frame_words.specs.Words.{entry_word, free_in, flag_in, lane_in, lane_
 use Rattle.frame_model.specs.Block.{block}
 use Rattle.frame_model.specs.Words.{entry_place, tree_place, local_place, bits_place, word_count}
 use Rattle.frame_model.specs.View.{counted, count_in, names, is_at, spent}
-use Rattle.frame_model.specs.Steps.{charge, refund, claim, release, take_huge, give_huge, tree_pay, tree_refund, reserve, swap_local, unreserve, local_pay, local_refund, collect, fill_word, drop_flag}
+use Rattle.frame_model.specs.Steps.{charge, refund, claim, release, take_huge, give_huge, tree_pay, tree_refund, reserve, swap_local}
+use Rattle.frame_model.specs.Steps.{unreserve, local_pay, local_refund, collect, fill_word, drop_flag}
 use Rattle.frame_model.specs.Steps.Amounts.{more, less, rest_amount}
 use Rattle.frame_model.specs.Seats.{part_share, hand_out, recall, part_ground, adopt, join_idle, hand_in, keep_in}
 use Rattle.frame_model.specs.Events.{State, eye, last_seen, Event, loads, makes, loses, loses_at_will, cuts, joins, LeadsTo}
 use Rattle.frame_model.proofs.Amounts.{count_none, count_else, names_none}
 use Rattle.frame_model.proofs.ComputedRuns.{reached, AllAllowed, run_of, and_then, ◌⟫◌}
-use Rattle.frame_model.proofs.Sample.Pieces.{key, words, none_left, second_left, after_release, no_blocks, is_half, whole_block, second_half, gone, one_half, released, lies, first_run, has_whole, all_filled, differs}
+use Rattle.frame_model.proofs.Sample.Pieces.{key, words, none_left, second_left, after_release, no_blocks, is_half, whole_block}
+use Rattle.frame_model.proofs.Sample.Pieces.{second_half, gone, one_half, released, lies, first_run, has_whole, all_filled, differs}
 
 -- one seat has both shares, and keeps the huge frame until the ground parts off
 abbrev pub first : State
@@ -369,7 +371,8 @@ last = reached key first events
 
 events_allowed : AllAllowed key first events
 events_allowed =
-    and_then key first gives_the_huge_frame (takes_and_fills ++ (splits_and_releases ++ (reserves ++ pays_at_the_local_word))) gives_the_huge_frame_allowed
+    and_then key first gives_the_huge_frame (takes_and_fills ++ (splits_and_releases ++ (reserves ++ pays_at_the_local_word)))
+    gives_the_huge_frame_allowed
     (and_then key then_1 takes_and_fills (splits_and_releases ++ (reserves ++ pays_at_the_local_word)) takes_and_fills_allowed
     (and_then key then_2 splits_and_releases (reserves ++ pays_at_the_local_word) splits_and_releases_allowed
     (and_then key then_3 reserves pays_at_the_local_word reserves_allowed

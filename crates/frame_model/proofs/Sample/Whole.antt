@@ -1,5 +1,6 @@
 -- The run begins at an opening, and its events are of every form.
-use Rattle.std.proofs.Common.{◌≡◌, ⊎_elim, ℕ, zero, suc, ◌+◌, ◌^◌, ◌<◌, ◌≤◌, List, [], ◌∷◌, length, get_or, None, Bool, true, false, refl, ap, sym, subst, ◌∙◌, arith}
+use Rattle.std.proofs.Common.{◌≡◌, ⊎_elim, ℕ, zero, suc, ◌+◌, ◌^◌, ◌<◌, ◌≤◌, List, [], ◌∷◌, length, get_or, None, Bool, true, false, refl}
+use Rattle.std.proofs.Common.{ap, sym, subst, ◌∙◌, arith}
 use Rattle.std.specs.Prelude.{nat_eq, nat_lt, ◌&&◌}
 use Rattle.std.specs.List.{list_all, range_with_len}
 use Rattle.std.proofs.lemmas.Bool.{cases_eq}
@@ -7,7 +8,8 @@ use Rattle.std.proofs.lemmas.Bool.Decides.{nat_tests}
 use Rattle.frame_words.specs.Words.{free_in, flag_in, lane_in, lane_shift, rest_in, local_word}
 use Rattle.frame_model.specs.Block.{block}
 use Rattle.frame_model.specs.Key.{IsKey, AreRanges}
-use Rattle.frame_model.specs.Words.{entry_place, tree_place, local_place, bits_place, word_count, entry_of, free_of, huge_of, tree_word_of, tree_free_of, reserved_of, local_word_of, rest_of, bit_word_of, bit_of, set_of, IsRest, AreInRange}
+use Rattle.frame_model.specs.Words.{entry_place, tree_place, local_place, bits_place, word_count, entry_of, free_of, huge_of, tree_word_of}
+use Rattle.frame_model.specs.Words.{tree_free_of, reserved_of, local_word_of, rest_of, bit_word_of, bit_of, set_of, IsRest, AreInRange}
 use Rattle.frame_model.specs.Rebuilt.{rebuilt_free, rebuilt_in_tree, rebuilt_bits, IsRebuilt}
 use Rattle.frame_model.specs.Openings.{set_blocks, huge_blocks, held_blocks, reopener, opened}
 use Rattle.frame_model.specs.Laws.{Happening, AreOfEveryForm, charging, refunding, claiming, releasing, taking_huge}

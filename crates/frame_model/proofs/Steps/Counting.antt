@@ -16,7 +16,8 @@ use Rattle.frame_model.proofs.Lanes.{lane_added}
 use Rattle.frame_model.proofs.Amounts.{more_here, more_else, less_here, less_else, less-le, amount_more, amount_less}
 use Rattle.frame_model.proofs.Words.{held_is, child-has-lane}
 use Rattle.frame_model.proofs.Balances.{entry_step}
-use Rattle.frame_model.proofs.Steps.Shared.{free_is, flag_is, free_of_is, huge_of_is, entry_of_is, as_entry, lands, same_rights, still_charging, view_of, at-le-total}
+use Rattle.frame_model.proofs.Steps.Shared.{free_is, flag_is, free_of_is, huge_of_is, entry_of_is, as_entry, lands, same_rights}
+use Rattle.frame_model.proofs.Steps.Shared.{still_charging, view_of, at-le-total}
 
 module _ (t : ℕ → ℕ) (key : Key) (shares : ℕ) (ws : List ℕ) (vs : List View) (id : ℕ) (v : View)
     (fit : Fit key shares ws vs) (at : get_elem? vs id ≡ some v) (share : 0 < v.share) where

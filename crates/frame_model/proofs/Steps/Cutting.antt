@@ -9,7 +9,8 @@ use Rattle.frame_model.specs.View.{IsViewOf}
 use Rattle.frame_model.specs.Block.{smalls}
 use Rattle.frame_model.specs.Fit.{Fit}
 use Rattle.frame_model.specs.Steps.{Rest}
-use Rattle.frame_model.specs.Seats.{part_share, hand_out, recall, part_ground, adopt, CanPartShare, CanHandOut, CanRecall, CanPartGround, CanAdopt, left_by, right_by}
+use Rattle.frame_model.specs.Seats.{part_share, hand_out, recall, part_ground, adopt, CanPartShare, CanHandOut, CanRecall, CanPartGround}
+use Rattle.frame_model.specs.Seats.{CanAdopt, left_by, right_by}
 use Rattle.frame_model.proofs.Amounts.{count_none, is_at_none, names_none}
 use Rattle.frame_model.proofs.Blocks.{smalls_cons, wholes_cons, smalls_none, wholes_none, behind_block}
 use Rattle.frame_model.proofs.Balances.{cut_step}
@@ -37,7 +38,13 @@ module _ (t : ℕ → ℕ) (key : Key) (shares : ℕ) (ws : List ℕ) (vs : List
         shares = omega (arith, can.fewer);
         lents = omega (arith, none_out v had, none_out left left_has, none_out right can.some);
         grounds = omega (arith, ground_same v left refl, ground_no right refl);
-        past_end = λ x p h. omega (arith, ap (smalls x) (ground_still v left had left_has refl refl), ap (smalls x) (ground_none right refl), smalls_none x);
+        past_end = λ x p h. omega (
+          arith,
+          ap (smalls x) (ground_still v left had left_has refl refl),
+          ap (smalls x)
+              (ground_none right refl),
+          smalls_none x,
+        );
       })
       (left_is t key v i (part_share n) can)
       (right_is t key v i (part_share n) can)
@@ -59,7 +66,12 @@ module _ (t : ℕ → ℕ) (key : Key) (shares : ℕ) (ws : List ℕ) (vs : List
         shares = omega arith;
         lents = omega (arith, lent_one v.lent, none_out v had, none_out left had, one_out right b refl refl refl);
         grounds = omega (arith, ground_same v left refl, ground_no right refl);
-        past_end = λ x p h. omega (arith, ap (smalls x) (ground_still v left had had refl refl), ap (smalls x) (ground_none right refl), smalls_none x);
+        past_end = λ x p h. omega (
+          arith,
+          ap (smalls x) (ground_still v left had had refl refl),
+          ap (smalls x) (ground_none right refl),
+          smalls_none x,
+        );
       })
       (left_is t key v i (hand_out b rest) can)
       (right_is t key v i (hand_out b rest) can)

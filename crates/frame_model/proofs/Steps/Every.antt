@@ -6,8 +6,10 @@ use Rattle.frame_model.specs.declared.key.Key.{Key}
 use Rattle.frame_model.specs.declared.view.View.{View}
 use Rattle.frame_model.specs.View.{spent}
 use Rattle.frame_model.specs.Fit.{Fit}
-use Rattle.frame_model.specs.Steps.{Kind, charge, refund, claim, release, take_huge, give_huge, tree_pay, tree_refund, reserve, swap_local, unreserve, local_pay, local_refund, collect, fill_word, drop_flag, place, turned, IsMade, May, effect}
-use Rattle.frame_model.specs.Seats.{Cut, part_share, hand_out, recall, part_ground, adopt, Join, join_idle, hand_in, keep_in, MayCut, left_by, right_by, MayJoin, joined_by}
+use Rattle.frame_model.specs.Steps.{Kind, charge, refund, claim, release, take_huge, give_huge, tree_pay, tree_refund, reserve, swap_local}
+use Rattle.frame_model.specs.Steps.{unreserve, local_pay, local_refund, collect, fill_word, drop_flag, place, turned, IsMade, May, effect}
+use Rattle.frame_model.specs.Seats.{Cut, part_share, hand_out, recall, part_ground, adopt, Join, join_idle, hand_in, keep_in, MayCut}
+use Rattle.frame_model.specs.Seats.{left_by, right_by, MayJoin, joined_by}
 use Rattle.frame_model.proofs.Steps.Counting.{charge_keeps, refund_keeps}
 use Rattle.frame_model.proofs.Steps.Marking.{claim_keeps, release_keeps, fill_word_keeps}
 use Rattle.frame_model.proofs.Steps.Huge.{take_huge_keeps, give_huge_keeps, drop_flag_keeps}

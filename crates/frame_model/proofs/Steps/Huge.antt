@@ -19,11 +19,13 @@ use Rattle.frame_model.specs.Steps.Amounts.{more, less}
 use Rattle.frame_model.specs.Steps.Conditions.{CanTakeHuge, CanGiveHuge, CanDropFlag}
 use Rattle.frame_model.proofs.Lanes.{lane_taken}
 use Rattle.frame_model.proofs.Amounts.{one_place, more_here, more_else, less_here, less_else, less-le, amount_more, amount_less, names_none}
-use Rattle.frame_model.proofs.Blocks.{smalls_cons, wholes_cons, not_small, not_whole, whole_here, whole_else, child_is_block, half_is_block, other_half_is_block, halves_here, halves_else}
+use Rattle.frame_model.proofs.Blocks.{smalls_cons, wholes_cons, not_small, not_whole, whole_here, whole_else, child_is_block, half_is_block}
+use Rattle.frame_model.proofs.Blocks.{other_half_is_block, halves_here, halves_else}
 use Rattle.frame_model.proofs.Sets.{bit-le-set, set_none, set_full}
 use Rattle.frame_model.proofs.Words.{held_is, child-has-lane}
 use Rattle.frame_model.proofs.Balances.{entry_step, set-le}
-use Rattle.frame_model.proofs.Steps.Shared.{free_is, flag_is, free_of_is, huge_of_is, entry_of_is, as_entry, lands, same_rights, still, lies_in_whole, view_of, smalls-le-bit, flag_set, no_smalls, bit_filled}
+use Rattle.frame_model.proofs.Steps.Shared.{free_is, flag_is, free_of_is, huge_of_is, entry_of_is, as_entry, lands, same_rights, still}
+use Rattle.frame_model.proofs.Steps.Shared.{lies_in_whole, view_of, smalls-le-bit, flag_set, no_smalls, bit_filled}
 
 module _ (t : ℕ → ℕ) (key : Key) (shares : ℕ) (ws : List ℕ) (vs : List View) (id : ℕ) (v : View)
     (fit : Fit key shares ws vs) (at : get_elem? vs id ≡ some v) (share : 0 < v.share) where

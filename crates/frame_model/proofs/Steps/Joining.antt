@@ -11,7 +11,8 @@ use Rattle.frame_model.specs.declared.key.Key.{Key}
 use Rattle.frame_model.specs.declared.view.View.{View}
 use Rattle.frame_model.specs.Key.{frame_count}
 use Rattle.frame_model.specs.Block.{smalls, wholes}
-use Rattle.frame_model.specs.View.{count_in, names, is_at, small_in, ground_small_in, spent, ground_in, IsIdle, HasNoPart, HasOneBlock, IsViewOf}
+use Rattle.frame_model.specs.View.{count_in, names, is_at, small_in, ground_small_in, spent, ground_in, IsIdle, HasNoPart, HasOneBlock}
+use Rattle.frame_model.specs.View.{IsViewOf}
 use Rattle.frame_model.specs.Fit.{total, Fit}
 use Rattle.frame_model.specs.Seats.{join_idle, hand_in, keep_in, CanTakeIn, CanHandIn, CanJoinIdle, joined_by}
 use Rattle.frame_model.proofs.Sums.{sum_set, at-le-sum}

@@ -1,5 +1,6 @@
 -- Steps on the local word of a core: a payment from its reservation, the refund, and the swap of the reservation.
-use Rattle.std.proofs.Common.{◌≡◌, ◌≢◌, ◌⊎◌, inl, inr, ⊎_elim, ℕ, ◌+◌, ◌-◌, ◌<◌, ◌≤◌, List, Option, None, Some, get_or, set, refl, ap, sym, subst, ◌∙◌, arith}
+use Rattle.std.proofs.Common.{◌≡◌, ◌≢◌, ◌⊎◌, inl, inr, ⊎_elim, ℕ, ◌+◌, ◌-◌, ◌<◌, ◌≤◌, List, Option, None, Some, get_or, set, refl, ap, sym}
+use Rattle.std.proofs.Common.{subst, ◌∙◌, arith}
 use Rattle.std.proofs.lemmas.Bool.{cases_eq}
 use mathlib.Core.Option.{some}
 use lib.ListN.{get_elem?}
@@ -14,7 +15,9 @@ use Rattle.frame_model.specs.Steps.{swap_local, local_pay, local_refund, effect,
 use Rattle.frame_model.specs.Steps.Amounts.{more, less, more_of, less_of, rest_amount, rest_tree, rest_less, rest_more}
 use Rattle.frame_model.specs.Steps.Conditions.{GivesUp, CanSwapLocal, CanLocalPay, CanLocalRefund}
 use Rattle.frame_model.proofs.Sums.{range_at}
-use Rattle.frame_model.proofs.Amounts.{count_none, more_here, more_else, less_here, less_else, less-le, amount_more, amount_less, amount_rest, count_on_here, count_on_else, count_on_none, is_on_here, is_on_else, is_on_none, is_on_same, rest_is_count, rest_is_on, is_at_here, is_at_else, is_at_none, rest_back}
+use Rattle.frame_model.proofs.Amounts.{count_none, more_here, more_else, less_here, less_else, less-le, amount_more, amount_less}
+use Rattle.frame_model.proofs.Amounts.{amount_rest, count_on_here, count_on_else, count_on_none, is_on_here, is_on_else, is_on_none}
+use Rattle.frame_model.proofs.Amounts.{is_on_same, rest_is_count, rest_is_on, is_at_here, is_at_else, is_at_none, rest_back}
 use Rattle.frame_model.proofs.Balances.{local_step}
 use Rattle.frame_model.proofs.Steps.Shared.{rest_of_is, as_local, lands, same_rights, same_blocks, still_paying, view_of, at-le-total}
 

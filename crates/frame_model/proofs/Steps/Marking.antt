@@ -1,5 +1,6 @@
 -- Steps on a bit word: a claim of a run, its release, and the filling of a word of a huge frame.
-use Rattle.std.proofs.Common.{◌≡◌, ⊎_elim, ℕ, ◌+◌, ◌-◌, ◌*◌, ◌/◌, ◌%◌, ◌^◌, ◌<◌, ◌≤◌, List, ◌∷◌, get_or, set, refl, ap, sym, subst, ◌∙◌, arith}
+use Rattle.std.proofs.Common.{◌≡◌, ⊎_elim, ℕ, ◌+◌, ◌-◌, ◌*◌, ◌/◌, ◌%◌, ◌^◌, ◌<◌, ◌≤◌, List, ◌∷◌, get_or, set, refl, ap, sym, subst, ◌∙◌}
+use Rattle.std.proofs.Common.{arith}
 use Rattle.std.specs.Int.{bit_at, bit_not, w64}
 use Rattle.std.specs.Int.Count.{ones}
 use Rattle.std.specs.Int.Bits.{bit_and, bit_or}
@@ -20,13 +21,15 @@ use Rattle.frame_model.specs.Fit.{total, Fit}
 use Rattle.frame_model.specs.Steps.{claim, release, fill_word, Rest, effect, turned}
 use Rattle.frame_model.specs.Steps.Amounts.{put_in, more, less, IsRun}
 use Rattle.frame_model.specs.Steps.Conditions.{CanClaim, CanRelease, CanFillWord}
-use Rattle.frame_model.proofs.Amounts.{one_place, more_here, more_else, less_here, less_else, less-le, amount_more, amount_less, names_here, names_else, names_put}
+use Rattle.frame_model.proofs.Amounts.{one_place, more_here, more_else, less_here, less_else, less-le, amount_more, amount_less, names_here}
+use Rattle.frame_model.proofs.Amounts.{names_else, names_put}
 use Rattle.frame_model.proofs.Bits.{ones_disjoint, ones_run, ones_clear, bit_at_clear, run-lt}
 use Rattle.frame_model.proofs.Blocks.{smalls_cons, wholes_cons, run_here, run_else, not_whole, in_block, run_is_block}
 use Rattle.frame_model.proofs.Sets.{bit_at_full, or_full}
 use Rattle.frame_model.proofs.Words.{held_is}
 use Rattle.frame_model.proofs.Balances.{bits_step, set-le}
-use Rattle.frame_model.proofs.Steps.Shared.{bit_word_is, bit_is, as_bits, lands, same_rights, still, lies_in_charged, lies_in_owned, lies_in_whole, view_of, at-le-total, smalls-le-bit, flag_set, bit_filled}
+use Rattle.frame_model.proofs.Steps.Shared.{bit_word_is, bit_is, as_bits, lands, same_rights, still, lies_in_charged, lies_in_owned}
+use Rattle.frame_model.proofs.Steps.Shared.{lies_in_whole, view_of, at-le-total, smalls-le-bit, flag_set, bit_filled}
 
 module _ (t : ℕ → ℕ) (key : Key) (shares : ℕ) (ws : List ℕ) (vs : List View) (id : ℕ) (v : View)
     (fit : Fit key shares ws vs) (at : get_elem? vs id ≡ some v) (share : 0 < v.share) where

@@ -13,8 +13,11 @@ use Rattle.frame_model.specs.Key.{child_of}
 use Rattle.frame_model.specs.Block.{IsBlock, small_at, whole_at, smalls, wholes}
 use Rattle.frame_model.specs.View.{names, spent, LiesIn, IsViewOf}
 use Rattle.frame_model.specs.Steps.{Rest}
-use Rattle.frame_model.specs.Seats.{Cut, part_share, hand_out, recall, part_ground, adopt, Join, join_idle, hand_in, keep_in, CanPartShare, CanHandOut, CanRecall, CanPartGround, CanAdopt, CanTakeIn, CanHandIn, CanJoinIdle, MayCut, left_by, right_by, MayJoin, joined_by}
-use Rattle.frame_model.proofs.Blocks.{smalls_cons, wholes_cons, smalls_none, wholes_none, smalls_both, wholes_both, not_whole, whole_elsewhere, small_elsewhere}
+use Rattle.frame_model.specs.Seats.{Cut, part_share, hand_out, recall, part_ground, adopt, Join, join_idle, hand_in, keep_in, CanPartShare}
+use Rattle.frame_model.specs.Seats.{CanHandOut, CanRecall, CanPartGround, CanAdopt, CanTakeIn, CanHandIn, CanJoinIdle, MayCut, left_by}
+use Rattle.frame_model.specs.Seats.{right_by, MayJoin, joined_by}
+use Rattle.frame_model.proofs.Blocks.{smalls_cons, wholes_cons, smalls_none, wholes_none, smalls_both, wholes_both, not_whole}
+use Rattle.frame_model.proofs.Blocks.{whole_elsewhere, small_elsewhere}
 use Rattle.frame_model.proofs.Steps.Shared.{named}
 use Rattle.frame_model.proofs.Steps.Seats.{holder_is, idle_is, ground_is}
 
@@ -91,7 +94,15 @@ module _ (t : ℕ → ℕ) (key : Key) (v : View) (i : IsViewOf key v) where
         kept = i.kept;
         no_part = λ z. absurd (omega arith);
         one_block = λ z g. absurd (omega arith);
-        one_child = λ z. ((i.one_child had).0, record { charged = l.charged; smalls = λ x ne. omega (arith, can.leaves.smalls x, l.smalls x ne); wholes = λ d ne. omega (arith, can.leaves.wholes d, l.wholes d ne) });
+        one_child = λ z. (
+          (i.one_child had).0,
+          record {
+            charged = l.charged;
+            smalls = λ x ne. omega
+                (arith, can.leaves.smalls x, l.smalls x ne);
+            wholes = λ d ne. omega (arith, can.leaves.wholes d, l.wholes d ne);
+          },
+        );
         filled = λ k q. record { inside = (i.filled k q).inside; share = had; own = still_own k q };
         charged = i.charged;
         paid = i.paid;
@@ -145,7 +156,14 @@ module _ (t : ℕ → ℕ) (key : Key) (v : View) (i : IsViewOf key v) where
         named = inr (ground_named key v i can.is_ground);
         own = can.leaves.are_blocks;
         kept = i.kept;
-        no_part = λ z. record { paid = none.paid; charged = none.charged; reserving = none.reserving; kept = none.kept; filled = none.filled };
+        no_part = λ z. record {
+          paid = none.paid;
+          charged = none.charged;
+          reserving = none.reserving;
+          kept = none.kept;
+          filled =
+              none.filled;
+        };
         one_block = λ z g. absurd (true-is-not-false (sym can.is_ground ∙ g));
         one_child = λ z. absurd (omega (arith, can.share));
         filled = λ k q. absurd (omega (arith, (i.filled k q).share, can.share));
@@ -200,8 +218,10 @@ module _ (t : ℕ → ℕ) (key : Key) (v : View) (i : IsViewOf key v) where
         let had : 0 < v.share = take.share in
         let l : LiesIn v (child_of b.frame) = can.one_child in
         let is_block : IsBlock key b = first_block key u.own b take.owns owns in
-        let smalls_u : (x : ℕ) → smalls x u.own ≡ small_at x b = λ x. omega (arith, ap (smalls x) take.owns, smalls_cons x b [], smalls_none x) in
-        let wholes_u : (c : ℕ) → wholes c u.own ≡ whole_at c b = λ c. omega (arith, ap (wholes c) take.owns, wholes_cons c b [], wholes_none c) in
+        let smalls_u : (x : ℕ) → smalls x u.own ≡ small_at x b = λ x. omega
+        (arith, ap (smalls x) take.owns, smalls_cons x b [], smalls_none x) in
+        let wholes_u : (c : ℕ) → wholes c u.own ≡ whole_at c b = λ c. omega
+        (arith, ap (wholes c) take.owns, wholes_cons c b [], wholes_none c) in
         record {
           named = inr (named key v i had);
           own = All-append (IsBlock key) u.own v.own owns i.own;
@@ -216,7 +236,12 @@ module _ (t : ℕ → ℕ) (key : Key) (v : View) (i : IsViewOf key v) where
               wholes = λ d ne. omega (arith, wholes_both d u.own v.own, wholes_u d, whole_elsewhere b d ne, l.wholes d ne);
             },
           );
-          filled = λ k q. let h = i.filled k q in record { inside = h.inside; share = had; own = omega (arith, h.own, wholes_both (k / 8) u.own v.own) };
+          filled = λ k q. let h = i.filled k q in record {
+            inside = h.inside;
+            share = had;
+            own = omega
+                (arith, h.own, wholes_both (k / 8) u.own v.own);
+          };
           charged = i.charged;
           paid = i.paid;
           reserving = i.reserving;

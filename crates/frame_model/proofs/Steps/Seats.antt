@@ -1,5 +1,6 @@
 -- What changes no word: a load, a lost exchange, a seat cut in two, and a seat that takes in another.
-use Rattle.std.proofs.Common.{◌≡◌, inl, inr, ℕ, ℤ, pos, ◌+ℤ◌, ◌-ℤ◌, ◌+◌, ◌/◌, ◌<◌, List, [], ◌∷◌, Option, Some, Bool, true, false, length, set, refl, ap, sym, subst, ◌∙◌, arith}
+use Rattle.std.proofs.Common.{◌≡◌, inl, inr, ℕ, ℤ, pos, ◌+ℤ◌, ◌-ℤ◌, ◌+◌, ◌/◌, ◌<◌, List, [], ◌∷◌, Option, Some, Bool, true, false, length}
+use Rattle.std.proofs.Common.{set, refl, ap, sym, subst, ◌∙◌, arith}
 use Rattle.std.specs.Prelude.{if◌then◌else◌, nat_eq}
 use Rattle.std.specs.List.{All}
 use Rattle.std.proofs.lemmas.Int.{ints}
@@ -13,7 +14,8 @@ use Rattle.frame_model.specs.declared.block.FrameBlock.{FrameBlock}
 use Rattle.frame_model.specs.declared.key.Key.{Key}
 use Rattle.frame_model.specs.declared.view.View.{View}
 use Rattle.frame_model.specs.Block.{IsBlock, smalls, wholes}
-use Rattle.frame_model.specs.View.{count_in, IsAmount, names, is_at, blocks_out, ground_blocks, ground_small_in, ground_in, spent, holder, IsViewOf}
+use Rattle.frame_model.specs.View.{count_in, IsAmount, names, is_at, blocks_out, ground_blocks, ground_small_in, ground_in, spent, holder}
+use Rattle.frame_model.specs.View.{IsViewOf}
 use Rattle.frame_model.specs.Fit.{Fit}
 use Rattle.frame_model.proofs.Amounts.{count_none, is_at_none, names_none}
 use Rattle.frame_model.proofs.Blocks.{smalls_none, wholes_none}

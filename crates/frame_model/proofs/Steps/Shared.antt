@@ -1,5 +1,6 @@
 -- What the kinds of steps share: the views before and after, sums, and words as their readers say them.
-use Rattle.std.proofs.Common.{◌≡◌, ◌≢◌, ◌⊎◌, inl, inr, ⊎_elim, ℕ, ◌+◌, ◌*◌, ◌/◌, ◌%◌, ◌<◌, ◌≤◌, List, [], get_or, set, Option, Some, Bool, true, false, refl, ap, sym, subst, ◌∙◌, arith}
+use Rattle.std.proofs.Common.{◌≡◌, ◌≢◌, ◌⊎◌, inl, inr, ⊎_elim, ℕ, ◌+◌, ◌*◌, ◌/◌, ◌%◌, ◌<◌, ◌≤◌, List, [], get_or, set, Option, Some, Bool}
+use Rattle.std.proofs.Common.{true, false, refl, ap, sym, subst, ◌∙◌, arith}
 use Rattle.std.specs.List.{All}
 use Rattle.std.specs.Prelude.{if◌then◌else◌, nat_eq}
 use Rattle.std.specs.Int.{bit_at}
@@ -15,8 +16,12 @@ use Rattle.frame_model.specs.declared.view.Amount.{Amount}
 use Rattle.frame_model.specs.declared.view.View.{View}
 use Rattle.frame_model.specs.Key.{frame_count, tree_count, child_of}
 use Rattle.frame_model.specs.Block.{IsBlock, smalls, wholes}
-use Rattle.frame_model.specs.Words.{entry_place, tree_place, local_place, bits_place, entry_of, free_of, huge_of, tree_word_of, tree_free_of, reserved_of, local_word_of, rest_of, bit_word_of, bit_of, with_entry, with_tree, with_local, with_bits}
-use Rattle.frame_model.specs.View.{count_in, IsAmount, NoneBut, names, is_at, small_in, whole_in, fills, marks, charged_in, blocks_out, ground_blocks, ground_small_in, ground_in, spent, LiesIn, IsViewOf, fixed_ground, ground_with, boot_blocks}
+use Rattle.frame_model.specs.Words.{entry_place, tree_place, local_place, bits_place, entry_of, free_of, huge_of, tree_word_of}
+use Rattle.frame_model.specs.Words.{tree_free_of, reserved_of, local_word_of, rest_of, bit_word_of, bit_of, with_entry, with_tree}
+use Rattle.frame_model.specs.Words.{with_local, with_bits}
+use Rattle.frame_model.specs.View.{count_in, IsAmount, NoneBut, names, is_at, small_in, whole_in, fills, marks, charged_in, blocks_out}
+use Rattle.frame_model.specs.View.{ground_blocks, ground_small_in, ground_in, spent, LiesIn, IsViewOf, fixed_ground, ground_with}
+use Rattle.frame_model.specs.View.{boot_blocks}
 use Rattle.frame_model.specs.Fit.{total, Fit}
 use Rattle.frame_model.proofs.Sums.{at-le-sum, All-at, sum_plus, sum_below, sum_below_but}
 use Rattle.frame_model.proofs.Amounts.{names-le, names_none}

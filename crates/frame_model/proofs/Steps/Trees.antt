@@ -12,9 +12,11 @@ use Rattle.frame_model.specs.Fit.{Fit}
 use Rattle.frame_model.specs.Steps.{tree_pay, tree_refund, reserve, unreserve, collect, effect, turned}
 use Rattle.frame_model.specs.Steps.Amounts.{more, less}
 use Rattle.frame_model.specs.Steps.Conditions.{CanTreePay, CanTreeRefund, CanReserve, CanUnreserve, CanCollect}
-use Rattle.frame_model.proofs.Amounts.{count_none, count_here, count_else, more_here, more_else, less_here, less_else, less-le, amount_more, amount_less, amount_counted, is_at_here, is_at_else, is_at_none}
+use Rattle.frame_model.proofs.Amounts.{count_none, count_here, count_else, more_here, more_else, less_here, less_else, less-le, amount_more}
+use Rattle.frame_model.proofs.Amounts.{amount_less, amount_counted, is_at_here, is_at_else, is_at_none}
 use Rattle.frame_model.proofs.Balances.{tree_step}
-use Rattle.frame_model.proofs.Steps.Shared.{free_is, flag_is, tree_free_is, reserved_is, as_tree, lands, same_rights, same_blocks, still_paying, view_of, at-le-total}
+use Rattle.frame_model.proofs.Steps.Shared.{free_is, flag_is, tree_free_is, reserved_is, as_tree, lands, same_rights, same_blocks}
+use Rattle.frame_model.proofs.Steps.Shared.{still_paying, view_of, at-le-total}
 
 module _ (t : ℕ → ℕ) (key : Key) (shares : ℕ) (ws : List ℕ) (vs : List View) (id : ℕ) (v : View)
     (fit : Fit key shares ws vs) (at : get_elem? vs id ≡ some v) (share : 0 < v.share) where

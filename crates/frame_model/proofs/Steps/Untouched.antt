@@ -1,7 +1,8 @@
 -- What no step changes of the view that makes it.
 use Rattle.std.proofs.Common.{◌≡◌, ℕ, refl}
 use Rattle.frame_model.specs.declared.view.View.{View}
-use Rattle.frame_model.specs.Steps.{Kind, charge, refund, claim, release, take_huge, give_huge, tree_pay, tree_refund, reserve, swap_local, unreserve, local_pay, local_refund, collect, fill_word, drop_flag, effect}
+use Rattle.frame_model.specs.Steps.{Kind, charge, refund, claim, release, take_huge, give_huge, tree_pay, tree_refund, reserve, swap_local}
+use Rattle.frame_model.specs.Steps.{unreserve, local_pay, local_refund, collect, fill_word, drop_flag, effect}
 
 pub record Untouched (v w : View) : Type 0 where
   pub about : w.about ≡ v.about

@@ -1,5 +1,6 @@
 -- An event between stops keeps what is carried: only an adoption takes a block off the ground, and then it is remembered no more.
-use Rattle.std.proofs.Common.{◌≡◌, ◌≢◌, ◌⊎◌, inl, inr, ⊎_elim, ℕ, ◌+◌, ◌-◌, ◌^◌, ◌<◌, ◌≤◌, List, [], ◌∷◌, ◌++◌, Bool, true, false, get_or, set, refl, ap, sym, subst, ◌∙◌, arith}
+use Rattle.std.proofs.Common.{◌≡◌, ◌≢◌, ◌⊎◌, inl, inr, ⊎_elim, ℕ, ◌+◌, ◌-◌, ◌^◌, ◌<◌, ◌≤◌, List, [], ◌∷◌, ◌++◌, Bool, true, false, get_or}
+use Rattle.std.proofs.Common.{set, refl, ap, sym, subst, ◌∙◌, arith}
 use Rattle.std.specs.Prelude.{if◌then◌else◌, ◌||◌, map, nat_le}
 use Rattle.std.specs.List.{sum_by, All, list_any}
 use Rattle.std.proofs.lemmas.Bool.{cases_eq}
@@ -19,7 +20,8 @@ use Rattle.frame_model.specs.Block.{covers}
 use Rattle.frame_model.specs.View.{spent, ground_with, boot_blocks, ground_in, IsViewOf}
 use Rattle.frame_model.specs.Holding.{holders}
 use Rattle.frame_model.specs.Steps.{Rest, Kind, place, effect, next}
-use Rattle.frame_model.specs.Seats.{Cut, part_share, hand_out, recall, part_ground, adopt, Join, join_idle, hand_in, keep_in, CanAdopt, MayCut, left_by, right_by, MayJoin, joined_by}
+use Rattle.frame_model.specs.Seats.{Cut, part_share, hand_out, recall, part_ground, adopt, Join, join_idle, hand_in, keep_in, CanAdopt}
+use Rattle.frame_model.specs.Seats.{MayCut, left_by, right_by, MayJoin, joined_by}
 use Rattle.frame_model.specs.Events.{State, eye, views_of, Event, loads, makes, loses, loses_at_will, cuts, joins, Happens}
 use Rattle.frame_model.specs.Stops.{Moment, Forgets, Remembers, Steps}
 use Rattle.frame_model.proofs.Sums.{sum_set, at-le-sum, All-at}

@@ -5,7 +5,8 @@ use Rattle.frame_words.specs.Words.{entry_word, free_in, flag_in, rest_in, local
 use Rattle.frame_words.proofs.WordLemmas.{free_in-entry_word, flag_in-entry_word, entry_word-lt, rest_in-zero}
 use Rattle.frame_model.specs.declared.key.Key.{Key}
 use Rattle.frame_model.specs.Key.{tree_count, children_in}
-use Rattle.frame_model.specs.Words.{free_of, huge_of, tree_free_of, reserved_of, rest_of, bit_word_of, with_entry, with_tree, with_local, with_bits, IsRest, AreInRange}
+use Rattle.frame_model.specs.Words.{free_of, huge_of, tree_free_of, reserved_of, rest_of, bit_word_of, with_entry, with_tree, with_local}
+use Rattle.frame_model.specs.Words.{with_bits, IsRest, AreInRange}
 use Rattle.frame_model.specs.Rebuilt.{rebuilt_free, rebuilt_in_tree, rebuilt_bits, IsRebuilt}
 use Rattle.frame_model.specs.Stops.{opening_moment, unsealed, EveryRebuildingExists, EveryMomentCanStop}
 use Rattle.frame_model.proofs.OtherWords.{bit_word_of-with_entry, bit_word_of-with_tree, bit_word_of-with_local}

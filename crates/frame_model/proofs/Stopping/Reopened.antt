@@ -1,5 +1,6 @@
 -- The seats after a stop fit the rebuilt words.
-use Rattle.std.proofs.Common.{◌≡◌, ℕ, zero, suc, ◌+◌, ◌*◌, ◌/◌, ◌<◌, ◌≤◌, List, [], ◌∷◌, ◌++◌, Some, false, replicate, refl, ap, sym, subst, ◌∙◌, arith}
+use Rattle.std.proofs.Common.{◌≡◌, ℕ, zero, suc, ◌+◌, ◌*◌, ◌/◌, ◌<◌, ◌≤◌, List, [], ◌∷◌, ◌++◌, Some, false, replicate, refl, ap, sym, subst}
+use Rattle.std.proofs.Common.{◌∙◌, arith}
 use Rattle.std.specs.Prelude.{map}
 use Rattle.std.specs.List.{sum_by, All}
 use Rattle.std.proofs.lemmas.List.{map-append}
@@ -12,7 +13,8 @@ use Rattle.frame_model.specs.declared.view.View.{View}
 use Rattle.frame_model.specs.Key.{frame_count}
 use Rattle.frame_model.specs.Block.{smalls}
 use Rattle.frame_model.specs.Words.{bit_of}
-use Rattle.frame_model.specs.View.{small_in, whole_in, fills, charged_in, paid_on, reserves, blocks_out, ground_small_in, ground_in, idle, spent, ground_with, IsViewOf}
+use Rattle.frame_model.specs.View.{small_in, whole_in, fills, charged_in, paid_on, reserves, blocks_out, ground_small_in, ground_in, idle}
+use Rattle.frame_model.specs.View.{spent, ground_with, IsViewOf}
 use Rattle.frame_model.specs.Fit.{total, Fit}
 use Rattle.frame_model.specs.Rebuilt.{IsRebuilt}
 use Rattle.frame_model.specs.Openings.{held_blocks}

@@ -14,7 +14,8 @@ use Rattle.frame_model.specs.Laws.{blocks_with}
 use Rattle.frame_model.specs.Seats.{part_share, hand_out, recall, part_ground, adopt}
 use Rattle.frame_model.specs.Steps.Amounts.{more, less}
 use Rattle.frame_model.specs.Events.{State, last_seen, Event, loads, makes, loses, loses_at_will, cuts, joins, LeadsTo}
-use Rattle.frame_model.specs.Stops.{Moment, known_of, flying_of, is_lost, range_blocks, Remembers, stopped, Passes, stays, steps, stops, opening_moment, Stopping}
+use Rattle.frame_model.specs.Stops.{Moment, known_of, flying_of, is_lost, range_blocks, Remembers, stopped, Passes, stays, steps, stops}
+use Rattle.frame_model.specs.Stops.{opening_moment, Stopping}
 use Rattle.frame_model.specs.WorkedRuns.{one_child, words_of_one, all_free, full_word, claimed_one}
 use Rattle.frame_model.proofs.Amounts.{count_none}
 use Rattle.frame_model.proofs.Bits.{ones_zero}

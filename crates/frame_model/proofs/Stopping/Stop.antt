@@ -1,5 +1,6 @@
 -- A stop keeps what is carried: known blocks stay known, and what was in flight is lost.
-use Rattle.std.proofs.Common.{◌≡◌, ◌≢◌, ⊎_elim, ℕ, zero, suc, ◌+◌, ◌-◌, ◌*◌, ◌<◌, ◌≤◌, List, [], ◌∷◌, ◌++◌, length, Bool, true, false, get_or, refl, ap, ◌∙◌, arith}
+use Rattle.std.proofs.Common.{◌≡◌, ◌≢◌, ⊎_elim, ℕ, zero, suc, ◌+◌, ◌-◌, ◌*◌, ◌<◌, ◌≤◌, List, [], ◌∷◌, ◌++◌, length, Bool, true, false}
+use Rattle.std.proofs.Common.{get_or, refl, ap, ◌∙◌, arith}
 use Rattle.std.specs.Prelude.{if◌then◌else◌, nat_eq, nat_le}
 use Rattle.std.specs.List.{sum_by, All, range_with_len}
 use Rattle.std.proofs.lemmas.Bool.{cases_lt}
@@ -29,7 +30,8 @@ use Rattle.frame_model.proofs.Safe.{holders_are, once}
 use Rattle.frame_model.proofs.HeldBack.{in_range_unsealed}
 use Rattle.frame_model.proofs.Stopping.Rebuilding.{again, held_then, past_then}
 use Rattle.frame_model.proofs.Stopping.Reopened.{after_sum, after_all, reopened_fits, views_after}
-use Rattle.frame_model.proofs.Stopping.Known.{grounded, boot, ground_at, GroundApart, Carries, holders_none, holders_both, known_are_blocks, known_is, held_at}
+use Rattle.frame_model.proofs.Stopping.Known.{grounded, boot, ground_at, GroundApart, Carries, holders_none, holders_both, known_are_blocks}
+use Rattle.frame_model.proofs.Stopping.Known.{known_is, held_at}
 
 -- Names of frames before and after.
 
@@ -50,7 +52,8 @@ boot_below key x h = let e = past_by key.frames x h in rw e refl
 
 range_blocks_are : (key : Key) → IsKey key → All (IsBlock key) (range_blocks key)
 unfolding range_blocks
-range_blocks_are key k = chosen_all (λ f. block f 0) (is_boot_frame key) (IsBlock key) 0 key.frames (λ d l h. record { order = omega arith; aligned = omega arith; inside = omega (arith, k.sizes.inside) })
+range_blocks_are key k = chosen_all (λ f. block f 0) (is_boot_frame key) (IsBlock key) 0 key.frames
+    (λ d l h. record { order = omega arith; aligned = omega arith; inside = omega (arith, k.sizes.inside) })
 
 range_smalls : (key : Key) (x : ℕ) → x < key.frames → smalls x (range_blocks key) ≡ boot key x
 unfolding range_blocks

@@ -7,7 +7,8 @@ use Rattle.frame_model.specs.Key.{frame_count, child_of, IsKey}
 use Rattle.frame_model.specs.View.{idle, ground_with, boot_blocks}
 use Rattle.frame_model.specs.Holding.{holders}
 use Rattle.frame_model.specs.Openings.{IsSealedOpening}
-use Rattle.frame_model.specs.Stops.{Moment, Passes, stays, steps, stops, stopped, opening_moment, unsealed, EveryStopIsSurvived, EveryStopIsExact}
+use Rattle.frame_model.specs.Stops.{Moment, Passes, stays, steps, stops, stopped, opening_moment, unsealed, EveryStopIsSurvived}
+use Rattle.frame_model.specs.Stops.{EveryStopIsExact}
 use Rattle.frame_model.proofs.Keeps.{total_is}
 use Rattle.frame_model.proofs.Opening.{sealed_fits, fixed_sealed, boot_smalls, boot_wholes, range_all}
 use Rattle.frame_model.proofs.Safe.{holders_are, boot_are_blocks}

@@ -1,5 +1,6 @@
 -- What rebuilding makes of the words of one child.
-use Rattle.std.proofs.Common.{◌≡◌, ℕ, zero, suc, ◌+◌, ◌-◌, ◌/◌, ◌%◌, ◌^◌, ◌<◌, ◌≤◌, List, None, Bool, false, replicate, refl, ap, sym, subst, ◌∙◌, arith}
+use Rattle.std.proofs.Common.{◌≡◌, ℕ, zero, suc, ◌+◌, ◌-◌, ◌/◌, ◌%◌, ◌^◌, ◌<◌, ◌≤◌, List, None, Bool, false, replicate, refl, ap, sym}
+use Rattle.std.proofs.Common.{subst, ◌∙◌, arith}
 use Rattle.std.specs.Prelude.{if◌then◌else◌}
 use Rattle.std.specs.Int.Count.{ones}
 use Rattle.std.proofs.lemmas.Bool.Decides.{nat_tests}
@@ -9,7 +10,9 @@ use Rattle.frame_words.specs.Words.{entry_word, free_in, flag_in, lane_in, lane_
 use Rattle.frame_words.proofs.WordLemmas.{rest_in-zero}
 use Rattle.frame_model.specs.declared.key.Key.{Key}
 use Rattle.frame_model.specs.Key.{is_boot_frame}
-use Rattle.frame_model.specs.Words.{entry_place, tree_place, local_place, bits_place, word_count, entry_of, free_of, huge_of, tree_word_of, tree_free_of, reserved_of, local_word_of, rest_of, bit_word_of, bit_of, set_of, with_entry, with_tree, with_bits, AreInRange}
+use Rattle.frame_model.specs.Words.{entry_place, tree_place, local_place, bits_place, word_count, entry_of, free_of, huge_of, tree_word_of}
+use Rattle.frame_model.specs.Words.{tree_free_of, reserved_of, local_word_of, rest_of, bit_word_of, bit_of, set_of, with_entry, with_tree}
+use Rattle.frame_model.specs.Words.{with_bits, AreInRange}
 use Rattle.frame_model.specs.Rebuilt.{rebuilt_free, rebuilt_in_tree, rebuilt_bits, IsRebuilt}
 use Rattle.frame_model.specs.WorkedRuns.{one_child, words_of_one, full_word, all_free, OpensAllFree}
 use Rattle.frame_model.proofs.Zeros.{zeros_in_range}
@@ -44,7 +47,8 @@ one_of_eight P p0 p1 p2 p3 p4 p5 p6 p7 (suc (suc (suc (suc (suc (suc (suc (suc i
 -- a first entry, and a first tree
 first_entry : AreInRange one_child (words_of_one 512 0 0 0 0 0 0 0 0 0 0)
 unfolding entry_place word_count entry_word lane_in lane_put lane_shift with_entry free_in flag_in
-first_entry = (entry_written one_child (replicate 33 0) 0 512 (zeros_in_range one_child) (omega arith) (omega arith)).in_range (omega arith) (omega arith)
+first_entry = (entry_written one_child (replicate 33 0) 0 512 (zeros_in_range one_child) (omega arith) (omega arith)).in_range
+    (omega arith) (omega arith)
 
 -- the entry is written where nothing else stands in its word
 lone_entry : (e : ℕ) → lane_put 512 0 e ≡ e

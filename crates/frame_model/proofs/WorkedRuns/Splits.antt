@@ -9,7 +9,9 @@ use Rattle.frame_model.specs.Events.{last_seen, views_of}
 use Rattle.frame_model.specs.Rebuilt.{IsRebuilt}
 use Rattle.frame_model.specs.Stops.{known_of, unsealed}
 use Rattle.frame_model.specs.Without.{less_one, times, is_same}
-use Rattle.frame_model.specs.WorkedRuns.{one_child, words_of_one, full_word, at_first, fills_others, hands_out_halves, fills_half, fills_all, splits_huge, still_huge, all_set, StopsAfter, RunHandsOut, StopWithHalfFilled, StopWithTheFlagDropped, SplitOfAHugeFrame}
+use Rattle.frame_model.specs.WorkedRuns.{one_child, words_of_one, full_word, at_first, fills_others, hands_out_halves, fills_half}
+use Rattle.frame_model.specs.WorkedRuns.{fills_all, splits_huge, still_huge, all_set, StopsAfter, RunHandsOut, StopWithHalfFilled}
+use Rattle.frame_model.specs.WorkedRuns.{StopWithTheFlagDropped, SplitOfAHugeFrame}
 use Rattle.frame_model.proofs.Amounts.{names_none}
 use Rattle.frame_model.proofs.Bits.{ones_zero}
 use Rattle.frame_model.proofs.Blocks.{child_is_block, half_is_block, other_half_is_block}

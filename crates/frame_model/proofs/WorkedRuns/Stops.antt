@@ -7,7 +7,9 @@ use Rattle.frame_model.specs.Steps.Amounts.{more, less}
 use Rattle.frame_model.specs.Events.{last_seen, views_of}
 use Rattle.frame_model.specs.Rebuilt.{IsRebuilt}
 use Rattle.frame_model.specs.Stops.{known_of, unsealed}
-use Rattle.frame_model.specs.WorkedRuns.{one_child, words_of_one, full_word, at_first, loads_and_claims, claims_second, charged_wide, claimed_one, claimed_two, one_claimed, StopsAfter, StopAfterTheCharge, StopAfterOneClaim, StopAfterTwoClaims}
+use Rattle.frame_model.specs.WorkedRuns.{one_child, words_of_one, full_word, at_first, loads_and_claims, claims_second, charged_wide}
+use Rattle.frame_model.specs.WorkedRuns.{claimed_one, claimed_two, one_claimed, StopsAfter, StopAfterTheCharge, StopAfterOneClaim}
+use Rattle.frame_model.specs.WorkedRuns.{StopAfterTwoClaims}
 use Rattle.frame_model.proofs.Bits.{ones_zero}
 use Rattle.frame_model.proofs.Sets.{ones_full}
 use Rattle.frame_model.proofs.WorkedRuns.Adopting.{claimed_is_adopted, rest_is_not_held}
@@ -76,7 +78,8 @@ stop_after_the_charge =
       free = refl;
       bits = stop_after_the_charge_set;
       rebuilt = r;
-      lost_now = lost_set (reached one_child at_first charged_wide) (words_of_one 512 512 0 0 0 0 0 0 0 0 0) none_0 r.in_range 0 clear_0 set_0;
+      lost_now = lost_set (reached one_child at_first charged_wide) (words_of_one 512 512 0 0 0 0 0 0 0 0 0) none_0 r.in_range 0 clear_0
+          set_0;
     }
 
 pub stop_after_one_claim_allowed : AllAllowed one_child at_first claimed_one
@@ -104,7 +107,8 @@ unfolding entry_place tree_place bits_place local_place word_count last_seen fre
     lane_put lane_shift count_in counted more less free_of entry_of
 one_claim =
     let r : IsRebuilt (unsealed one_child) (reached one_child at_first claimed_one).words (one_claimed) =
-    rebuilt_unsealed one_child _ _ (rebuilt_by_bits 384 384 0 448 full_word 0 0 0 0 0 0 0 (omega arith) (omega (arith, ones_zero, ones_full))
+    rebuilt_unsealed one_child _ _ (rebuilt_by_bits 384 384 0 448 full_word 0 0 0 0 0 0 0 (omega arith)
+    (omega (arith, ones_zero, ones_full))
     all_bits no_bits no_bits no_bits no_bits no_bits no_bits no_bits) in
     record {
       end = reached one_child at_first claimed_one;
@@ -134,7 +138,8 @@ pub stop_after_two_claims : StopAfterTwoClaims
 unfolding entry_place tree_place bits_place local_place word_count last_seen free_in flag_in entry_word lane_in
     lane_put lane_shift count_in counted more less free_of entry_of
 stop_after_two_claims =
-    let r : IsRebuilt (unsealed one_child) (reached one_child at_first claimed_two).words (words_of_one 384 384 0 full_word full_word 0 0 0 0 0 0) =
+    let r : IsRebuilt (unsealed one_child) (reached one_child at_first claimed_two).words
+    (words_of_one 384 384 0 full_word full_word 0 0 0 0 0 0) =
     rebuilt_unsealed one_child _ _
     (rebuilt_by_bits 384 384 0 384 full_word full_word 0 0 0 0 0 0 (omega arith) (omega (arith, ones_zero, ones_full))
     all_bits all_bits no_bits no_bits no_bits no_bits no_bits no_bits) in
@@ -144,5 +149,6 @@ stop_after_two_claims =
       free = refl;
       bits = stop_after_two_claims_set;
       rebuilt = r;
-      lost_now = lost_set (reached one_child at_first claimed_two) (words_of_one 384 384 0 full_word full_word 0 0 0 0 0 0) none_128 r.in_range 128 clear_128 set_128;
+      lost_now = lost_set (reached one_child at_first claimed_two) (words_of_one 384 384 0 full_word full_word 0 0 0 0 0 0) none_128
+          r.in_range 128 clear_128 set_128;
     }

@@ -7,12 +7,14 @@ use Rattle.frame_model.specs.View.{count_in, counted}
 use Rattle.frame_model.specs.Steps.Amounts.{more, less, Leaves}
 use Rattle.frame_model.specs.Events.{last_seen}
 use Rattle.frame_model.specs.Without.{without, less_one, times, is_same, remainder, remains, is_apart, is_inside}
-use Rattle.frame_model.specs.WorkedRuns.{one_child, words_of_one, full_word, at_first, wide_take_that_loses, WideTakeThatLoses, wider_take_that_loses, WiderTakeThatLoses}
+use Rattle.frame_model.specs.WorkedRuns.{one_child, words_of_one, full_word, at_first, wide_take_that_loses, WideTakeThatLoses}
+use Rattle.frame_model.specs.WorkedRuns.{wider_take_that_loses, WiderTakeThatLoses}
 use Rattle.frame_model.proofs.Bits.{ones_zero}
 use Rattle.frame_model.proofs.Blocks.{smalls_cons, smalls_none}
 use Rattle.frame_model.proofs.Sets.{ones_full}
 use Rattle.frame_model.proofs.Without.{without_leaves}
-use Rattle.frame_model.proofs.WorkedRuns.Pieces.{can_pay, can_charge, can_claim, can_release, claimed, claimed_are_blocks, two_words, four_words, small_covers, not_zero, set_eight, ones_one}
+use Rattle.frame_model.proofs.WorkedRuns.Pieces.{can_pay, can_charge, can_claim, can_release, claimed, claimed_are_blocks, two_words}
+use Rattle.frame_model.proofs.WorkedRuns.Pieces.{four_words, small_covers, not_zero, set_eight, ones_one}
 use Rattle.frame_model.proofs.ComputedRuns.{reached, AllAllowed, run_of, ◌⟫◌}
 
 -- Two words of a block of order 7.

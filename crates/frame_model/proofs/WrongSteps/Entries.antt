@@ -18,7 +18,8 @@ use Rattle.frame_model.proofs.Lanes.{lane_added, lane_taken}
 use Rattle.frame_model.proofs.Sets.{set_none}
 use Rattle.frame_model.proofs.Sums.{sum_below}
 use Rattle.frame_model.proofs.Words.{held_is, child-has-lane, EntryWritten, entry_written}
-use Rattle.frame_model.proofs.Steps.Shared.{free_is, flag_is, free_of_is, huge_of_is, entry_of_is, as_entry, bit-le, at-le-total, flag_set, bit_filled, total_marks, fixed_fills}
+use Rattle.frame_model.proofs.Steps.Shared.{free_is, flag_is, free_of_is, huge_of_is, entry_of_is, as_entry, bit-le, at-le-total, flag_set}
+use Rattle.frame_model.proofs.Steps.Shared.{bit_filled, total_marks, fixed_fills}
 use Rattle.frame_model.proofs.WrongSteps.Shared.{total_set, fills_below}
 
 -- the entry of a child is its free frames, and the flag above them

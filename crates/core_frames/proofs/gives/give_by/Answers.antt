@@ -32,7 +32,7 @@ try_refund_own-requires g c =
           (subst (λ t. t < tree_count m.key) (sym tree) inside);
       share = omega (arith, c.requires.idle.share, ap (λ (x : View). x.share) c.give_low.ensures.back);
       paid = given_paid m.view (M.at c.give_low.new.m).view b c.frame.result c.order.result c.tree_of-tree.result c.frames_of-n.result
-          c.requires.idle c.give_low.ensures.back c.frame.ensures c.order.ensures c.tree_of-tree.ensures c.frames_of-n.ensures;
+          c.requires.idle c.give_low.ensures.back c.frame.ensures c.order.ensures c.tree_of-tree.ensures c.frames_of-n.ensures.value;
     }
 
 pub returns-then-try_refund_own-clause-gives : goal.returns-then-try_refund_own-clause-gives
@@ -43,7 +43,7 @@ returns-then-try_refund_own-clause-gives g c =
     given_then g.met.M.Moves.ticks HasTakenOne 6 8 32 (omega arith)
     (g.met.M.Moves.outs_are_blocks c.args.m.now c.args.held c.requires.held) (given_low c.give_low.ensures) c.if-try_refund_own.ensures
     (given_own m.view (M.at c.give_low.new.m).view b c.frame.result c.order.result c.tree_of-tree.result c.frames_of-n.result
-    c.requires.idle c.give_low.ensures.back c.frame.ensures c.order.ensures c.tree_of-tree.ensures c.frames_of-n.ensures
+    c.requires.idle c.give_low.ensures.back c.frame.ensures c.order.ensures c.tree_of-tree.ensures c.frames_of-n.ensures.value
     (M.at c.try_refund_own.new.m).view c.if-try_refund_own.ensures.view)
 
 pub tree_refund-requires : goal.tree_refund-requires
@@ -66,7 +66,7 @@ tree_refund-requires g c =
           (c.try_refund_own.ensures.keeps.same_key ∙ c.give_low.ensures.keeps.same_key)
           (subst (λ t. t < tree_count m.key) (sym tree) inside)
           (given_paid m.view u.view b c.frame.result c.order.result c.tree_of-tree.result c.frames_of-n.result c.requires.idle
-          c.give_low.ensures.back c.frame.ensures c.order.ensures c.tree_of-tree.ensures c.frames_of-n.ensures)
+          c.give_low.ensures.back c.frame.ensures c.order.ensures c.tree_of-tree.ensures c.frames_of-n.ensures.value)
           c.if-try_refund_own.ensures.view;
     }
 
@@ -86,7 +86,7 @@ reserve_own-requires g c =
       tree = subst (λ (i : Key). c.tree_of-tree.result < tree_count i) (sym k) (subst (λ t. t < tree_count m.key) (sym tree) inside);
       idle = idle_taken_one m.view x.view c.requires.idle
           (given_to_tree m.view u.view b c.frame.result c.order.result c.tree_of-tree.result c.frames_of-n.result c.requires.idle
-          c.give_low.ensures.back c.frame.ensures c.order.ensures c.tree_of-tree.ensures c.frames_of-n.ensures M.tick w.view x.view
+          c.give_low.ensures.back c.frame.ensures c.order.ensures c.tree_of-tree.ensures c.frames_of-n.ensures.value M.tick w.view x.view
           c.if-try_refund_own.ensures.view c.tree_refund.ensures.view);
     }
 
@@ -103,7 +103,7 @@ returns-else-counts-clause-gives g c =
     let tree : c.tree_of-tree.result ≡ tree_of b.frame = c.tree_of-tree.ensures ∙ ap tree_of c.frame.ensures in
     let inside : c.tree_of-tree.result < tree_count m.key = subst (λ t. t < tree_count m.key) (sym tree) (in_a_tree m.key b is) in
     let paid = given_paid m.view u.view b c.frame.result c.order.result c.tree_of-tree.result c.frames_of-n.result c.requires.idle
-    c.give_low.ensures.back c.frame.ensures c.order.ensures c.tree_of-tree.ensures c.frames_of-n.ensures in
+    c.give_low.ensures.back c.frame.ensures c.order.ensures c.tree_of-tree.ensures c.frames_of-n.ensures.value in
     let rest = make_brings ticks HasRefunded 8 9 (omega arith) (g.met.M.Moves.stays_alone c.try_refund_own.new.m)
     (upper_tree u.key c.tree_of-tree.result (subst (λ (i : Key). c.tree_of-tree.result < tree_count i) (sym c.give_low.ensures.keeps.same_key) inside))
     c.if-try_refund_own.ensures c.tree_refund.ensures
@@ -111,7 +111,7 @@ returns-else-counts-clause-gives g c =
     c.tree_refund.ensures.view) in
     given_then ticks HasTakenOne 6 9 32 (omega arith) is (given_low c.give_low.ensures) rest
     (given_own m.view u.view b c.frame.result c.order.result c.tree_of-tree.result c.frames_of-n.result c.requires.idle
-    c.give_low.ensures.back c.frame.ensures c.order.ensures c.tree_of-tree.ensures c.frames_of-n.ensures x.view rest.view)
+    c.give_low.ensures.back c.frame.ensures c.order.ensures c.tree_of-tree.ensures c.frames_of-n.ensures.value x.view rest.view)
 
 pub returns-then-counts-clause-gives : goal.returns-then-counts-clause-gives
 returns-then-counts-clause-gives g c =
@@ -127,14 +127,14 @@ returns-then-counts-clause-gives g c =
     let tree : c.tree_of-tree.result ≡ tree_of b.frame = c.tree_of-tree.ensures ∙ ap tree_of c.frame.ensures in
     let inside : c.tree_of-tree.result < tree_count m.key = subst (λ t. t < tree_count m.key) (sym tree) (in_a_tree m.key b is) in
     let paid = given_paid m.view u.view b c.frame.result c.order.result c.tree_of-tree.result c.frames_of-n.result c.requires.idle
-    c.give_low.ensures.back c.frame.ensures c.order.ensures c.tree_of-tree.ensures c.frames_of-n.ensures in
+    c.give_low.ensures.back c.frame.ensures c.order.ensures c.tree_of-tree.ensures c.frames_of-n.ensures.value in
     let rest = make_brings ticks HasRefunded 8 9 (omega arith) (g.met.M.Moves.stays_alone c.try_refund_own.new.m)
     (upper_tree u.key c.tree_of-tree.result (subst (λ (i : Key). c.tree_of-tree.result < tree_count i) (sym c.give_low.ensures.keeps.same_key) inside))
     c.if-try_refund_own.ensures c.tree_refund.ensures
     (refunded_tree M.tick u.view w.view x.view c.if-try_refund_own.ensures.view c.tree_of-tree.result c.frames_of-n.result paid
     c.tree_refund.ensures.view) in
     let back = given_own m.view u.view b c.frame.result c.order.result c.tree_of-tree.result c.frames_of-n.result c.requires.idle
-    c.give_low.ensures.back c.frame.ensures c.order.ensures c.tree_of-tree.ensures c.frames_of-n.ensures x.view rest.view in
+    c.give_low.ensures.back c.frame.ensures c.order.ensures c.tree_of-tree.ensures c.frames_of-n.ensures.value x.view rest.view in
     given_then ticks HasTakenOne 15 10 32 (omega arith) is
     (given_then ticks HasTakenOne 6 9 15 (omega arith) is (given_low c.give_low.ensures) rest back) c.reserve_own.ensures
     (taken_one_still m.view x.view y.view back c.reserve_own.ensures.view)

@@ -35,7 +35,7 @@ take_in_tree-requires g c =
     let one = c.load_own-seen.ensures.brings in
     let two = c.in-Some.ensures in
     may_take u w c.in-Some.tree c.frames_of-n.result u.view.reserving u.view.lent two.keeps.same_key two.view.0
-    (idle_still m.view u.view c.requires.idle one.view) two.view.1 c.args.order c.requires.order (omega (arith, c.frames_of-n.ensures))
+    (idle_still m.view u.view c.requires.idle one.view) two.view.1 c.args.order c.requires.order (omega (arith, c.frames_of-n.ensures.value))
 
 pub refund-requires : goal.refund-requires
 refund-requires g c =
@@ -103,6 +103,6 @@ returns g c =
       counts = then_counts M.tick M.is_exact ticks 27 700 736 (omega arith) pays.counts c.in-Some-take_in_tree.ensures.counts;
       some = out_after HasLentOne c.args.order pays.keeps (ap (λ v. v.kept) pays.view) pays.alone
           (record { is_block = out.is_one.is_block; has_order = out.is_one.has_order })
-          (lent_own m.view w.view x.view tree c.args.order n c.requires.idle c.frames_of-n.ensures pays.view out.view) out;
+          (lent_own m.view w.view x.view tree c.args.order n c.requires.idle c.frames_of-n.ensures.value pays.view out.view) out;
       none = tt;
     }

@@ -17,8 +17,8 @@ hand_in-requires g c =
       one_child = lies_anywhere m.view ((g.M.Held.HeldBlock.block_of c.args.held).frame / 512) c.requires.idle.charged c.requires.idle.own;
     }
 
-pub returns-then-order-lt-MOST_ORDER : goal.returns-then-order-lt-MOST_ORDER
-returns-then-order-lt-MOST_ORDER g c =
+pub returns-then-order-lt-HUGE_ORDER : goal.returns-then-order-lt-HUGE_ORDER
+returns-then-order-lt-HUGE_ORDER g c =
     let M = g.M.Moves in
     let ticks = g.met.M.Moves.ticks in
     let b = g.M.Held.HeldBlock.block_of c.args.held in
@@ -30,10 +30,10 @@ returns-then-order-lt-MOST_ORDER g c =
       counts = in_then M.tick M.is_exact ticks 0 10 (omega arith) c.hand_in.ensures (counts_none M.tick M.is_exact ticks u);
       view = own_borne m.view u.view (b ∷ []) m.view.filled (m.view.lent -ℤ pos 1) came;
       two = subst (MakeTwo m.key b.frame (b.order - 1)) (sym (ap (λ (x : View). x.own) came))
-          (two_small m.key b.frame b.order c.requires.some (omega (arith, c.order-order.ensures, c.if-order-lt-MOST_ORDER.true))
+          (two_small m.key b.frame b.order c.requires.some (omega (arith, c.order-order.ensures, c.if-order-lt-HUGE_ORDER.true))
           (g.met.M.Moves.outs_are_blocks c.args.m.now c.args.held c.requires.held));
       alone = λ a.
-          none_lost m.key b m.words u.words (omega (arith, c.order-order.ensures, c.if-order-lt-MOST_ORDER.true))
+          none_lost m.key b m.words u.words (omega (arith, c.order-order.ensures, c.if-order-lt-HUGE_ORDER.true))
           (c.hand_in.ensures.words (g.met.M.Moves.stays_alone c.args.m.now a));
     }
 
@@ -54,11 +54,11 @@ returns g c =
       counts = in_then M.tick M.is_exact ticks 9 10 (omega arith) c.hand_in.ensures now.counts;
       view = broken_up m.view u.view w.view b w.view.own (g.met.M.Moves.fills_own c.args.m.now c.requires.idle.own) came
           (own_borne u.view w.view (block (512 * c.child_of.result) 8 ∷ block (512 * c.child_of.result + 256) 8 ∷ []) [] u.view.lent now.view);
-      two = two_huge m.key b c.child_of.result w.view.own is (omega (arith, c.order-order.ensures, c.if-order-lt-MOST_ORDER.false))
+      two = two_huge m.key b c.child_of.result w.view.own is (omega (arith, c.order-order.ensures, c.if-order-lt-HUGE_ORDER.false))
           at (omega (arith, at, child_inside m.key b is)) (ap (λ (x : View). x.own) now.view);
       alone = λ a.
           then_lost m.key u.key b c.child_of.result m.words u.words w.words c.hand_in.ensures.keeps.same_key
           (c.hand_in.ensures.words (g.met.M.Moves.stays_alone c.args.m.now a))
-          (as_child m.key b is (omega (arith, c.order-order.ensures, c.if-order-lt-MOST_ORDER.false)) ∙ ap (λ n. block (512 * n) 9) (sym at))
+          (as_child m.key b is (omega (arith, c.order-order.ensures, c.if-order-lt-HUGE_ORDER.false)) ∙ ap (λ n. block (512 * n) 9) (sym at))
           (now.alone (c.hand_in.ensures.keeps.stays_alone a));
     }

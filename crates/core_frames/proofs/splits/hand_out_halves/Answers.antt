@@ -21,7 +21,7 @@ hand_out-upper-requires g c =
     let u = (M.at c.hand_out-lower.new.self).view in
     let step = c.hand_out-lower.ensures.view in
     subst (λ n. CanHandOut (M.at c.hand_out-lower.new.self).key u (block (c.args.frame + n) c.args.order) (without (block (c.args.frame + n) c.args.order) u.own))
-    (sym c.frames_of.ensures)
+    (sym c.frames_of.ensures.value)
     (subst (λ (k : Key). CanHandOut k u (block (c.args.frame + 2 ^ c.args.order) c.args.order) (without (block (c.args.frame + 2 ^ c.args.order) c.args.order) u.own))
     (sym c.hand_out-lower.ensures.keeps.same_key)
     (can_hand_out_high m.key c.args.frame c.args.order m.view.own c.requires.two u
@@ -40,14 +40,14 @@ returns g c =
       brings = record {
         keeps = keeps_both low.keeps high.keeps;
         counts = out_then M.tick M.is_exact ticks 1 2 (omega arith) (out_then M.tick M.is_exact ticks 0 1 (omega arith) (counts_none M.tick M.is_exact ticks m) low) high;
-        view = both_out M.tick m.key m.view u.view w.view c.args.frame c.args.order c.frames_of.result c.requires.two c.frames_of.ensures low.view high.view;
+        view = both_out M.tick m.key m.view u.view w.view c.args.frame c.args.order c.frames_of.result c.requires.two c.frames_of.ensures.value low.view high.view;
         alone = λ a.
             still_same m.words w.words
             (high.words (g.met.M.Moves.stays_alone c.hand_out-lower.new.self (low.keeps.stays_alone a))
             ∙ low.words (g.met.M.Moves.stays_alone c.args.m.now a));
       };
       lower = low.is_block;
-      upper = high.is_block ∙ ap (λ n. block (c.args.frame + n) c.args.order) c.frames_of.ensures;
+      upper = high.is_block ∙ ap (λ n. block (c.args.frame + n) c.args.order) c.frames_of.ensures.value;
       first_out = high.keeps.stay_out c.hand_out-lower.result low.is_out;
       second_out = high.is_out;
     }

@@ -20,7 +20,7 @@ take_in-requires g c =
       core = subst (λ (i : Key). c.args.core < i.cores) (sym was.keeps.same_key) c.requires.core;
       tree = subst (λ (i : Key). c.loop-tree.tree < tree_count i) (sym was.keeps.same_key) (omega (arith, c.loop-tree-test.true, c.requires.ends));
       order = c.requires.order;
-      enough = omega (arith, c.bounds-least.ensures.enough, c.frames_of.ensures);
+      enough = omega (arith, c.bounds-least.ensures.enough, c.frames_of.ensures.value);
       idle = idle_still m.view u.view c.requires.idle was.misses.view;
     }
 
@@ -46,7 +46,7 @@ loop-tree-preserved g c =
         alone = λ alone.
             tried_more m.key u.key (c.args.pass ≡ AnyFree) c.args.order c.args.from c.loop-tree.tree c.bounds-least.result.0
             c.bounds-least.result.1 m.words u.words w.words was.keeps.same_key
-            (λ e. let b = c.bounds-least.ensures.all e in (b.0 ∙ c.frames_of.ensures, b.1)) (was.misses.alone alone)
+            (λ e. let b = c.bounds-least.ensures.all e in (b.0 ∙ c.frames_of.ensures.value, b.1)) (was.misses.alone alone)
             (now.none.alone (was.keeps.stays_alone alone));
       };
     }

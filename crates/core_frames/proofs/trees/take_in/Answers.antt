@@ -48,7 +48,7 @@ install-requires g c =
       core = subst (λ (i : Key). c.args.core < i.cores) (sym k) c.requires.core;
       tree = subst (λ (i : Key). c.args.tree < tree_count i) (sym k) c.requires.tree;
       reserves = reserves_less m.view u.view w.view c.args.tree c.args.order c.in-Some.free c.frames_of.result c.requires.idle got.some.view
-          c.frames_of.ensures (omega (arith, got.some.enough, c.requires.enough)) got.some.few c.in-Some-take_in_tree.ensures.some.view;
+          c.frames_of.ensures.value (omega (arith, got.some.enough, c.requires.enough)) got.some.few c.in-Some-take_in_tree.ensures.some.view;
     }
 
 pub returns-in_default : goal.returns-in_default

@@ -10,11 +10,7 @@ use crate::act::Act;
 use crate::moves::Moves;
 use crate::plain::PlainMoves;
 use frame_model::PlainBlock;
-use frame_words::child_of;
-
-const HUGE_ORDER: u8 = 9;
-
-const CHILD_FRAMES: u32 = 512;
+use frame_words::{CHILD_FRAMES, HUGE_ORDER, child_of};
 
 impl PlainMoves {
     pub(crate) fn try_hand_out(&mut self, frame: u32, order: u8) -> bool

@@ -11,9 +11,7 @@ use crate::moves::Moves;
 use crate::plain::PlainMoves;
 use crate::plain::checks::count_at;
 use frame_model::Place;
-use frame_words::local_of;
-
-const TREE_FRAMES: u32 = 4096;
+use frame_words::{TREE_FRAMES, local_of};
 
 impl PlainMoves {
     pub(crate) fn try_local_pay(&mut self, core: u32, n: u32) -> bool

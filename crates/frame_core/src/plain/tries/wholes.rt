@@ -9,11 +9,7 @@ use crate::moves::Moves;
 use crate::plain::PlainMoves;
 use crate::plain::checks::count_at;
 use frame_model::Place;
-use frame_words::lane;
-
-const CHILD_FRAMES: u32 = 512;
-
-const TREE_CHILDREN: u32 = 8;
+use frame_words::{CHILD_FRAMES, TREE_CHILDREN, lane};
 
 impl PlainMoves {
     pub(crate) fn try_take_huge(&mut self, child: u32) -> bool

@@ -10,16 +10,9 @@ use crate::act::Act;
 use crate::moves::Moves;
 use crate::plain::PlainMoves;
 use crate::plain::checks::count_at;
+use crate::plain::moves::TREE_WORDS;
 use frame_model::Place;
-use frame_words::mask as mask_of;
-
-const CHILD_WORDS: u32 = 8;
-
-const TREE_WORDS: u32 = 64;
-
-const WORD_BITS: u32 = 64;
-
-const WORD_ORDER: u32 = 6;
+use frame_words::{CHILD_WORDS, WORD_FRAMES, WORD_ORDER, mask as mask_of};
 
 impl PlainMoves {
     pub(crate) fn try_claim(&mut self, word: u32, mask: u64) -> bool
@@ -70,7 +63,7 @@ impl PlainMoves {
         if !self.charges_only(word / CHILD_WORDS) || !self.pays_only(word / TREE_WORDS) {
             return false;
         }
-        if !self.has_block(WORD_BITS * word + from, order) {
+        if !self.has_block(WORD_FRAMES * word + from, order) {
             return false;
         }
         self.release(word, mask);
@@ -100,17 +93,16 @@ fn run_in(mask: u64) -> Option<(u32, u8)>
     ensures fits { IfSome result (λ r. r.0 + 2 ^ r.1 ≤ 64) }
 {
     let from = mask.trailing_zeros();
-    let order = mask.count_ones().trailing_zeros();
+    let order = mask.count_ones().trailing_zeros() as u8;
     if order > WORD_ORDER {
         return None;
     }
-    if from >= WORD_BITS {
+    if from >= WORD_FRAMES {
         return None;
     }
     if from % (1 << order) != 0 {
         return None;
     }
-    let order = order as u8;
     if mask_of(order, from) != mask {
         return None;
     }

@@ -5,4 +5,12 @@ use Rattle.frame_model.proofs.Stopping.Survival.{every_stop_is_survived, every_s
 use Rattle.frame_model.proofs.laws.every_stop_is_survived.Goals as goal
 
 pub returns : goal.returns
-returns c = record { survived = every_stop_is_survived; exact = every_stop_is_exact; rebuilt = every_rebuilding_is_exact; exists = every_rebuilding_exists; can_stop = every_moment_can_stop; happens = stopping }
+returns c = record {
+  survived = every_stop_is_survived;
+  exact = every_stop_is_exact;
+  rebuilt = every_rebuilding_is_exact;
+  exists =
+      every_rebuilding_exists;
+  can_stop = every_moment_can_stop;
+  happens = stopping;
+}

@@ -1,4 +1,5 @@
-use Rattle.frame_model.proofs.WrongStates.{blocks_overlap, block_is_outside, seat_is_past_the_end, entry_promises_too_much, huge_frame_promises, tree_promises_too_much}
+use Rattle.frame_model.proofs.WrongStates.{blocks_overlap, block_is_outside, seat_is_past_the_end, entry_promises_too_much}
+use Rattle.frame_model.proofs.WrongStates.{huge_frame_promises, tree_promises_too_much}
 use Rattle.frame_model.proofs.wrong.wrong_states_are_not_safe.Goals as goal
 
 pub returns : goal.returns

@@ -25,7 +25,8 @@ loop-next-init g c =
     record {
       at = subst (λ (s : CoreSeat). IsSeat (id_of t) (key_at t) s.seat.table_id s.seat.me) same idle.sits.at;
       gathering = subst (λ (s : CoreSeat). IsGathering (map S.seat_of all) (map S.seat_of ys) (view_of s)) same
-          (gather_first (map S.seat_of all) (map S.seat_of all) (map S.seat_of ys) (S.seat_of x) idle.sits.one (last_of S.seat_of all ys x e) idle.idle);
+          (gather_first (map S.seat_of all) (map S.seat_of all) (map S.seat_of ys) (S.seat_of x) idle.sits.one
+          (last_of S.seat_of all ys x e) idle.idle);
       others = all_front (λ s. IsIdleSeat t (S.seat_of s)) all ys x e c.requires.idle;
     }
 
@@ -36,7 +37,8 @@ next_idle g c =
     let t = c.args.table.now in
     let x = c.in-Some-pop.next in
     subst (IsIdleSeat t) (sym c.into_seat-seat.ensures)
-    (all_last (λ s. IsIdleSeat t (S.seat_of s)) c.loop-next.seats.items c.pop-in-loop-next.new.self.items x c.in-Some-pop.ensures.items c.loop-next.invariant.others)
+    (all_last (λ s. IsIdleSeat t (S.seat_of s)) c.loop-next.seats.items c.pop-in-loop-next.new.self.items x c.in-Some-pop.ensures.items
+    c.loop-next.invariant.others)
 
 pub join_seat-requires-clause-other : goal.join_seat-requires-clause-other
 join_seat-requires-clause-other g c =
@@ -68,8 +70,10 @@ loop-next-preserved g c =
     record {
       at = c.join_seat.ensures.seat;
       gathering = subst (IsGathering all (map S.seat_of ys)) (sym (ap V c.join_seat.ensures.both))
-          (subst (λ (s : CoreSeat). IsGathering all (map S.seat_of ys) (joined_by next join_idle was (view_of s))) (sym c.into_seat-seat.ensures)
-          (gather_more all (map S.seat_of xs) (map S.seat_of ys) (S.seat_of x) idle.sits.one was inv.gathering (last_of S.seat_of xs ys x e)));
+          (subst (λ (s : CoreSeat). IsGathering all (map S.seat_of ys) (joined_by next join_idle was (view_of s)))
+          (sym c.into_seat-seat.ensures)
+          (gather_more all (map S.seat_of xs) (map S.seat_of ys) (S.seat_of x) idle.sits.one was inv.gathering
+          (last_of S.seat_of xs ys x e)));
       others = all_front (λ s. IsIdleSeat t (S.seat_of s)) xs ys x e inv.others;
     }
 

@@ -24,10 +24,12 @@ loop-core-preserved c =
     } in record {
       at = c.part_share_off.ensures.seat;
       moves = omega (arith, inv.moves, ap (λ (u : View). u.moves) c.part_share_off.ensures.view);
-      view = dealt (key_at t) v.moves (cores - c.loop-core._core) (cores - (c.loop-core._core + 1)) v w inv.view c.part_share_off.ensures.view (omega arith);
+      view = dealt (key_at t) v.moves (cores - c.loop-core._core) (cores - (c.loop-core._core + 1)) v w inv.view
+          c.part_share_off.ensures.view (omega arith);
       count = omega (arith, inv.count, c.push_reserved.ensures.len);
       room = omega (arith, inv.room, c.push_reserved.ensures.capacity);
-      new = subst (All (IsNew t)) (sym c.push_reserved.ensures.items) (All-push (IsNew t) c.loop-core.seats.items c.part_share_off.result inv.new fresh);
+      new = subst (All (IsNew t)) (sym c.push_reserved.ensures.items)
+          (All-push (IsNew t) c.loop-core.seats.items c.part_share_off.result inv.new fresh);
     }
 
 pub returns-clause-new : goal.returns-clause-new
@@ -36,7 +38,13 @@ returns-clause-new c =
     let inv = c.loop-core.invariant in
     let v : View = c.loop-core.seat.me.0.view in
     let cores : ℕ = (key_at t).cores in
-    let last : cores - c.loop-core._core ≡ 1 = omega (arith, t.sizes.1, t.geometry.some_cores, c.loop-core-test.false, c.loop-core.auto._core-end) in
+    let last : cores - c.loop-core._core ≡ 1 = omega (
+      arith,
+      t.sizes.1,
+      t.geometry.some_cores,
+      c.loop-core-test.false,
+      c.loop-core.auto._core-end,
+    ) in
     let is : v ≡ moved v.moves (idle (key_at t) 1) = inv.view ∙ ap (λ n. moved v.moves (idle (key_at t) n)) last in
     let seat : CoreSeat = record { seat = c.loop-core.seat } in
     let fresh : IsNew t seat = record {

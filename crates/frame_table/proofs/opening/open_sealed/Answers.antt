@@ -8,5 +8,6 @@ pub open_words-requires-clause-fits : goal.open_words-requires-clause-fits
 open_words-requires-clause-fits c =
     let image = c.args.image.now in
     let same = ap (λ v. v.items) c.of-2.ensures ∙ c.in-Ok.ensures.items in
-    opens_sealed (record { image = c.of.result; ranges = c.of-2.result; sealed = true }) image c.of.ensures refl (omega (arith, image.geometry.some_cores))
+    opens_sealed (record { image = c.of.result; ranges = c.of-2.result; sealed = true }) image c.of.ensures refl
+    (omega (arith, image.geometry.some_cores))
     (subst (λ (r : List (ℕ × ℕ)). IsSealedOpening (sealed_key image.geometry r) image.words) (sym same) c.requires.opens)

@@ -9,7 +9,8 @@ pub open_words-requires-clause-fits : goal.open_words-requires-clause-fits
 open_words-requires-clause-fits c =
     let image = c.args.image.now in
     let laid = c.geometry.ensures.in_range in
-    opens_at (record { image = c.of.result; ranges = c.of-2.result; sealed = false }) image c.of.ensures (ap (λ v. v.items) c.of-2.ensures ∙ c.new-none.ensures.items) refl (omega (arith, image.geometry.some_cores)) c.requires laid
+    opens_at (record { image = c.of.result; ranges = c.of-2.result; sealed = false }) image c.of.ensures
+    (ap (λ v. v.items) c.of-2.ensures ∙ c.new-none.ensures.items) refl (omega (arith, image.geometry.some_cores)) c.requires laid
 
 pub returns-clause-opened : goal.returns-clause-opened
 returns-clause-opened c =

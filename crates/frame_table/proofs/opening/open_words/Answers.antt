@@ -15,5 +15,6 @@ returns-clause-seat c =
     let id = made.2 ∙ ap (λ g. g.shared.table_id) (sym c.of.ensures.0) in
     let key = ap key_from (sym made.5) ∙ ap (λ g. key_from g.shared.key) (sym c.of.ensures.0) in
     let view = view_of (key_from o) (key_from o).cores c.args.image.now.words (first_view o ∷ []) 0 (first_view o) c.requires.fits refl in
-    fresh_seat (id_of t) (key_at t) c.in-Ok.seat.table_id c.in-Ok.seat.me (first_view o) id made.4 (c.requires.about ∙ ap (λ (k : Key). Some k) key)
+    fresh_seat (id_of t) (key_at t) c.in-Ok.seat.table_id c.in-Ok.seat.me (first_view o) id made.4
+    (c.requires.about ∙ ap (λ (k : Key). Some k) key)
     ∣ subst (λ (k : Key). IsViewOf k (first_view o)) key view ∣₁

@@ -13,7 +13,8 @@ join_seat-requires g c =
       c.requires.other.0,
       c.requires.other.1,
       omega (arith, t.words, some_words (key_at t)),
-      join_joins t.grid.shared.key t.grid.shared.table_id.slots seat.id seat.me.0 c.requires.seat.about c.args.other.id c.args.other.me.0 g.P.Joining.join c.requires.may,
+      join_joins t.grid.shared.key t.grid.shared.table_id.slots seat.id seat.me.0 c.requires.seat.about c.args.other.id c.args.other.me.0
+          g.P.Joining.join c.requires.may,
     )
 
 pub returns-clause-seat : goal.returns-clause-seat

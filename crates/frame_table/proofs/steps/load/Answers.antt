@@ -15,14 +15,23 @@ load-requires c =
       look_allows t.grid.shared.key t.grid.shared.table_id.slots seat.id seat.me sits.bare sits.about c.args.word,
     )
 
-after : (c : goal.After-load) → Stepped (id_of c.args.table.now) (key_at c.args.table.now) c.load.new.seat.table_id c.args.seat.now.seat.me c.load.new.seat.me c.args.word (Some c.load.result) (after_load next (view_of c.args.seat.now))
+after : (c : goal.After-load) → Stepped (id_of c.args.table.now) (key_at c.args.table.now) c.load.new.seat.table_id c.args.seat.now.seat.me
+    c.load.new.seat.me c.args.word (Some c.load.result) (after_load next (view_of c.args.seat.now))
 after c =
     let t = c.args.table.now in
     let seat = c.args.seat.now.seat in
-    looked (id_of t) (key_at t) seat.table_id c.load.new.seat.table_id seat.me c.load.new.seat.me c.requires.seat.at c.load.ensures.0 c.args.word t.grid.shared.table_id.slots c.load.result c.load.ensures.2
+    looked (id_of t) (key_at t) seat.table_id c.load.new.seat.table_id seat.me c.load.new.seat.me c.requires.seat.at c.load.ensures.0
+    c.args.word t.grid.shared.table_id.slots c.load.result c.load.ensures.2
 
 pub returns-clause-seat : goal.returns-clause-seat
-returns-clause-seat c = record { at = (after c).sits; one = Rattle.std.proofs.Common.ap (λ (v : Rattle.frame_model.specs.declared.view.View.View). v.share) (after c).view ∙ c.requires.seat.one; not_ground = Rattle.std.proofs.Common.ap (λ (v : Rattle.frame_model.specs.declared.view.View.View). v.is_ground) (after c).view ∙ c.requires.seat.not_ground }
+returns-clause-seat c = record {
+  at = (after c).sits;
+  one = Rattle.std.proofs.Common.ap
+      (λ (v : Rattle.frame_model.specs.declared.view.View.View). v.share) (after c).view
+      ∙ c.requires.seat.one;
+  not_ground = Rattle.std.proofs.Common.ap (λ (v : Rattle.frame_model.specs.declared.view.View.View). v.is_ground)
+      (after c).view ∙ c.requires.seat.not_ground;
+}
 
 pub returns-clause-found : goal.returns-clause-found
 returns-clause-found c = (after c).here

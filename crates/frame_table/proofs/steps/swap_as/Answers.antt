@@ -1,15 +1,12 @@
-use Rattle.std.proofs.Common.{ℕ, None, arith, ◌∙◌, ap, sym, subst}
+use Rattle.std.proofs.Common.{ℕ, None, arith, sym, subst}
 use Rattle.atomic_table.specs.Table.{Allows, step}
-use Rattle.frame_model.specs.declared.view.View.{View}
 use Rattle.frame_core.specs.Steps.{effect, next}
-use Rattle.frame_core.specs.Events.{last_seen}
-use Rattle.frame_core.specs.Moves.{ReadsBut}
-use Rattle.frame_table.specs.Rule.{Holds, IsChangedAs}
-use Rattle.frame_table.specs.Seats.{key_at, id_of, view_of, reads_of}
-use Rattle.frame_model.proofs.Stopping.Between.{effect_ground}
-use Rattle.frame_table.proofs.Effects.{effect_share, place_inside}
+use Rattle.frame_table.specs.Rule.{Holds, IsChangedAs, IsFoundIn}
+use Rattle.frame_table.specs.Seats.{key_at, id_of, view_of}
+use Rattle.frame_model.proofs.Steps.Untouched.{untouched}
+use Rattle.frame_table.proofs.Effects.{place_inside}
 use Rattle.frame_table.proofs.Lifting.{change_allows}
-use Rattle.frame_table.proofs.Becoming.{Stepped, changed}
+use Rattle.frame_table.proofs.Becoming.{Stepped, changed, stays}
 use Rattle.frame_table.proofs.steps.swap_as.Given as given
 use Rattle.frame_table.proofs.steps.swap_as.Goals as goal
 
@@ -17,34 +14,40 @@ pub swap-requires : goal.swap-requires
 swap-requires g c =
     let t = c.args.table.now in
     let seat = c.args.seat.now.seat in
-    let sits = c.requires.seat.at in
+    let sits = c.requires.may.sits.at in
     let kind = g.P.Stepping.kind in
     let slots = t.grid.shared.table_id.slots in
     let turn : ℕ → ℕ = λ old. c.args.left in
-    let inside = place_inside (key_at t) kind (view_of c.args.seat.now) c.requires.may in
-    let At : ℕ → Type 0 = λ i. Allows (Holds t.grid.shared.key) slots seat.id seat.me i turn (IsChangedAs kind (step slots i c.args.left 0 mathlib.Core.Option.none) seat.me) in (
+    let inside = place_inside (key_at t) kind (view_of c.args.seat.now) c.requires.may.may in
+    let At : ℕ → Type 0 = λ i. Allows (Holds t.grid.shared.key) slots seat.id seat.me i turn
+    (IsChangedAs kind (step slots i c.args.left 0 mathlib.Core.Option.none) seat.me) in (
       sits.table,
-      omega (arith, t.words, c.requires.word, inside),
-      subst At (sym c.requires.word)
-          (change_allows t.grid.shared.key slots seat.id seat.me sits.bare sits.about kind (omega (arith, c.requires.seat.one)) c.requires.may c.args.left turn c.requires.always (λ old h found. c.requires.left old h)),
+      omega (arith, t.words, c.requires.may.word, inside),
+      subst At (sym c.requires.may.word)
+          (change_allows t.grid.shared.key slots seat.id seat.me sits.bare sits.about kind (omega (arith, c.requires.may.sits.one))
+          c.requires.may.may c.args.left turn c.requires.always (λ old h found. c.requires.left old h)),
     )
 
 after : (g : given.Over) (c : goal.After-swap g)
-    → Stepped (id_of c.args.table.now) (key_at c.args.table.now) c.swap.new.seat.table_id c.args.seat.now.seat.me c.swap.new.seat.me c.args.word None (effect next g.P.Stepping.kind c.swap.result (view_of c.args.seat.now))
+    → Stepped (id_of c.args.table.now) (key_at c.args.table.now) c.swap.new.seat.table_id c.args.seat.now.seat.me c.swap.new.seat.me
+    c.args.word None (effect next g.P.Stepping.kind c.swap.result (view_of c.args.seat.now))
 after g c =
     let t = c.args.table.now in
     let seat = c.args.seat.now.seat in
-    changed (id_of t) (key_at t) seat.table_id c.swap.new.seat.table_id seat.me c.swap.new.seat.me c.requires.seat.at c.swap.ensures.0 c.args.word g.P.Stepping.kind t.grid.shared.table_id.slots c.args.left c.swap.result c.swap.ensures.2
+    changed (id_of t) (key_at t) seat.table_id c.swap.new.seat.table_id seat.me c.swap.new.seat.me c.requires.may.sits.at c.swap.ensures.0
+    c.args.word g.P.Stepping.kind t.grid.shared.table_id.slots c.args.left c.swap.result c.swap.ensures.2
 
-pub returns-clause-seat : goal.returns-clause-seat
-returns-clause-seat g c = record {
-  at = (after g c).sits;
-  one = ap (λ (v : View). v.share) (after g c).view ∙ (effect_share next g.P.Stepping.kind c.swap.result (view_of c.args.seat.now) ∙ c.requires.seat.one);
-  not_ground = ap (λ (v : View). v.is_ground) (after g c).view ∙ (effect_ground next g.P.Stepping.kind c.swap.result (view_of c.args.seat.now) ∙ c.requires.seat.not_ground);
-}
-
-pub returns-clause-read : goal.returns-clause-read
-returns-clause-read g c = subst (λ i. ReadsBut i (reads_of c.args.seat.now) (last_seen c.swap.new.seat.me.0.read)) c.requires.word (after g c).others
-
-pub returns-clause-apart : goal.returns-clause-apart
-returns-clause-apart g c = (after g c).apart
+pub returns : goal.returns
+returns g c =
+    let t = c.args.table.now in
+    let kind = g.P.Stepping.kind in
+    let a = after g c in
+    let found = c.swap.result in
+    let old = c.args.seat.now in record {
+      stays = stays t old c.requires.may.sits kind c.args.word c.requires.may.word c.swap.new.seat None
+          (effect next kind found (view_of old)) (untouched next kind found (view_of old)).share
+          (untouched next kind found (view_of old)).is_ground a;
+      view = a.view;
+      lawful = subst (λ i. IsFoundIn (key_at t) i found) c.requires.may.word
+          (c.swap.ensures.2.0 (key_at t) c.requires.may.sits.at.about);
+    }

@@ -27,8 +27,8 @@ invariant_of-self c =
     (drained (sealed_key m.geometry a.ranges.items) _ _ m.words.items n.words.items a.starts.items a.habits.items a.refused
     c.self.invariant refl _ _ c.drain.ensures)
 
-pub returns-then-order-le-MOST_ORDER-clause-quiet : goal.returns-then-order-le-MOST_ORDER-clause-quiet
-returns-then-order-le-MOST_ORDER-clause-quiet c =
+pub returns-then-order-le-HUGE_ORDER-clause-quiet : goal.returns-then-order-le-HUGE_ORDER-clause-quiet
+returns-then-order-le-HUGE_ORDER-clause-quiet c =
     let a = c.self.inside in
     let m = a.moves in
     let n = c.drain.new.m in
@@ -38,15 +38,15 @@ returns-then-order-le-MOST_ORDER-clause-quiet c =
     subst (λ (s : PlainState). FindsNone (memory_by s) (held_by s) (held_by (state_of n.geometry rs bytes)) c.args.order) c.self.view_is
     (subst (λ (g : Geometry). FindsNone key (held_with key bytes) (held_by (state_of g rs bytes)) c.args.order) (sym (drain_stays c))
     (remembered key _ m.words.items bytes a.habits.items a.refused c.args.order c.self.invariant c.if-order-self.true
-    c.if-order-le-MOST_ORDER.true))
+    c.if-order-le-HUGE_ORDER.true))
 
-pub returns-then-order-le-MOST_ORDER-clause-refused : goal.returns-then-order-le-MOST_ORDER-clause-refused
-returns-then-order-le-MOST_ORDER-clause-refused c =
+pub returns-then-order-le-HUGE_ORDER-clause-refused : goal.returns-then-order-le-HUGE_ORDER-clause-refused
+returns-then-order-le-HUGE_ORDER-clause-refused c =
     let a = c.self.inside in
     same_state c.drain.new.m.geometry a.moves.geometry a.ranges.items a.starts.items (drain_stays c) ∙ c.self.view_is
 
-pub returns-then-order-le-MOST_ORDER-clause-geometry : goal.returns-then-order-le-MOST_ORDER-clause-geometry
-returns-then-order-le-MOST_ORDER-clause-geometry c =
+pub returns-then-order-le-HUGE_ORDER-clause-geometry : goal.returns-then-order-le-HUGE_ORDER-clause-geometry
+returns-then-order-le-HUGE_ORDER-clause-geometry c =
     (drain_stays c ∙ ap (λ (s : PlainState). s.geometry) c.self.view_is, ap (λ (s : PlainState). s.ranges) c.self.view_is)
 
 -- A search that finds nothing.

@@ -23,7 +23,7 @@ returns-then-not-is_shown-clause-adopts c =
     (left_is_shown key (sizes_of key s.geometry is.sizes) s.left.bits.items s.left.huge.items (left_blocks s) is.shown b l) in
     record {
       ok = tt;
-      err = (inr (refl, omega (arith, c.if-order-gt-MOST_ORDER.false), λ l. c.if-not-is_shown.ensures (shown l)), refl);
+      err = (inr (refl, omega (arith, c.if-order-gt-HUGE_ORDER.false), λ l. c.if-not-is_shown.ensures (shown l)), refl);
     }
 
 pub part-requires-clause-block : goal.part-requires-clause-block
@@ -34,7 +34,7 @@ part-requires-clause-block c =
     let is = c.requires in
     let frames = c.frames.ensures.value ∙ is.sizes.2 in
     shown_is_left key (sizes_of key s.geometry is.sizes) s.left.bits.items s.left.huge.items (left_blocks s) is.shown b
-    (omega (arith, c.if-order-gt-MOST_ORDER.false))
+    (omega (arith, c.if-order-gt-HUGE_ORDER.false))
     (subst (λ n. IsShown n s.left.bits.items s.left.huge.items b) frames c.if-not-is_shown.ensures)
 
 pub returns-clause-survivors : goal.returns-clause-survivors
@@ -47,7 +47,7 @@ returns-clause-survivors c =
     let sizes = sizes_of key s.geometry is.sizes in
     let new = c.clear_block.new.left in
     let was = shown_is_left key sizes s.left.bits.items s.left.huge.items (left_blocks s) is.shown b
-    (omega (arith, c.if-order-gt-MOST_ORDER.false))
+    (omega (arith, c.if-order-gt-HUGE_ORDER.false))
     (subst (λ n. IsShown n s.left.bits.items s.left.huge.items b) frames c.if-not-is_shown.ensures) in
     let own : (ground_view c.part.new.self).own ≡ without b (left_blocks s) = ap (λ (v : View). v.own) c.part.ensures.view in
     record {
@@ -66,7 +66,7 @@ returns-clause-adopts c =
     let is = c.requires in
     let frames = c.frames.ensures.value ∙ is.sizes.2 in
     let was = shown_is_left key (sizes_of key s.geometry is.sizes) s.left.bits.items s.left.huge.items (left_blocks s) is.shown b
-    (omega (arith, c.if-order-gt-MOST_ORDER.false))
+    (omega (arith, c.if-order-gt-HUGE_ORDER.false))
     (subst (λ n. IsShown n s.left.bits.items s.left.huge.items b) frames c.if-not-is_shown.ensures) in
     record {
       ok = (

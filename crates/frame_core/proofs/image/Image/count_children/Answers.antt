@@ -17,7 +17,13 @@ loop-child-preserved c =
     let inv = c.loop-child.invariant in
     let C : Geometry → ℕ = λ g. g.children in
     let S : Geometry → ℕ = λ g. set_of (key_of g) ws child in
-    let sum : free + set_of key ws child ≡ 512 = omega (arith, c.set_frames-set.ensures.value, c.set_frames-set.ensures.limit, ap S inv.geometry) in
+    let sum : free + set_of key ws child ≡ 512 = omega (
+      arith,
+      c.set_frames-set.ensures.value,
+      c.set_frames-set.ensures.limit,
+      ap S
+          inv.geometry,
+    ) in
     let there : child < key.children = omega (arith, ap C c.geometry-geometry.ensures.value) in
     let made = child_counted key ws child free inv.image inv.counted there sum in
     let W : Contents → List ℕ = λ i. i.words in

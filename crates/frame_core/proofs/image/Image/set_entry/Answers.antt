@@ -21,13 +21,17 @@ put-requires-clause-place c =
 
 pub put-requires-clause-in_range : goal.put-requires-clause-in_range
 put-requires-clause-in_range c =
-    let written = set-with_entry (key_in c.args.self.now) c.args.self.now.words c.entry_place-place.result c.args.child c.entry.result c.word_at.result c.with_lane-word.result c.entry_place-place.ensures.value c.word_at.ensures.word c.with_lane-word.ensures.word in
+    let written = set-with_entry (key_in c.args.self.now) c.args.self.now.words c.entry_place-place.result c.args.child c.entry.result
+    c.word_at.result c.with_lane-word.result c.entry_place-place.ensures.value c.word_at.ensures.word c.with_lane-word.ensures.word in
     subst (IsImage (key_in c.args.self.now)) (sym written)
-    (IsImage-with_entry (key_in c.args.self.now) c.args.self.now.words c.word_at.ensures.in_range c.args.child c.entry.result c.requires.child c.entry.ensures.lane (omega (arith, c.entry.ensures.free, c.requires.free)) (omega (arith, c.entry.ensures.huge, flag-le c.args.huge))
+    (IsImage-with_entry (key_in c.args.self.now) c.args.self.now.words c.word_at.ensures.in_range c.args.child c.entry.result
+    c.requires.child c.entry.ensures.lane (omega (arith, c.entry.ensures.free, c.requires.free))
+    (omega (arith, c.entry.ensures.huge, flag-le c.args.huge))
     (λ p. c.entry.ensures.huge ∙ only_whole c.args.huge (c.requires.whole) p))
 
 pub returns : goal.returns
 returns c =
-    let written = set-with_entry (key_in c.args.self.now) c.args.self.now.words c.entry_place-place.result c.args.child c.entry.result c.word_at.result c.with_lane-word.result c.entry_place-place.ensures.value c.word_at.ensures.word c.with_lane-word.ensures.word in
+    let written = set-with_entry (key_in c.args.self.now) c.args.self.now.words c.entry_place-place.result c.args.child c.entry.result
+    c.word_at.result c.with_lane-word.result c.entry_place-place.ensures.value c.word_at.ensures.word c.with_lane-word.ensures.word in
     let P : List ℕ → Contents = λ ws. record c.args.self.now { words = ws } in
     c.put.ensures ∙ ap P (written ∙ ap (with_entry c.args.self.now.words c.args.child) c.entry.ensures.word)

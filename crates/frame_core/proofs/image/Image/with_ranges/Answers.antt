@@ -63,4 +63,5 @@ returns-clause-opens c =
     counted_opens key ranges ws refl image.in_range counted
     (λ x h. trees x ∙ children x
     ∙ boot_set key ranges from end first second third c.frames-frames.ensures.value
-    (last geometry c.children.result from c.children.ensures.value c.frames-frames.ensures.value) clear c.hold.ensures.set c.hold_ranges.ensures.set x h)
+    (last geometry c.children.result from c.children.ensures.value c.frames-frames.ensures.value) clear c.hold.ensures.set
+    c.hold_ranges.ensures.set x h)

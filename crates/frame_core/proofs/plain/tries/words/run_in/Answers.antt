@@ -11,17 +11,17 @@ returns-clause-fits c =
     let from = count_trailing_zeros 64 c.args.mask in
     let small : o ≤ 6 = omega (arith, c.if-order-gt-WORD_ORDER.false) in
     let s = shifted o (omega (arith, small)) in
-    run_fits o from small (omega (arith, c.if-from-ge-WORD_BITS.false)) (ap (λ k. from % k) (sym s) ∙ c.if-from-order-ne0.false)
+    run_fits o from small (omega (arith, c.if-from-ge-WORD_FRAMES.false)) (ap (λ k. from % k) (sym s) ∙ c.if-from-order-ne0.false)
 
 pub returns-then-order-gt-WORD_ORDER-clause-none : goal.returns-then-order-gt-WORD_ORDER-clause-none
 returns-then-order-gt-WORD_ORDER-clause-none c = λ none f o e small aligned fits.
     let r = run_found c.args.mask f o c.ranges.mask.fits fits e in
     omega (arith, c.if-order-gt-WORD_ORDER.true, r.1, small)
 
-pub returns-then-from-ge-WORD_BITS-clause-none : goal.returns-then-from-ge-WORD_BITS-clause-none
-returns-then-from-ge-WORD_BITS-clause-none c = λ none f o e small aligned fits.
+pub returns-then-from-ge-WORD_FRAMES-clause-none : goal.returns-then-from-ge-WORD_FRAMES-clause-none
+returns-then-from-ge-WORD_FRAMES-clause-none c = λ none f o e small aligned fits.
     let r = run_found c.args.mask f o c.ranges.mask.fits fits e in
-    omega (arith, c.if-from-ge-WORD_BITS.true, r.0, fits, pow_pos o)
+    omega (arith, c.if-from-ge-WORD_FRAMES.true, r.0, fits, pow_pos o)
 
 pub returns-then-from-order-ne0-clause-none : goal.returns-then-from-order-ne0-clause-none
 returns-then-from-order-ne0-clause-none c = λ none f o e small aligned fits.

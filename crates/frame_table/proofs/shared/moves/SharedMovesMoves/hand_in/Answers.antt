@@ -10,6 +10,7 @@ pub join_as-requires-clause-may : goal.join_as-requires-clause-may
 join_as-requires-clause-may c =
     let held = c.args.held in
     let V : Me (Unit {0}) Eye → View = λ me. me.0.view in
-    hands_in (V c.args.self.now.seat.now.seat.me) (V c.into_seat.result.me) held.seat.me.0.view.about (block held.frame held.order) c.requires.share
+    hands_in (V c.args.self.now.seat.now.seat.me) (V c.into_seat.result.me) held.seat.me.0.view.about (block held.frame held.order)
+    c.requires.share
     (ap (λ (s : Rattle.atomic_table.specs.declared.shared.Seat.Seat (Unit {0}) Eye). V s.me) c.into_seat.ensures ∙ ap V held.owns)
     c.requires.one_child

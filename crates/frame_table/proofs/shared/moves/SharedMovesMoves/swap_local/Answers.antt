@@ -9,7 +9,8 @@ returns c = let s = c.swap.ensures.finds in record {
   keeps = s.keeps;
   missed = s.missed;
   view = (c.swap.result, sym c.local_of.ensures, s.view);
-  is_rest = subst (IsRest (key_at c.args.self.now.table.now)) (sym c.local_of.ensures) (c.swap.ensures.found (Local c.args.core) c.requires.may.inside refl);
+  is_rest = subst (IsRest (key_at c.args.self.now.table.now)) (sym c.local_of.ensures)
+      (c.swap.ensures.found (Local c.args.core) c.requires.may.inside refl);
   reads = s.reads;
   words = λ none. absurd none;
   apart = s.apart;

@@ -1,0 +1,38 @@
+-- What a step on a word asks of the seat of a core, and what it makes of it.
+use Rattle.std.specs.Prelude.{◌≡◌, ◌≢◌, ℕ, Bool, false, Some, MatchBool}
+use Rattle.frame_core.specs.Steps.{Kind, place, May, effect, after_loss, next}
+use Rattle.frame_core.specs.Moves.{ReadsBut}
+use Rattle.frame_core.specs.Mover.{IsApart}
+use Rattle.frame_table.specs.Rule.{IsFoundIn}
+use Rattle.frame_table.specs.Seats.{key_at, view_of, reads_of, Sits}
+use Rattle.frame_table.specs.declared.seats.CoreSeat.{CoreSeat}
+use Rattle.frame_table.specs.declared.table.FrameTable.{FrameTable}
+
+-- the seat sits at the table, and may make the step, which is one on this word
+pub record MayStepOn (t : FrameTable) (kind : Kind) (i : ℕ) (s : CoreSeat) : Type 0 where
+  pub sits : Sits t s
+  pub may : May (key_at t) kind (view_of s)
+  pub word : i ≡ place (key_at t) kind
+
+-- the seat sits there still, what it has is apart, and it knows the other words as before
+pub record StaysBut (t : FrameTable) (kind : Kind) (old new : CoreSeat) : Type 0 where
+  pub sits : Sits t new
+  pub apart : IsApart (key_at t) (view_of new)
+  pub reads : ReadsBut (place (key_at t) kind) (reads_of old) (reads_of new)
+
+-- the exchange was made, or it was lost to another word, which is known then
+pub record ExchangesOn (t : FrameTable) (kind : Kind) (seen : ℕ) (made : Bool)
+    (old new : CoreSeat) : Type 0 where
+  pub stays : StaysBut t kind old new
+  pub view : MatchBool made
+      (view_of new ≡ effect next kind seen (view_of old))
+      (view_of new ≡ after_loss next (view_of old))
+  pub lost : made ≡ false → (found : ℕ) × ((found ≢ seen)
+      × (reads_of new (place (key_at t) kind) ≡ Some found))
+
+-- the step was made where this word was found, one that may stand there
+pub record ChangesOn (t : FrameTable) (kind : Kind) (found : ℕ) (old new : CoreSeat)
+    : Type 0 where
+  pub stays : StaysBut t kind old new
+  pub view : view_of new ≡ effect next kind found (view_of old)
+  pub lawful : IsFoundIn (key_at t) (place (key_at t) kind) found
