@@ -127,9 +127,9 @@ HoldsFrames key words blocks =
 abbrev pub key_under : List Line → Contents → Key
 key_under lines image = sealed_key image.geometry (ranges_in lines)
 
--- the answers are a run of the records from empty lists, one for each core; at the end no two blocks
--- of all lists share a frame, and the image's held frames are exactly those of the lists and those
--- that nobody is ever given, past the end and in the ranges of the records
+-- the answers are a run of the records from empty lists, one for each core; at the end no two
+-- blocks of all lists share a frame, and the image's held frames are exactly those of the lists and
+-- those that nobody is ever given, past the end and in the ranges of the records
 pub record IsAnsweredBy (refuses : Key → List FrameBlock → ℕ → Fault → Type 0) (lines : List Line)
     (answers : List Answer) (image : Contents) : Type 0 where
   pub lists : List (List LabelledBlock)

@@ -31,8 +31,8 @@ abbrev pub shown_of : Show → List Answer → Contents → List ℕ
 shown_of show.Answers answers image = outcome_answers answers image
 shown_of show.Picture answers image = picture_of (drawn image)
 
--- the bytes show an outcome that fits what the text says as a trace, whose ranges may be held back; a
--- take is refused in it only where no block of its order is free
+-- the bytes show an outcome that fits what the text says as a trace, whose ranges may be held back;
+-- a take is refused in it only where no block of its order is free
 pub record IsRunOf (geometry : Geometry) (show : Show) (text out : List ℕ) : Type 0 where
   pub lines : List Line
   pub answers : List Answer

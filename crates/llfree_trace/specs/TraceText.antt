@@ -1,7 +1,8 @@
 -- What a text says as a trace.
 use Rattle.std.specs.Prelude.{ℕ, ◌^◌, ◌≡◌, ◌==◌, ◌-◌, ◌&&◌, Bool, true, false, List, [], ◌∷◌, ◌++◌}
 use Rattle.std.specs.Prelude.{length, nat_lt, slice_get, codes, unwrap_or}
-use Rattle.std.specs.Prelude.{Option, Some, None, option_map, option_and_then, Result, Err, if◌then◌else◌}
+use Rattle.std.specs.Prelude.{Option, Some, None, option_map, option_and_then, Result, Err}
+use Rattle.std.specs.Prelude.{if◌then◌else◌}
 use Rattle.std.specs.Str.{bytes_eq}
 use Rattle.held_blocks.specs.Label.{label_of}
 use Rattle.frame_image.specs.Numbers.{number_below}

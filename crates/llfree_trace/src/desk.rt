@@ -1,6 +1,7 @@
 //! The one core of a run on one thread: an allocator, and the list of the blocks taken from it.
 
-ghost use Rattle.std.specs.Prelude.{◌≡◌, ◌≤◌, ◌<◌, ◌∷◌, ◌++◌, [], IfErr, IfOk, Contains, IsPermutation};
+ghost use Rattle.std.specs.Prelude.{◌≡◌, ◌≤◌, ◌<◌, ◌∷◌, ◌++◌, [], IfErr, IfOk};
+ghost use Rattle.std.specs.Prelude.{Contains, IsPermutation};
 ghost use Rattle.core_frames.specs.Ranges.{IsUnopenedFor, MayHoldBack};
 ghost use Rattle.llfree_trace.specs.Desk.{desk_key, IsLawful, IsSameMemory, MovesToEnd, RunsOne};
 ghost use Rattle.llfree_trace.specs.Trace.{cores_in};

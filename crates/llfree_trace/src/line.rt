@@ -24,7 +24,8 @@ pub enum Line {
     Move { core: u32, label: Label, to: u32 },
     /// The end of a round, which has no answer.
     Round,
-    /// So many frames from this one on are never given to anybody, which has no answer.
+    /// A range that is held back: from this frame on, nobody is ever given so many frames. It has no
+    /// answer.
     Reserve { frame: u32, count: u32 },
 }
 
@@ -32,7 +33,7 @@ pub enum Line {
 #[derive(Drop)]
 pub struct Trace {
     lines: Vec<Line>,
-    // What the reserve records say.
+    // The ranges of the records, in order.
     ranges: Vec<(u32, u32)>,
 }
 
