@@ -7,6 +7,6 @@ row_into tree None = 0
 row_into tree (Some (last, count)) = if nat_eq last tree then count else 0
 
 -- the record is empty, or has one give more in a row into this tree, and fewer than four
-abbrev pub Remembers : ℕ → Option (ℕ × ℕ) → Option (ℕ × ℕ) → Type 0
-Remembers tree old new =
+abbrev pub RecordsGive : ℕ → Option (ℕ × ℕ) → Option (ℕ × ℕ) → Type 0
+RecordsGive tree old new =
     (new ≡ None) ⊎ ((new ≡ Some (tree, row_into tree old + 1)) × (row_into tree old + 1 < 4))

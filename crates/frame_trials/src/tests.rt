@@ -5,4 +5,5 @@ mod random;
 mod ranges;
 mod reopening;
 mod seats;
+mod stops;
 mod sums;

@@ -201,7 +201,7 @@ fn frames_in_all(lists: &[Vec<Block>]) -> u64 {
     frames
 }
 
-fn next_core(allocator: &Allocator, cores: &mut Vec<Core>) -> Option<Core>
+pub(super) fn next_core(allocator: &Allocator, cores: &mut Vec<Core>) -> Option<Core>
     requires cores { All (IsCoreOf allocator.now) cores.old.items }
     ensures core { IfSome result (IsCoreOf allocator.now) }
     ensures left { All (IsCoreOf allocator.now) cores.new.items }
@@ -210,7 +210,11 @@ fn next_core(allocator: &Allocator, cores: &mut Vec<Core>) -> Option<Core>
     cores.pop()
 }
 
-fn bring_back(allocator: &Allocator, mut cores: Vec<Core>, core: Core) -> Result<Vec<Core>, Fault>
+pub(super) fn bring_back(
+    allocator: &Allocator,
+    mut cores: Vec<Core>,
+    core: Core,
+) -> Result<Vec<Core>, Fault>
     requires core { IsCoreOf allocator.now core }
     requires cores { All (IsCoreOf allocator.now) cores.items }
     ensures { IfOk result (λ all. All (IsCoreOf allocator.entry.now) all.items) }
