@@ -1,11 +1,12 @@
 -- What clauses see behind a handle.
-use Rattle.std.specs.Prelude.{◌≡◌, ℕ, ◌+◌, ◌-◌, ◌^◌, ◌<◌, [], ◌∷◌, Option, Some, None}
+use Rattle.std.specs.Prelude.{◌≡◌, ◌⊎◌, ℕ, ◌+◌, ◌-◌, ◌^◌, ◌<◌, [], ◌∷◌, Option, Some, None}
 use Rattle.std.specs.List.{Contains}
 use Rattle.std.specs.List.Sorted.{IsPermutation}
 use Rattle.frame_core.specs.Block.{block}
 use Rattle.frame_core.specs.QuietTake.{TakesBlock, FindsNone}
 use Rattle.core_frames.specs.PlainState.{PlainState, key_by, held_by}
 use Rattle.llfree_c.specs.declared.plain.Plain.{Plain}
+use Rattle.llfree_c.specs.Status.{no_memory, bad_geometry}
 
 -- an allocator is behind both handles, and the two are related
 abbrev pub Both : (PlainState → PlainState → Type 0) → Option Plain → Option Plain → Type 0
@@ -18,6 +19,11 @@ abbrev pub IsFresh : ℕ → Option Plain → Type 0
 IsFresh children (Some p) =
     (p.allocator.geometry.children ≡ children) × (p.allocator.out ≡ []) × (p.allocator.kept ≡ [])
 IsFresh children None = ⊥
+
+-- why a memory of so many children was not opened: there are none of that size, or memory was wanting
+abbrev pub IsUnopenedFor : ℕ → ℕ → Type 0
+IsUnopenedFor children status =
+    ((status ≡ bad_geometry) × ((children ≡ 0) ⊎ (4096 < children))) ⊎ (status ≡ no_memory)
 
 -- it is the same memory, and what was kept is as before
 pub record IsSameMemory (old new : PlainState) : Type 0 where
@@ -34,6 +40,11 @@ pub record Takes (order frame : ℕ) (old new : PlainState) : Type 0 where
 -- no block of the order was free, and nothing changed
 pub record Finds (order : ℕ) (old new : PlainState) : Type 0 where
   pub none : FindsNone (key_by old) (held_by old) (held_by new) order
+  pub same : new ≡ old
+
+-- there are no blocks of the order, and nothing changed
+pub record HasNoOrder (order : ℕ) (old new : PlainState) : Type 0 where
+  pub above : 9 < order
   pub same : new ≡ old
 
 -- exactly this block was given
@@ -57,7 +68,3 @@ pub record IsWhole (n : ℕ) (old new : PlainState) : Type 0 where
 pub record Refuses (order frame : ℕ) (old new : PlainState) : Type 0 where
   pub not_out : ¬ Contains old.out (block frame order)
   pub same : new ≡ old
-
--- nothing changed
-abbrev pub Stays : PlainState → PlainState → Type 0
-Stays old new = new ≡ old

@@ -1,8 +1,8 @@
 //! What C calls of an allocator for one thread.
 
-ghost use Rattle.std.specs.Prelude.{◌≡◌, ◌≢◌, false};
-ghost use Rattle.llfree_c.specs.Status.{ok, no_block, bad_order, not_held, closed};
-ghost use Rattle.llfree_c.specs.Seen.{Both, IsFresh, Takes, Finds, Gives, Splits, IsWhole, Refuses};
+ghost use Rattle.std.specs.Prelude.{◌≡◌, ◌≢◌, ◌⊎◌, ◌≤◌, true, false};
+ghost use Rattle.llfree_c.specs.Status.{ok, no_block, bad_order, not_held, closed, not_closed};
+ghost use Rattle.llfree_c.specs.Seen.{Both, IsFresh, IsUnopenedFor, Takes, Finds, HasNoOrder, Gives, Splits, IsWhole, Refuses};
 
 use crate::crossing::may_cross;
 use crate::handle::PlainHandle;
@@ -13,8 +13,10 @@ use std::alloc::Global;
 /// Opens an allocator of so many children, all frames free, behind a closed handle.
 #[unsafe(no_mangle)]
 pub extern "C" fn llfree_plain_open(handle: &mut PlainHandle, heap: Global, children: u32) -> u32
-    ensures open { result ≡ ok → IsFresh children handle.new.state.value }
+    ensures open { result ≡ ok → (handle.old.live ≡ false) × IsFresh children handle.new.state.value }
     ensures refused { result ≢ ok → handle.new ≡ handle.old }
+    ensures why { result ≢ ok → ((result ≡ not_closed) × (handle.old.live ≡ true))
+        ⊎ IsUnopenedFor children result }
 {
     if handle.live {
         return NOT_CLOSED;
@@ -43,8 +45,11 @@ pub extern "C" fn llfree_plain_take(
         → Both (Takes order frame.new) handle.old.state.value handle.new.state.value }
     ensures none { result ≡ no_block
         → Both (Finds order) handle.old.state.value handle.new.state.value }
+    ensures order { result ≡ bad_order
+        → Both (HasNoOrder order) handle.old.state.value handle.new.state.value }
     ensures closed { result ≡ closed → (handle.old.live ≡ false) × (handle.new ≡ handle.old) }
     ensures refused { result ≢ ok → frame.new ≡ frame.old }
+    ensures known { (result ≤ bad_order) ⊎ (result ≡ closed) }
 {
     let Some(mut state) = handle.take_out(heap) else {
         return CLOSED;
@@ -65,8 +70,9 @@ pub extern "C" fn llfree_plain_give(
     ensures given { result ≡ ok
         → Both (Gives order frame) handle.old.state.value handle.new.state.value }
     ensures closed { result ≡ closed → (handle.old.live ≡ false) × (handle.new ≡ handle.old) }
-    ensures refused { result ≢ ok → result ≢ closed
+    ensures refused { result ≡ not_held
         → Both (Refuses order frame) handle.old.state.value handle.new.state.value }
+    ensures known { (result ≡ ok) ⊎ (result ≡ not_held) ⊎ (result ≡ closed) }
 {
     let Some(mut state) = handle.take_out(heap) else {
         return CLOSED;
@@ -91,6 +97,7 @@ pub extern "C" fn llfree_plain_split(
     ensures closed { result ≡ closed → (handle.old.live ≡ false) × (handle.new ≡ handle.old) }
     ensures refused { result ≡ not_held
         → Both (Refuses order frame) handle.old.state.value handle.new.state.value }
+    ensures known { (result ≡ ok) ⊎ (result ≡ bad_order) ⊎ (result ≡ not_held) ⊎ (result ≡ closed) }
 {
     let Some(mut state) = handle.take_out(heap) else {
         return CLOSED;
