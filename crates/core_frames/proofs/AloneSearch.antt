@@ -14,11 +14,12 @@ use Rattle.frame_core.specs.Key.{tree_count}
 use Rattle.frame_core.specs.Block.{IsBlock}
 use Rattle.frame_core.specs.Words.{tree_place, local_place, word_count, tree_word_of, tree_free_of, reserved_of, rest_of, AreInRange}
 use Rattle.frame_core.specs.Steps.{Kind, place, reserve, unreserve, swap_local}
-use Rattle.frame_core.specs.Moves.{words_after, Changes, Exchanges}
+use Rattle.frame_core.specs.Moves.{Changes, Exchanges}
 use Rattle.frame_core.specs.View.{IsIdle}
 use Rattle.frame_model.proofs.Words.{tree-lt-local}
 use Rattle.frame_model.proofs.Steps.Shared.{free_is, flag_is, tree_free_is, reserved_is, rest_of_is}
-use Rattle.low_frames.specs.Alone.{Turns, FindsOf, HasTaken, HasNoneOfTree}
+use Rattle.frame_model.specs.Steps.{words_after}
+use Rattle.low_frames.specs.Alone.{Turns, FindsOf, WordsTake, HasNoneOfTree}
 use Rattle.low_frames.proofs.AloneLemmas.{if_known, at_known, IsFirstTry, IsSeen, exchange_made, made_first, then_found}
 use Rattle.low_frames.proofs.RoomLemmas.{FitsAlone, range_alone}
 use Rattle.core_frames.specs.Search.{IsBlockOf}
@@ -323,9 +324,9 @@ kept_pass key P old one two a f = keeps_then key old one two a (keeps_found key 
 
 -- a block that a pass took
 pub kept_taken : (key mid : Key) (order : ℕ) (b : FrameBlock) (old one two : Option (List ℕ)) → mid ≡ key → IsBlockOf mid order b
-    → KeepsFrames key old one → HasTaken mid one two b → HasTaken key old two b
+    → KeepsFrames key old one → WordsTake mid one two b → WordsTake key old two b
 kept_taken key mid order b old one two k is a h =
-    keeps_then_taken key old one two b (subst (λ i. IsBlock i b) k is.is_block) a (subst (λ i. HasTaken i one two b) k h)
+    keeps_then_taken key old one two b (subst (λ i. IsBlock i b) k is.is_block) a (subst (λ i. WordsTake i one two b) k h)
 
 pub drained_keeps : (key now : Key) (old new : Option (List ℕ)) → now ≡ key → Turns (IsDrained now) old new → KeepsFrames key old new
 drained_keeps key now old new k a = turns_as (IsDrained key) (SameFrames key) old new (λ ws us d. d.frames) (subst (λ i. Turns (IsDrained i) old new) k a)

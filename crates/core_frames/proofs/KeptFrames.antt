@@ -9,9 +9,10 @@ use Rattle.frame_core.specs.Block.{IsBlock, covers}
 use Rattle.frame_core.specs.Words.{entry_place, tree_place, local_place, bits_place, entry_of, huge_of, bit_word_of, bit_of}
 use Rattle.frame_core.specs.Report.{held_at}
 use Rattle.frame_core.specs.Steps.{Kind, place}
-use Rattle.frame_core.specs.Moves.{words_after, Changes, Exchanges}
+use Rattle.frame_core.specs.Moves.{Changes, Exchanges}
 use Rattle.frame_model.proofs.Words.{entry-lt-tree, entry-lt-local, tree-lt-bits, local-lt-bits, child-has-lane}
-use Rattle.low_frames.specs.Alone.{Turns, FindsOf, HoldsMore, HasTaken, HasGiven}
+use Rattle.frame_model.specs.Steps.{words_after}
+use Rattle.low_frames.specs.Alone.{Turns, FindsOf, HoldsMore, WordsTake, WordsGive}
 use Rattle.low_frames.proofs.AloneLemmas.{at_known}
 use Rattle.low_frames.proofs.RoomLemmas.{covered_from}
 use Rattle.core_frames.specs.Alone.{SameFrames, KeepsFrames}
@@ -164,13 +165,13 @@ more_before key ws us vs b is h same = record {
 }
 
 pub keeps_then_taken : (key : Key) (old mid new : Option (List ℕ)) (b : FrameBlock) → IsBlock key b → KeepsFrames key old mid
-    → HasTaken key mid new b → HasTaken key old new b
+    → WordsTake key mid new b → WordsTake key old new b
 keeps_then_taken key old mid new b is a h =
     turns_then (SameFrames key) (λ ws us. HoldsMore key ws us b) (λ ws us. HoldsMore key ws us b) old mid new
     (λ ws us vs. more_after key ws us vs b is) a h
 
-pub taken_then_keeps : (key : Key) (old mid new : Option (List ℕ)) (b : FrameBlock) → IsBlock key b → HasTaken key old mid b
-    → KeepsFrames key mid new → HasTaken key old new b
+pub taken_then_keeps : (key : Key) (old mid new : Option (List ℕ)) (b : FrameBlock) → IsBlock key b → WordsTake key old mid b
+    → KeepsFrames key mid new → WordsTake key old new b
 taken_then_keeps key old mid new b is h a =
     turns_then (λ ws us. HoldsMore key ws us b) (SameFrames key) (λ ws us. HoldsMore key ws us b) old mid new
     (λ ws us vs. more_before key ws us vs b is) h a
@@ -183,8 +184,8 @@ less_before key ws us vs b is h same = record {
   flags = λ c q. omega (arith, h.flags c q, same.flags c q);
 }
 
-pub given_then_keeps : (key : Key) (old mid new : Option (List ℕ)) (b : FrameBlock) → IsBlock key b → HasGiven key old mid b
-    → KeepsFrames key mid new → HasGiven key old new b
+pub given_then_keeps : (key : Key) (old mid new : Option (List ℕ)) (b : FrameBlock) → IsBlock key b → WordsGive key old mid b
+    → KeepsFrames key mid new → WordsGive key old new b
 given_then_keeps key old mid new b is h a =
     turns_then (λ ws us. HoldsMore key us ws b) (SameFrames key) (λ ws us. HoldsMore key us ws b) old mid new
     (λ ws us vs. less_before key ws us vs b is) h a

@@ -14,3 +14,4 @@ pub mod SplitAlone
 pub mod RangeLemmas
 mod CoreLemmas
 mod LeftLemmas
+mod DeskLemmas

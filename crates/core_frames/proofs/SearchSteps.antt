@@ -15,9 +15,9 @@ use Rattle.frame_core.specs.Steps.{Kind, place, swap_local}
 use Rattle.frame_core.specs.Moves.{place_of, Changes}
 use Rattle.frame_core.specs.Mover.{Mover, Keeps, Clears, Ticks, Loads, Tries, Makes, Swaps}
 use Rattle.low_frames.specs.Takes.{Counts, IsAsBefore}
-use Rattle.low_frames.specs.Alone.{FindsOf, HasTaken, HasNone}
+use Rattle.low_frames.specs.Alone.{FindsOf, WordsTake, NoneIsFree}
 use Rattle.low_frames.specs.Gives.{Gives}
-use Rattle.low_frames.specs.Outcomes.{TakesOut, FindsNone, MayTakeOf, HasNoBootFrame}
+use Rattle.low_frames.specs.Outcomes.{TakesOut, TakesNothing, MayTakeOf, HasNoBootFrame}
 use Rattle.low_frames.proofs.TakeLemmas.{counts_none, counts_one, load_then, try_then, make_then, then_counts, wider, keeps_none, keeps_both, others_both, still_as_before}
 use Rattle.core_frames.specs.Alone.{SameFrames, KeepsFrames, IsPassedBy, IsDrained}
 use Rattle.core_frames.specs.Search.{IsBlockOf, HasLentOne, HasReserved}
@@ -145,13 +145,13 @@ module _ {T H : Type 0} {t : ℕ → ℕ} {exact : ℕ → Type 0} (ticks : Tick
   pub missed_frames : {a b : Mover T H} (n : ℕ) → Brings exact n IsAsBefore (SameFrames a.key) a b → Misses exact 0 n (KeepsFrames a.key) a b
   missed_frames {a} {b} n f = record { view = f.view; made = made_none n f.counts; alone = f.alone }
 
-  pub none_brings : {a b : Mover T H} {In : FrameBlock → Type 0} (n : ℕ) → Keeps a b → Counts exact n a b → FindsNone In a b
+  pub none_brings : {a b : Mover T H} {In : FrameBlock → Type 0} (n : ℕ) → Keeps a b → Counts exact n a b → TakesNothing In a b
       → Brings exact n IsAsBefore (SameFrames a.key) a b
   none_brings {a} {b} {In} n keeps counts none = record {
     keeps = keeps;
     counts = counts;
     view = none.view;
-    alone = λ alone. keeps_found a.key (HasNone a.key In) a.words b.words (none.alone alone);
+    alone = λ alone. keeps_found a.key (NoneIsFree a.key In) a.words b.words (none.alone alone);
   }
 
 -- What is asked where frames of a tree are paid.
@@ -191,7 +191,7 @@ out_after {T} {H} {block_of} {In} {U} {held} {a} {b} {c} V order keeps kept same
       no_boot_frame = subst (λ k. HasNoBootFrame k (block_of held)) keeps.same_key out.no_boot_frame;
       alone = λ alone.
           keeps_then_taken a.key a.words b.words c.words (block_of held) one.is_block (same alone)
-          (subst (λ k. HasTaken k b.words c.words (block_of held)) keeps.same_key (out.alone (keeps.stays_alone alone)));
+          (subst (λ k. WordsTake k b.words c.words (block_of held)) keeps.same_key (out.alone (keeps.stays_alone alone)));
     }
 
 -- and steps that left them so came after

@@ -21,7 +21,7 @@ use Rattle.frame_core.specs.View.{names, marks, small_in, spent, ground_with, bo
 use Rattle.frame_core.specs.Fit.{Fit}
 use Rattle.frame_core.specs.Report.{held_at}
 use Rattle.frame_core.specs.Steps.{fill_word}
-use Rattle.frame_core.specs.Moves.{Changes, words_after, drop_whole, IsAtRest}
+use Rattle.frame_core.specs.Moves.{Changes, drop_whole, IsAtRest}
 use Rattle.frame_model.proofs.Blocks.{not_whole, whole_here, whole_else, halves, halves_here, halves_else}
 use Rattle.frame_model.proofs.Amounts.{names_none}
 use Rattle.frame_model.proofs.Keeps.{total_is}
@@ -29,6 +29,7 @@ use Rattle.frame_model.proofs.Steps.Joining.{idle_unfilled}
 use Rattle.frame_model.proofs.Lanes.{lane_taken}
 use Rattle.frame_model.proofs.Words.{BitsWritten, bits_written, EntryWritten, entry_written, child-has-lane}
 use Rattle.frame_model.proofs.Steps.Shared.{bit-le, as_bits, as_entry, entry_of_is, huge_of_is, flag_is, bit_filled}
+use Rattle.frame_model.specs.Steps.{words_after}
 use Rattle.low_frames.proofs.AloneLemmas.{at_known}
 use Rattle.low_frames.proofs.RoomLemmas.{FitsAlone, range_alone}
 use Rattle.low_frames.proofs.FlightLemmas.{whole_entry}

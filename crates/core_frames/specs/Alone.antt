@@ -1,11 +1,11 @@
 -- What takes and gives over all trees find and leave where nobody else steps.
 use Rattle.std.specs.Prelude.{◌≡◌, ◌≢◌, ◌⊎◌, ℕ, ◌^◌, ◌<◌, ◌≤◌, List, Option, None}
 use Rattle.frame_model.specs.declared.key.Key.{Key}
+use Rattle.frame_model.specs.Steps.{words_after}
 use Rattle.frame_core.specs.Key.{frame_count}
 use Rattle.frame_core.specs.Words.{tree_word_of, tree_free_of, reserved_of, rest_of, bit_of, huge_of}
-use Rattle.frame_core.specs.Moves.{words_after}
 use Rattle.frame_core.specs.Steps.{reserve}
-use Rattle.low_frames.specs.Alone.{Turns, HasNone, HasNoneOfTree}
+use Rattle.low_frames.specs.Alone.{Turns, NoneIsFree, HasNoneOfTree}
 use Rattle.core_frames.specs.Search.{IsBlockOf}
 
 -- each frame is held or free as before, by its bit and by the flag of its child
@@ -57,7 +57,7 @@ pub record IsDrained (key : Key) (old new : List ℕ) : Type 0 where
 
 -- no block of the order is free
 abbrev pub HasNoneOf : Key → ℕ → List ℕ → Type 0
-HasNoneOf key order words = HasNone key (IsBlockOf key order) words
+HasNoneOf key order words = NoneIsFree key (IsBlockOf key order) words
 
 -- each frame is held or free as before, and no block of the order is free
 pub record FindsNoBlock (key : Key) (order : ℕ) (old new : List ℕ) : Type 0 where

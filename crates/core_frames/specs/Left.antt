@@ -14,14 +14,14 @@ use Rattle.core_frames.specs.Cores.{memory_of, IsOutOf}
 use Rattle.core_frames.specs.LeftFrames.{Shows}
 
 -- the blocks that were held before the opening, without what was adopted since
-abbrev pub left_by : Survivors → List FrameBlock
-left_by s = (ground_view s.seat).own
+abbrev pub left_blocks : Survivors → List FrameBlock
+left_blocks s = (ground_view s.seat).own
 
 -- they were held before the opening of this allocator
 pub record IsSurvivorsOf (a : Allocator) (s : Survivors) : Type 0 where
   pub seat : IsGround a.table s.seat
   pub sizes : HasSizes (memory_of a) s.geometry
-  pub shown : Shows (memory_of a) s.left.bits.items s.left.huge.items (left_by s)
+  pub shown : Shows (memory_of a) s.left.bits.items s.left.huge.items (left_blocks s)
 
 -- the block was left, and is out now
 pub record IsAdopted (a : Allocator) (b : FrameBlock) (held : Block) (left : List FrameBlock)

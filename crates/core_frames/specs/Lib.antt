@@ -8,5 +8,7 @@ pub mod Splits
 pub mod Ranges
 pub mod Cores
 pub mod Uses
+pub mod Desks
 pub mod LeftFrames
+pub mod Habits
 pub mod Left

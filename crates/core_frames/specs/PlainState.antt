@@ -19,13 +19,13 @@ pub record PlainState : Type 0 where
   pub kept : List FrameBlock
 
 -- the key of the allocator's memory
-abbrev pub key_by : PlainState → Key
-key_by state = sealed_key state.geometry state.ranges
+abbrev pub memory_by : PlainState → Key
+memory_by state = sealed_key state.geometry state.ranges
 
 -- the blocks that are held: those that are out, those that were kept, and the frames that nobody is
 -- ever given, past the end and in the ranges
 abbrev pub held_by : PlainState → List FrameBlock
-held_by state = (state.out ++ state.kept) ++ boot_blocks (key_by state)
+held_by state = (state.out ++ state.kept) ++ boot_blocks (memory_by state)
 
 -- the words hold exactly the frames of these blocks: those of order 9 by the flag of their child,
 -- the others by the bits of their frames

@@ -10,7 +10,7 @@ use Rattle.frame_core.specs.Words.{local_place, IsRest}
 use Rattle.frame_core.specs.View.{counted, IsIdle}
 use Rattle.frame_core.specs.Mover.{Mover, Keeps, KeepsOthers}
 use Rattle.low_frames.specs.Takes.{Counts, IsAsBefore}
-use Rattle.low_frames.specs.Alone.{Turns, HasGiven}
+use Rattle.low_frames.specs.Alone.{Turns, WordsGive}
 use Rattle.low_frames.specs.Outcomes.{TakesOut}
 use Rattle.low_frames.specs.Parts.{Gets}
 use Rattle.core_frames.specs.Search.{HasReservedSome, HasLentOne, IsBlockOf, Reserves, most_moves}
@@ -174,4 +174,4 @@ pub record GivesBy {T H : Type 0} (block_of : H → FrameBlock) (exact : ℕ →
   pub keeps : KeepsOthers block_of (block_of given) old new
   pub counts : Counts exact most old new
   pub back : V old.view new.view
-  pub alone_given : old.is_alone → HasGiven old.key old.words new.words (block_of given)
+  pub alone_given : old.is_alone → WordsGive old.key old.words new.words (block_of given)

@@ -1,8 +1,10 @@
 //! Gives over any moves, with a reserved tree for each core.
 
 ghost use Rattle.std.specs.Prelude.{◌≡◌, ◌+◌, ◌≤◌};
+ghost use Rattle.frame_core.specs.Key.{tree_of as tree_of_frame};
 ghost use Rattle.low_frames.specs.Takes.{IsAsBefore};
 ghost use Rattle.core_frames.specs.Alone.{SameFrames};
+ghost use Rattle.core_frames.specs.Habits.{Remembers};
 ghost use Rattle.core_frames.specs.Search.{HasTakenOne};
 ghost use Rattle.core_frames.specs.Searches.{MayVisitFor, MayGiveBack, Brings, GivesBy};
 
@@ -20,6 +22,8 @@ pub fn give_by<M: Moves>(m: &mut M, habit: &mut Habit, held: M::Held)
     ensures gives { GivesBy M.Held.block_of M.is_exact 32 HasTakenOne held (M.at m.old) (M.at m.new) }
     ensures moves { (M.at m.new).view.moves ≤ (M.at m.old).view.moves + 32 }
     ensures habit { habit.new.core ≡ habit.old.core }
+    ensures record { Remembers (tree_of_frame (M.Held.block_of held).frame)
+        habit.old.gives habit.new.gives }
 {
     let (tree, n) = (tree_of(held.frame()), frames_of(held.order()));
     give_low(m, held);

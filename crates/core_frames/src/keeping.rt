@@ -2,12 +2,14 @@
 
 ghost use Rattle.std.specs.Prelude.{◌≡◌, Contains};
 ghost use Rattle.frame_core.specs.Block.{block as block_at};
+ghost use Rattle.frame_core.specs.Holding.{IsHolding};
 ghost use Rattle.frame_table.specs.Keeping.{HasKept, HasRecalled};
 ghost use Rattle.frame_table.specs.Seats.{block_in};
-ghost use Rattle.core_frames.specs.Cores.{view_in, kept_by, IsCoreOf, StaysCoreOf, IsOutOf};
+ghost use Rattle.core_frames.specs.Cores.{memory_of, view_in, kept_by, lent_by, IsOutOf};
+ghost use Rattle.core_frames.specs.Cores.{IsCoreOf, StaysCoreOf};
 
 use crate::allocator::{Allocator, Core};
-use frame_core::HeldBlock;
+use frame_core::{HeldBlock, Moves, Place};
 use frame_table::{Block, SharedMoves};
 
 impl Allocator {
@@ -35,5 +37,17 @@ impl Allocator {
     {
         let mut m = SharedMoves::new(&self.table, &mut core.seat);
         m.recall(frame, order)
+    }
+
+    /// One load, after which the blocks that the core keeps are known to be apart.
+    pub(crate) fn look(&self, core: &mut Core)
+        requires { IsCoreOf self.now core.old }
+        ensures core { StaysCoreOf self.now core.old core.new }
+        ensures kept { kept_by core.new ≡ kept_by core.old }
+        ensures lent { lent_by core.new ≡ lent_by core.old }
+        ensures apart { IsHolding (memory_of self.now) (kept_by core.new) }
+    {
+        let mut m = SharedMoves::new(&self.table, &mut core.seat);
+        m.load(Place::Local(core.habit.core));
     }
 }

@@ -4,6 +4,7 @@
 mod allocator;
 mod attempts;
 mod closing;
+mod desk;
 mod drain;
 mod gives;
 mod habit;
@@ -26,6 +27,7 @@ mod using;
 
 pub use allocator::{Allocator, Core};
 pub use closing::CloseFault;
+pub use desk::Desk;
 pub use gives::give_by;
 pub use habit::Habit;
 pub use held_blocks::{Label, LabelledBlock, LabelledBlocks};

@@ -3,7 +3,7 @@
 ghost use Rattle.std.specs.Prelude.{◌≡◌, ◌≤◌, IfOk, IfErr, vec_len, map};
 ghost use Rattle.frame_core.specs.Key.{key_of, sealed_key};
 ghost use Rattle.core_frames.specs.Cores.{seat_of, AreNumbered, IsOpened};
-ghost use Rattle.core_frames.specs.Ranges.{IsUnopenedFor};
+ghost use Rattle.core_frames.specs.Ranges.{IsUnopenedFor, MayHoldBack};
 
 use crate::allocator::{Allocator, Core};
 use crate::habit::Habit;
@@ -31,6 +31,7 @@ impl Allocator {
         ranges: &[(u32, u32)],
     ) -> Result<(Allocator, Vec<Core>), Fault>
         ensures opened { IfOk result (λ r. IsOpened (sealed_key geometry ranges.now) r.0 r.1.items) }
+        ensures lawful { IfOk result (λ r. MayHoldBack geometry ranges.now) }
         ensures refused { IfErr result (IsUnopenedFor geometry ranges.now) }
     {
         if !may_hold_back(&geometry, ranges) {

@@ -16,7 +16,7 @@ ghost use Rattle.frame_core.specs.Stops.{unsealed};
 ghost use Rattle.core_frames.specs.PlainAgree.{AreOfCores};
 ghost use Rattle.core_frames.specs.Ranges.{MayHoldBack, IsUnopenedFor};
 ghost use Rattle.core_frames.specs.Splits.{AreHalves};
-ghost use Rattle.core_frames.specs.PlainState.{key_by, held_by, HoldsExactly};
+ghost use Rattle.core_frames.specs.PlainState.{memory_by, held_by, HoldsExactly};
 
 mod starts;
 
@@ -115,13 +115,13 @@ impl PlainAllocator {
     /// Takes a block for the core, which has to be one of the geometry's. No memory is needed.
     pub fn take(&mut self, core: u32, order: u8) -> Result<PlainBlock, TakeFault>
         requires { core < self.old.geometry.cores }
-        ensures quiet { QuietTake (key_by self.old) (held_by self.old) (held_by self.new) order
+        ensures quiet { QuietTake (memory_by self.old) (held_by self.old) (held_by self.new) order
             result }
         ensures out { IfOk result (λ b. IsPermutation (b ∷ self.old.out) self.new.out) }
         ensures kept { self.new.kept ≡ self.old.kept }
         ensures refused { OnErr result (self.new ≡ self.old) }
         ensures geometry { (self.new.geometry ≡ self.old.geometry) × (self.new.ranges ≡ self.old.ranges) }
-        ensures lawful { OnOk result (IsHolding (key_by self.new) (held_by self.new)) }
+        ensures lawful { OnOk result (IsHolding (memory_by self.new) (held_by self.new)) }
     {
         if order >= self.refused && order <= MOST_ORDER {
             drain(&mut self.moves);
@@ -207,7 +207,7 @@ impl PlainAllocator {
         ensures whole { IfErr result (λ same. (same ≡ block) × (block.order ≡ 0)) }
         ensures unchanged { OnErr result (self.new ≡ self.old) }
         ensures geometry { (self.new.geometry ≡ self.old.geometry) × (self.new.ranges ≡ self.old.ranges) }
-        ensures lawful { OnOk result (IsHolding (key_by self.new) (held_by self.new)) }
+        ensures lawful { OnOk result (IsHolding (memory_by self.new) (held_by self.new)) }
     {
         let (lower, upper) = match split_by(&mut self.moves, block) {
             Ok(halves) => halves,
@@ -223,8 +223,8 @@ impl PlainAllocator {
     /// rests there still.
     pub fn close(self, alloc: Global) -> Result<Image, PlainAllocator>
         ensures geometry { IfOk result (λ i. i.geometry ≡ self.geometry) }
-        ensures exact { IfOk result (λ i. HoldsExactly (key_by self) i.words (held_by self)) }
-        ensures counters { IfOk result (λ i. AddsUp (key_by self) i.words) }
+        ensures exact { IfOk result (λ i. HoldsExactly (memory_by self) i.words (held_by self)) }
+        ensures counters { IfOk result (λ i. AddsUp (memory_by self) i.words) }
         ensures unchanged { IfErr result (λ back. back ≡ self) }
     {
         match self.moves.image(alloc) {

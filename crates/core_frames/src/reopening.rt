@@ -5,7 +5,7 @@ ghost use Rattle.frame_core.specs.Rebuilt.{IsRebuilt};
 ghost use Rattle.frame_core.specs.Openings.{held_blocks};
 ghost use Rattle.frame_table.specs.Openings.{unsealed_key};
 ghost use Rattle.core_frames.specs.Cores.{IsOpened};
-ghost use Rattle.core_frames.specs.Left.{left_by, IsSurvivorsOf};
+ghost use Rattle.core_frames.specs.Left.{left_blocks, IsSurvivorsOf};
 
 use crate::allocator::{Allocator, Core};
 use crate::left_frames::left_of;
@@ -22,7 +22,7 @@ impl Allocator {
     pub fn open_at(alloc: Global, image: &Image) -> Result<(Allocator, Vec<Core>, Survivors), Fault>
         requires { IsRebuilt (unsealed_key image.now.geometry) image.now.words image.now.words }
         ensures opened { IfOk result (λ r. IsOpened (unsealed_key image.now.geometry) r.0 r.1.items) }
-        ensures survivors { IfOk result (λ r. IsSurvivorsOf r.0 r.2 × (left_by r.2
+        ensures survivors { IfOk result (λ r. IsSurvivorsOf r.0 r.2 × (left_blocks r.2
             ≡ held_blocks (unsealed_key image.now.geometry) image.now.words)) }
         ensures err { IfErr result (λ e. e ≡ Fault.NoMemory) }
     {

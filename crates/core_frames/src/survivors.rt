@@ -1,7 +1,7 @@
 //! What was held before an opening, and may be handed out once.
 
 ghost use Rattle.frame_core.specs.Block.{block};
-ghost use Rattle.core_frames.specs.Left.{left_by, IsSurvivorsOf, Adopts};
+ghost use Rattle.core_frames.specs.Left.{left_blocks, IsSurvivorsOf, Adopts};
 
 use crate::allocator::Allocator;
 use crate::left_frames::{LeftFrames, clear_block, is_shown};
@@ -26,7 +26,7 @@ impl Survivors {
         requires { IsSurvivorsOf allocator.now self.old }
         ensures survivors { IsSurvivorsOf allocator.now self.new }
         ensures adopts { Adopts allocator.now (block frame order) result
-            (left_by self.old) (left_by self.new) }
+            (left_blocks self.old) (left_blocks self.new) }
     {
         if order > MOST_ORDER {
             return Err(Fault::BadOrder);

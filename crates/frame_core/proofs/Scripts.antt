@@ -23,7 +23,7 @@ use Rattle.frame_model.specs.Fit.{Fit}
 use Rattle.frame_core.specs.Plain.{plain_tick, plain_mover, IsIdleParty, IsOutIn, Agrees}
 use Rattle.frame_core.specs.PlainState.{key_by, words_by, view_by, IsStill}
 use Rattle.frame_core.specs.Script.{IsPast, IsNotAt, NoneAt, LosesAt, HasCue, StopsAt}
-use Rattle.frame_core.specs.ScriptState.{at_by, read_by, scripted, script_mover, IsOver, IsQuiet, IsUntold, IsReady, IsLost, IsFound}
+use Rattle.frame_core.specs.ScriptState.{at_by, read_by, scripted, script_mover, IsOver, IsQuiet, IsUntold, IsReady, IsLost, FindsWord}
 use Rattle.frame_core.specs.ScriptLaws.{over_is_quiet}
 use Rattle.frame_core.proofs.PlainSteps.{apart_known, got}
 
@@ -132,7 +132,7 @@ pub record IsWith (p : PlainMoves) (r w : ScriptMoves) : Type 0 where
   pub missed : w.missed ≡ r.missed
   pub read : w.read ≡ r.read
 
-module _ (m r w n : ScriptMoves) (p : PlainMoves) (kind : Kind) (q : ℕ) (ready : IsReady m r) (with : IsWith p r w) (found : IsFound q w n)
+module _ (m r w n : ScriptMoves) (p : PlainMoves) (kind : Kind) (q : ℕ) (ready : IsReady m r) (with : IsWith p r w) (found : FindsWord q w n)
     (here : q ≡ place (key_by p) kind) (ticks : (v : View) → (after plain_tick kind v).moves ≡ plain_tick v.moves) where
   now : n.plain ≡ p
   now = found.plain ∙ with.plain
@@ -188,7 +188,7 @@ module _ (m r w n : ScriptMoves) (p : PlainMoves) (kind : Kind) (q : ℕ) (ready
 -- A local word was put in the place of another.
 module _ (m r w n : ScriptMoves) (p : PlainMoves) (core : ℕ) (put answer : Option (ℕ × ℕ)) (q : ℕ) (ready : IsReady m r)
     (with : IsWith p r w)
-    (found : IsFound q w n) (here : q ≡ place (key_by p) (swap_local core put)) where
+    (found : FindsWord q w n) (here : q ≡ place (key_by p) (swap_local core put)) where
   pub swapped_by : Swaps plain_tick core put answer (at_plain r.plain) (at_plain p)
       → Swaps plain_tick core put answer (script_mover m) (script_mover n)
   swapped_by is = let now : n.plain ≡ p = found.plain ∙ with.plain in record {
@@ -215,7 +215,7 @@ module _ (m r w n : ScriptMoves) (p : PlainMoves) (core : ℕ) (put answer : Opt
 
 -- A word was loaded.
 module _ (m r w n : ScriptMoves) (p : PlainMoves) (word : Place) (answer result q : ℕ) (ready : IsReady m r) (with : IsWith p r w)
-    (found : IsFound q w n) (here_p : q ≡ place_of (key_by p) word) (reads_as : read_by n q ≡ Some result)
+    (found : FindsWord q w n) (here_p : q ≡ place_of (key_by p) word) (reads_as : read_by n q ≡ Some result)
     (value : slice_index (words_by p) q ≡ result) where
   pub loaded_by : Loads plain_tick word answer (at_plain r.plain) (at_plain p)
       → Loads plain_tick word result (script_mover m) (script_mover n)

@@ -11,7 +11,7 @@ use Rattle.frame_model.specs.Key.{tree_count}
 use Rattle.frame_model.specs.Block.{block}
 use Rattle.frame_model.specs.Words.{run, entry_place, tree_place, local_place, bits_place, IsRest}
 use Rattle.frame_model.specs.View.{IsIdle}
-use Rattle.frame_model.specs.Steps.{Kind, release, give_huge, drop_flag, place, turned, effect}
+use Rattle.frame_model.specs.Steps.{Kind, release, give_huge, drop_flag, place, turned, effect, words_after}
 use Rattle.frame_model.specs.Seats.{Cut, hand_out}
 use Rattle.frame_model.specs.Without.{without}
 
@@ -75,11 +75,6 @@ OfSomeRun mask P = (from : ℕ) × ((order : ℕ) × ((mask ≡ run from (2 ^ or
 -- this holds of the run with these bits
 abbrev pub OfRun : ℕ → (ℕ → ℕ → Type 0) → Type 0
 OfRun mask P = (from order : ℕ) → mask ≡ run from (2 ^ order) → P from order
-
--- all words after a step
-abbrev pub words_after : Key → Kind → List ℕ → List ℕ
-words_after key kind words =
-    slice_set words (place key kind) (turned kind (slice_index words (place key kind)))
 
 -- where nobody steps in between, the words after a step are these
 abbrev pub Changes : Key → Kind → Option (List ℕ) → Option (List ℕ) → Type 0

@@ -59,8 +59,8 @@ abbrev pub HasNoShare : View → Type 0
 HasNoShare u = u.share ≡ 0
 
 -- the party has room for a word of each child that it may fill
-abbrev pub HasRoom : ℕ → Party → Type 0
-HasRoom children p = 8 * children < deque_capacity p.filled
+abbrev pub HasRoomToFill : ℕ → Party → Type 0
+HasRoomToFill children p = 8 * children < deque_capacity p.filled
 
 -- the party has nothing in flight
 pub record IsIdleParty (p : Party) : Type 0 where

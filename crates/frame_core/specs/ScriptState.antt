@@ -90,13 +90,13 @@ StrangerMay who act m = (who < 8) × TheyMayAct who act m
 
 -- a cue is counted exactly where it was not made: a loss at a move that is no exchange, and an act
 -- that its conditions do not allow
-abbrev pub Counts : What → Bool → ScriptMoves → ScriptMoves → Type 0
-Counts Lose is_exchange old new =
+abbrev pub CountsCue : What → Bool → ScriptMoves → ScriptMoves → Type 0
+CountsCue Lose is_exchange old new =
     MatchBool is_exchange (new.skipped ≡ old.skipped) (new.skipped ≡ one_skipped old.skipped)
-Counts (Stranger who act) is_exchange old new =
+CountsCue (Stranger who act) is_exchange old new =
     ((new.skipped ≡ old.skipped) × StrangerMay who act old.plain)
     ⊎ ((new.skipped ≡ one_skipped old.skipped) × (StrangerMay who act old.plain → ⊥))
-Counts Stop is_exchange old new = new.skipped ≡ old.skipped
+CountsCue Stop is_exchange old new = new.skipped ≡ old.skipped
 
 -- all cues of the next move were made, and the caller's part is as before
 pub record IsReady (old new : ScriptMoves) : Type 0 where
@@ -120,7 +120,7 @@ pub record IsLost (place seen : ℕ) (old new : ScriptMoves) : Type 0 where
       → (slice_index (words_by old.plain) place ≢ seen) × IsQuiet old.plain new.plain
 
 -- the caller's own step was made, and it found the word of that place
-pub record IsFound (place : ℕ) (old new : ScriptMoves) : Type 0 where
+pub record FindsWord (place : ℕ) (old new : ScriptMoves) : Type 0 where
   pub plain : new.plain ≡ old.plain
   pub cues : new.cues ≡ old.cues
   pub begun : new.begun ≡ old.begun

@@ -23,7 +23,7 @@ ghost use Rattle.frame_core.specs.Apart.{AreApart};
 ghost use Rattle.frame_core.specs.Plain.{
   plain_key,
   plain_view,
-  HasRoom,
+  HasRoomToFill,
   Agrees,
   FitsIdle,
   FitsReopened,
@@ -67,7 +67,7 @@ pub struct PlainMoves {
     pub ghost agrees: { ∥ Agrees (plain_key geometry sealed) them words.items outs.items
         (plain_view (plain_key geometry sealed) share outs.items paid charged reserving own.items
         filled.items moves lost) ∥₁ },
-    pub ghost their_room: { All (HasRoom geometry.children) them.parties.items },
+    pub ghost their_room: { All (HasRoomToFill geometry.children) them.parties.items },
     pub ghost their_frames: { 0 < vec_len them.parties
         → vec_len them.outs ≡ frame_count (plain_key geometry sealed) },
     pub ghost length: { vec_len words ≡ word_count (plain_key geometry true) },

@@ -3,7 +3,7 @@
 ghost use Rattle.std.specs.Prelude.{◌≡◌, IfOk, IfErr};
 ghost use Rattle.frame_table.specs.Openings.{unsealed_key};
 ghost use Rattle.core_frames.specs.Cores.{IsOpened};
-ghost use Rattle.core_frames.specs.Left.{left_by, IsSurvivorsOf};
+ghost use Rattle.core_frames.specs.Left.{left_blocks, IsSurvivorsOf};
 ghost use Rattle.frame_image.specs.Reopening.{AreHeldOnceRebuilt};
 
 use crate::recovery::rebuild;
@@ -17,7 +17,7 @@ use std::alloc::Global;
 pub fn reopen(alloc: Global, image: &Image) -> Result<(Allocator, Vec<Core>, Survivors), Fault>
     ensures opened { IfOk result (λ r. IsOpened (unsealed_key image.now.geometry) r.0 r.1.items) }
     ensures survivors { IfOk result (λ r. IsSurvivorsOf r.0 r.2) }
-    ensures left { IfOk result (λ r. AreHeldOnceRebuilt image.now (left_by r.2)) }
+    ensures left { IfOk result (λ r. AreHeldOnceRebuilt image.now (left_blocks r.2)) }
     ensures err { IfErr result (λ e. e ≡ Fault.NoMemory) }
 {
     let rebuilt = rebuild(alloc, image)?;

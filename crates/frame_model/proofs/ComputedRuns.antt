@@ -6,7 +6,7 @@ use Rattle.frame_model.specs.Words.{word_count}
 use Rattle.frame_model.specs.View.{spent}
 use Rattle.frame_model.specs.Steps.{place, turned, seen_by, IsMade, effect, after_load, next}
 use Rattle.frame_model.specs.Seats.{left_by, right_by, joined_by, MayCut, MayJoin}
-use Rattle.frame_model.specs.Events.{State, eye, sighting, Event, loads, makes, loses, loses_at_will, cuts, joins, loser, Has, MayTry, IsExchange, Happens, LeadsTo}
+use Rattle.frame_model.specs.Events.{State, eye, sighting, Event, loads, makes, loses, loses_at_will, cuts, joins, loser, Has, MayStep, IsExchange, Happens, LeadsTo}
 
 -- what a seat has, and has read
 abbrev pub seat : State → ℕ → Eye
@@ -42,11 +42,11 @@ leads key s (joins id other join) = record {
 -- what an event asks for
 abbrev pub Allowed : Key → State → Event → Type 0
 Allowed key s (loads id word) = Has s id (seat s id) × ((seat s id).view.about ≡ Some key) × (word < word_count key)
-Allowed key s (makes id kind) = Has s id (seat s id) × MayTry key (seat s id) kind × IsMade kind (get_or s.words (place key kind) 0)
+Allowed key s (makes id kind) = Has s id (seat s id) × MayStep key (seat s id) kind × IsMade kind (get_or s.words (place key kind) 0)
 Allowed key s (loses id kind) =
-    Has s id (seat s id) × MayTry key (seat s id) kind × IsExchange kind
+    Has s id (seat s id) × MayStep key (seat s id) kind × IsExchange kind
     × (seen_by kind ≢ Some (get_or s.words (place key kind) 0))
-Allowed key s (loses_at_will id kind) = Has s id (seat s id) × MayTry key (seat s id) kind × IsExchange kind
+Allowed key s (loses_at_will id kind) = Has s id (seat s id) × MayStep key (seat s id) kind × IsExchange kind
 Allowed key s (cuts id cut) = Has s id (seat s id) × MayCut key cut (seat s id).view
 Allowed key s (joins id other join) =
     Has s id (seat s id) × (other ≢ id) × Has s other (seat s other) × MayJoin join (seat s id).view (seat s other).view

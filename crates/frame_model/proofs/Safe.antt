@@ -14,7 +14,7 @@ use Rattle.frame_model.specs.Block.{IsBlock, covers, small_at, whole_at, smalls,
 use Rattle.frame_model.specs.View.{small_in, whole_in, ground_small_in, spent, ground_with, boot_blocks, fixed_ground, IsViewOf}
 use Rattle.frame_model.specs.Fit.{all_views, total, Fit}
 use Rattle.frame_model.specs.Holding.{holders}
-use Rattle.frame_model.specs.Laws.{blocks_of, holding_of, seats_of, IsSafe, EveryFitIsSafe}
+use Rattle.frame_model.specs.Laws.{blocks_with, holding_of, seats_of, IsSafe, EveryFitIsSafe}
 use Rattle.frame_model.proofs.Blocks.{smalls_none, wholes_none, smalls_cons, wholes_cons, smalls_both, wholes_both, not_small, not_whole}
 use Rattle.frame_model.proofs.Chosen.{frames_are_blocks}
 use Rattle.frame_model.proofs.Words.{held_is}
@@ -57,35 +57,35 @@ holders_are key x (b ∷ bs) all =
       holders_are key x bs (All-tail (IsBlock key) b bs all),
     )
 
-pub blocks_smalls : (x : ℕ) (vs : List View) → smalls x (blocks_of vs) ≡ sum_by (small_in x) vs
-unfolding blocks_of
+pub blocks_smalls : (x : ℕ) (vs : List View) → smalls x (blocks_with vs) ≡ sum_by (small_in x) vs
+unfolding blocks_with
 blocks_smalls x [] = smalls_none x
 blocks_smalls x (v ∷ vs) = omega (
   arith,
   sum_by-cons (small_in x) v vs,
-  smalls_both x v.own (v.kept ++ blocks_of vs),
-  smalls_both x v.kept (blocks_of vs),
+  smalls_both x v.own (v.kept ++ blocks_with vs),
+  smalls_both x v.kept (blocks_with vs),
   blocks_smalls x vs,
 )
 
-pub blocks_wholes : (c : ℕ) (vs : List View) → wholes c (blocks_of vs) ≡ sum_by (whole_in c) vs
-unfolding blocks_of
+pub blocks_wholes : (c : ℕ) (vs : List View) → wholes c (blocks_with vs) ≡ sum_by (whole_in c) vs
+unfolding blocks_with
 blocks_wholes c [] = wholes_none c
 blocks_wholes c (v ∷ vs) = omega (
   arith,
   sum_by-cons (whole_in c) v vs,
-  wholes_both c v.own (v.kept ++ blocks_of vs),
-  wholes_both c v.kept (blocks_of vs),
+  wholes_both c v.own (v.kept ++ blocks_with vs),
+  wholes_both c v.kept (blocks_with vs),
   blocks_wholes c vs,
 )
 
-pub are_blocks : (key : Key) (vs : List View) → All (IsViewOf key) vs → All (IsBlock key) (blocks_of vs)
-unfolding blocks_of
+pub are_blocks : (key : Key) (vs : List View) → All (IsViewOf key) vs → All (IsBlock key) (blocks_with vs)
+unfolding blocks_with
 are_blocks key [] all = λ k d h. absurd (omega arith)
 are_blocks key (v ∷ vs) all =
     let i : IsViewOf key v = All-head (IsViewOf key) v vs all in
-    All-append (IsBlock key) v.own (v.kept ++ blocks_of vs) i.own
-    (All-append (IsBlock key) v.kept (blocks_of vs) i.kept (are_blocks key vs (All-tail (IsViewOf key) v vs all)))
+    All-append (IsBlock key) v.own (v.kept ++ blocks_with vs) i.own
+    (All-append (IsBlock key) v.kept (blocks_with vs) i.kept (are_blocks key vs (All-tail (IsViewOf key) v vs all)))
 
 pub boot_are_blocks : (key : Key) → All (IsBlock key) (boot_blocks key)
 unfolding boot_blocks
@@ -181,16 +181,16 @@ seats_are key (v ∷ vs) all = by v.is_ground refl (seats_are key vs (All-tail (
         (All-cons (IsViewOf key) v (seats_of vs) (All-head (IsViewOf key) v vs all) others)
 
 module _ (key : Key) (shares : ℕ) (ws : List ℕ) (vs : List View) (fit : Fit key shares ws vs) where
-  seats_blocks : All (IsBlock key) (blocks_of (seats_of vs))
+  seats_blocks : All (IsBlock key) (blocks_with (seats_of vs))
   seats_blocks = are_blocks key (seats_of vs) (seats_are key vs fit.each)
 
   -- who is not the ground has no frame past the end
-  pub inside : (x : ℕ) → key.frames ≤ x → holders x (blocks_of (seats_of vs)) ≡ 0
+  pub inside : (x : ℕ) → key.frames ≤ x → holders x (blocks_with (seats_of vs)) ≡ 0
   inside x p =
       ⊎_elim
       (λ h. omega (
         arith,
-        holders_are key x (blocks_of (seats_of vs)) seats_blocks,
+        holders_are key x (blocks_with (seats_of vs)) seats_blocks,
         blocks_smalls x (seats_of vs),
         blocks_wholes (child_of x) (seats_of vs),
         seats_smalls x vs,
@@ -204,7 +204,7 @@ module _ (key : Key) (shares : ℕ) (ws : List ℕ) (vs : List View) (fit : Fit 
         total_is key (whole_in (child_of x)) vs,
         ground-le x (fixed_ground key),
       ))
-      (λ h. none_outside key x (blocks_of (seats_of vs)) seats_blocks h)
+      (λ h. none_outside key x (blocks_with (seats_of vs)) seats_blocks h)
       (cases_lt x (frame_count key))
 
   pub holding_blocks : All (IsBlock key) (holding_of key vs)

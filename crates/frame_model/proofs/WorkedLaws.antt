@@ -12,7 +12,7 @@ use Rattle.frame_model.specs.Holding.{holders}
 use Rattle.frame_model.specs.Rebuilt.{IsRebuilt}
 use Rattle.frame_model.specs.Events.{views_of, last_seen, State, Event, cuts, LeadsTo, Fits, EveryRunFits}
 use Rattle.frame_model.specs.Laws.{EveryFitIsSafe, EveryClosingAddsUp, EveryClosingHoldsTheKept, AddsUp, Happening}
-use Rattle.frame_model.specs.Laws.{blocks_of, Form, charging, refunding, claiming, releasing, taking_huge, giving_huge}
+use Rattle.frame_model.specs.Laws.{blocks_with, Form, charging, refunding, claiming, releasing, taking_huge, giving_huge}
 use Rattle.frame_model.specs.Laws.{paying_tree, refunding_tree, reserving_tree, swapping_local, unreserving_tree}
 use Rattle.frame_model.specs.Laws.{paying_local, refunding_local, collecting, filling_word, dropping_flag}
 use Rattle.frame_model.specs.Laws.{parting_share, handing_out, recalling, parting_ground, adopting, joining_idle}
@@ -234,7 +234,7 @@ unfolding known_of range_blocks is_boot_frame is_in_range
 block_known = refl
 
 lost_none : lost_frames (stop_at (reached one_child before handed_out) two_claimed) ≡ 0
-unfolding is_lost known_of flying_of range_blocks is_boot_frame is_in_range holders covers blocks_of fixed_ground
+unfolding is_lost known_of flying_of range_blocks is_boot_frame is_in_range holders covers blocks_with fixed_ground
     boot_blocks set_blocks huge_blocks bit_of huge_of entry_of bit_word_of entry_place bits_place tree_place
     local_place word_count free_in flag_in lane_in lane_put lane_shift entry_word count_in counted more less last_seen
 lost_none = refl

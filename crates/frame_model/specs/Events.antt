@@ -41,7 +41,7 @@ HasRead read place None = Unit {0}
 HasRead read place (Some seen) = last_seen read place ≡ Some seen
 
 -- the step may be tried: the view has a share and what the kind asks, and has read what it has seen
-pub record MayTry (key : Key) (e : Eye) (kind : Kind) : Type 0 where
+pub record MayStep (key : Key) (e : Eye) (kind : Kind) : Type 0 where
   pub share : 0 < e.view.share
   pub may : May key kind e.view
   pub read : HasRead e.read (place key kind) (seen_by kind)
@@ -83,7 +83,7 @@ Happens key s (loads id word) t = (e : Eye) × Has s id e × (e.view.about ≡ S
       eyes = slice_set s.eyes id
           (eye (after_load next e.view) (sighting word (Some (slice_index s.words word)) ∷ e.read));
     })
-Happens key s (makes id kind) t = (e : Eye) × Has s id e × MayTry key e kind
+Happens key s (makes id kind) t = (e : Eye) × Has s id e × MayStep key e kind
     × IsMade kind (slice_index s.words (place key kind))
     × (t ≡ record {
       words = slice_set s.words (place key kind)
@@ -92,13 +92,13 @@ Happens key s (makes id kind) t = (e : Eye) × Has s id e × MayTry key e kind
           (eye (effect next kind (slice_index s.words (place key kind)) e.view)
           (sighting (place key kind) None ∷ e.read));
     })
-Happens key s (loses id kind) t = (e : Eye) × Has s id e × MayTry key e kind
+Happens key s (loses id kind) t = (e : Eye) × Has s id e × MayStep key e kind
     × IsExchange kind × (seen_by kind ≢ Some (slice_index s.words (place key kind)))
     × (t ≡ record {
       words = s.words;
       eyes = slice_set s.eyes id (loser key e kind (slice_index s.words (place key kind)));
     })
-Happens key s (loses_at_will id kind) t = (e : Eye) × Has s id e × MayTry key e kind
+Happens key s (loses_at_will id kind) t = (e : Eye) × Has s id e × MayStep key e kind
     × IsExchange kind
     × (t ≡ record {
       words = s.words;

@@ -17,13 +17,13 @@ use Rattle.frame_model.specs.Events.{State, Has, Fits, Event, loads, makes, lose
 use Rattle.frame_model.specs.Openings.{held_blocks, IsReopening, reopener, opened}
 
 -- the blocks that these views hold, in flight or kept
-unfoldable pub blocks_of : List View → List FrameBlock
-blocks_of [] = []
-blocks_of (v ∷ vs) = v.own ++ (v.kept ++ blocks_of vs)
+unfoldable pub blocks_with : List View → List FrameBlock
+blocks_with [] = []
+blocks_with (v ∷ vs) = v.own ++ (v.kept ++ blocks_with vs)
 
 -- all that is held
 abbrev pub holding_of : Key → List View → List FrameBlock
-holding_of key views = blocks_of (all_views key views)
+holding_of key views = blocks_with (all_views key views)
 
 -- the views that are not the ground
 abbrev pub seats_of : List View → List View
@@ -33,7 +33,7 @@ seats_of views = filter (λ v. not v.is_ground) views
 -- counter promises more than is free
 pub record IsSafe (key : Key) (words : List ℕ) (views : List View) : Type 0 where
   pub held : IsHolding key (holding_of key views)
-  pub inside : (x : ℕ) → key.frames ≤ x → holders x (blocks_of (seats_of views)) ≡ 0
+  pub inside : (x : ℕ) → key.frames ≤ x → holders x (blocks_with (seats_of views)) ≡ 0
   pub entries : (c : ℕ) → c < key.children → free_of words c + set_of key words c ≤ 512
   pub huge : (c : ℕ) → c < key.children → 0 < huge_of words c → free_of words c ≡ 0
   pub trees : (t : ℕ) → t < tree_count key

@@ -1,5 +1,5 @@
 -- The kinds of step as data: the word that each changes, and what becomes of it and of the view.
-use Rattle.std.specs.Prelude.{◌≡◌, ℕ, pos, ◌+◌, ◌-◌, ◌*◌, ◌/◌, ◌%◌, ◌^◌, ◌<◌, ◌≤◌, bit_and, bit_or, List, [], ◌∷◌, Option, Some, None}
+use Rattle.std.specs.Prelude.{◌≡◌, ℕ, pos, ◌+◌, ◌-◌, ◌*◌, ◌/◌, ◌%◌, ◌^◌, ◌<◌, ◌≤◌, bit_and, bit_or, List, [], ◌∷◌, Option, Some, None, slice_index, slice_set}
 use Rattle.std.specs.Int.{bit_not, w64}
 use Rattle.frame_words.specs.Words.{entry_word, free_in, flag_in, lane_in, lane_put, lane_shift, rest_in, local_word}
 use Rattle.frame_model.specs.declared.block.FrameBlock.{FrameBlock}
@@ -103,6 +103,11 @@ turned (local_refund core seen n) found = local_word (rest_more n (rest_in seen)
 turned (collect tree seen) found = entry_word 0 (flag_in seen)
 turned (fill_word word) found = bit_or found (2 ^ 64 - 1)
 turned (drop_flag child rest) found = (found + (2 ^ 64 - 32768 * lane_shift child)) % 2 ^ 64
+
+-- all words after the step
+abbrev pub words_after : Key → Kind → List ℕ → List ℕ
+words_after key kind words =
+    slice_set words (place key kind) (turned kind (slice_index words (place key kind)))
 
 -- what the step asks of the view, beside a share
 abbrev pub May : Key → Kind → View → Type 0

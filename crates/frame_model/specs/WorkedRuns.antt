@@ -37,7 +37,7 @@ abbrev pub at_first : State
 at_first = opened all_free (idle one_child 2)
 
 -- these events may happen, the block is then the new seat's, and the child shows so many free and so many set frames
-pub record HandsOut (events : List Event) (seat : ℕ) (b : FrameBlock) (free_frames set_frames : ℕ) : Type 0 where
+pub record RunHandsOut (events : List Event) (seat : ℕ) (b : FrameBlock) (free_frames set_frames : ℕ) : Type 0 where
   pub end : State
   pub run : LeadsTo one_child at_first events end
   pub answer : Has end seat (eye (holder (Some one_child) b) [])
@@ -64,8 +64,8 @@ abbrev pub held_again : List ℕ → View
 held_again words = ground_with (unsealed one_child) (held_blocks (unsealed one_child) words)
 
 -- the block may then be adopted
-abbrev pub IsAdopted : List ℕ → FrameBlock → Type 0
-IsAdopted words b = MayCut (unsealed one_child) (adopt b (without b)) (held_again words)
+abbrev pub MayBeAdopted : List ℕ → FrameBlock → Type 0
+MayBeAdopted words b = MayCut (unsealed one_child) (adopt b (without b)) (held_again words)
 
 -- the block may not be adopted, whatever were to stay
 abbrev pub IsNotHeld : List ℕ → FrameBlock → Type 0
@@ -104,7 +104,7 @@ wide_take_that_loses = cuts 0 (part_share 1)
 
 -- 383 frames are free: 512 without the 128 of the block and the one of seat 1. 129 are set.
 abbrev pub WideTakeThatLoses : Type 0
-WideTakeThatLoses = HandsOut wide_take_that_loses 2 (block 128 7) 383 129
+WideTakeThatLoses = RunHandsOut wide_take_that_loses 2 (block 128 7) 383 129
 
 -- The first group of four words is lost at its last word, where seat 1 claims frame 192:
 -- seat 0 gives words 0 to 2 back and takes words 4 to 7.
@@ -124,7 +124,7 @@ wider_take_that_loses = cuts 0 (part_share 1)
 
 -- 255 frames are free: 512 without the 256 of the block and the one of seat 1. 257 are set.
 abbrev pub WiderTakeThatLoses : Type 0
-WiderTakeThatLoses = HandsOut wider_take_that_loses 2 (block 256 8) 255 257
+WiderTakeThatLoses = RunHandsOut wider_take_that_loses 2 (block 256 8) 255 257
 
 -- A wide take of words 0 and 1 that is stopped: after its charge, after its first claim, and after its second.
 -- Rebuilding gives back what is not set, so 0, 64 and 128 frames are lost: nobody knows of them.
@@ -160,7 +160,7 @@ one_claimed = words_of_one 448 448 0 full_word 0 0 0 0 0 0 0
 -- of the block that was to be handed out only the claimed word is held
 abbrev pub StopAfterOneClaim : Type 0
 StopAfterOneClaim = StopsAfter claimed_one 384 64 one_claimed 64
-    × IsNotHeld one_claimed (block 0 7) × IsAdopted one_claimed (block 0 6)
+    × IsNotHeld one_claimed (block 0 7) × MayBeAdopted one_claimed (block 0 6)
 
 -- stopped before it is handed out the whole block is held
 abbrev pub StopAfterTwoClaims : Type 0
@@ -213,16 +213,16 @@ all_set =
 
 -- stopped with four words filled the child is a huge frame still, and rebuilding clears its bits
 abbrev pub StopWithHalfFilled : Type 0
-StopWithHalfFilled = StopsAfter fills_half 0 256 still_huge 512 × IsAdopted still_huge (block 0 9)
+StopWithHalfFilled = StopsAfter fills_half 0 256 still_huge 512 × MayBeAdopted still_huge (block 0 9)
 
 -- stopped with the flag dropped all of its bits stay set, and its halves are held
 abbrev pub StopWithTheFlagDropped : Type 0
 StopWithTheFlagDropped = StopsAfter fills_all 0 512 all_set 512
-    × IsNotHeld all_set (block 0 9) × IsAdopted all_set (block 0 8) × IsAdopted all_set (block 256 8)
+    × IsNotHeld all_set (block 0 9) × MayBeAdopted all_set (block 0 8) × MayBeAdopted all_set (block 256 8)
 
 -- not stopped it ends with two blocks
 abbrev pub SplitOfAHugeFrame : Type 0
-SplitOfAHugeFrame = HandsOut splits_huge 2 (block 0 8) 0 512 × HandsOut splits_huge 3 (block 256 8) 0 512
+SplitOfAHugeFrame = RunHandsOut splits_huge 2 (block 0 8) 0 512 × RunHandsOut splits_huge 3 (block 256 8) 0 512
 
 -- where they all begin is an opening
 abbrev pub OpensAllFree : Type 0

@@ -9,7 +9,7 @@ use Rattle.frame_model.specs.Words.{bit_of, set_of, free_of, huge_of, held_of, h
 use Rattle.frame_model.specs.Holding.{holders}
 use Rattle.frame_model.specs.Rebuilt.{IsRebuilt}
 use Rattle.frame_model.specs.Events.{views_of}
-use Rattle.frame_model.specs.Laws.{blocks_of, holding_of, seats_of, IsSafe, AddsUp, HoldsJust, Form, form_of, AreOfEveryForm}
+use Rattle.frame_model.specs.Laws.{blocks_with, holding_of, seats_of, IsSafe, AddsUp, HoldsJust, Form, form_of, AreOfEveryForm}
 use Rattle.frame_model.specs.Events.{Event}
 use Rattle.frame_model.specs.Stops.{Moment, known_at, is_lost, lost_frames, IsExact, Survives}
 
@@ -28,7 +28,7 @@ BlockIsOutside = (key : Key) (words : List ℕ) (views : List View)
 -- a seat has a frame past the end
 abbrev pub SeatIsPastTheEnd : Type 0
 SeatIsPastTheEnd = (key : Key) (words : List ℕ) (views : List View) (x : ℕ)
-    → key.frames ≤ x → 0 < holders x (blocks_of (seats_of views)) → ¬ IsSafe key words views
+    → key.frames ≤ x → 0 < holders x (blocks_with (seats_of views)) → ¬ IsSafe key words views
 
 -- an entry promises more frames than are clear
 abbrev pub EntryPromisesTooMuch : Type 0

@@ -11,18 +11,13 @@ use Rattle.frame_model.specs.Block.{block, IsBlock}
 use Rattle.frame_model.specs.Words.{run, bit_word_of, huge_of, free_of}
 use Rattle.frame_model.specs.View.{names, charged_in, idle}
 use Rattle.frame_model.specs.Fit.{Fit}
-use Rattle.frame_model.specs.Steps.{Kind, place, turned, effect, next, Rest, claim, refund, take_huge, reserve, unreserve, drop_flag}
+use Rattle.frame_model.specs.Steps.{Kind, place, turned, effect, next, Rest, claim, refund, take_huge, reserve, unreserve, drop_flag, words_after}
 use Rattle.frame_model.specs.Steps.Amounts.{Leaves, IsRun}
 use Rattle.frame_model.specs.Steps.Conditions.{CanClaim, CanRefund, CanTakeHuge, CanUnreserve, CanDropFlag}
 use Rattle.frame_model.specs.Seats.{hand_out, left_by, right_by, MayCut}
 use Rattle.frame_model.specs.Events.{State, views_of, Event, LeadsTo}
 use Rattle.frame_model.specs.Openings.{IsSealedOpening, opened}
 use Rattle.frame_model.specs.Without.{HasFrames}
-
--- the words after the one atomic operation of a kind
-abbrev pub words_after : Key → Kind → List ℕ → List ℕ
-words_after key kind words =
-    slice_set words (place key kind) (turned kind (slice_index words (place key kind)))
 
 -- the view after it: of these kinds none looks at the word found, for which 0 stands here
 abbrev pub view_after : Kind → View → View

@@ -20,7 +20,7 @@ use Rattle.frame_model.proofs.Blocks.{smalls_none, wholes_none, smalls_both, who
 use Rattle.frame_model.proofs.Steps.Shared.{at-le-total}
 use Rattle.frame_table.specs.declared.rule.Origin.{Origin}
 use Rattle.frame_table.specs.declared.seats.CoreSeat.{CoreSeat}
-use Rattle.frame_table.specs.Rule.{key_from, view_in, Holds}
+use Rattle.frame_table.specs.Rule.{key_from, eye_view, Holds}
 use Rattle.frame_table.specs.Seats.{view_of}
 use Rattle.frame_table.specs.Closing.{lent_through, kept_through, IsGathered, IsClosed}
 
@@ -150,8 +150,8 @@ pub closed_as : (o : Origin) (id : ℕ) (e : Eye) (words : List ℕ) (slots : Li
 closed_as o id e words slots seats final g enough =
     let key : Key = key_from o in
     let s = final.0 in
-    let vs : List View = map view_in s.views in
-    let at : get_elem? vs id ≡ some e.view = at_map view_in s.views id e final.1.1 in
+    let vs : List View = map eye_view s.views in
+    let at : get_elem? vs id ≡ some e.view = at_map eye_view s.views id e final.1.1 in
     let fit : Fit key key.cores s.words vs = final.1.0 in
     record {
       state = record { words = s.words; eyes = s.views };

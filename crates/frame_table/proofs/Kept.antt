@@ -23,7 +23,7 @@ use Rattle.frame_model.proofs.Steps.SeatViews.{blocks_are}
 use Rattle.atomic_table.proofs.Lists.{at_map}
 use Rattle.frame_table.specs.declared.seats.CoreSeat.{CoreSeat}
 use Rattle.frame_table.specs.declared.table.FrameTable.{FrameTable}
-use Rattle.frame_table.specs.Rule.{view_in}
+use Rattle.frame_table.specs.Rule.{eye_view}
 use Rattle.frame_table.specs.Seats.{key_at, view_of, IsIdleSeat}
 use Rattle.frame_table.specs.Closing.{kept_through, IsClosed, IsHeldIn}
 
@@ -70,7 +70,7 @@ module _ (key : Key) (seats : List CoreSeat) (ws : List ℕ) (closed : IsClosed 
   kept_held all k d h x c =
       let vs : List View = views_of closed.state in
       let v : View = closed.eye.view in
-      let at : get_elem? vs closed.id ≡ some v = at_map view_in closed.state.eyes closed.id closed.eye closed.at in
+      let at : get_elem? vs closed.id ≡ some v = at_map eye_view closed.state.eyes closed.id closed.eye closed.at in
       let fit : Fit key key.cores ws vs = subst (λ us. Fit key key.cores us vs) closed.words closed.fits in
       let b : FrameBlock = get_or (kept_through seats) k d in
       let is : IsBlock key b = all k d h in

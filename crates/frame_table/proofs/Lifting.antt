@@ -24,7 +24,7 @@ use Rattle.frame_core.specs.Events.{eye, sighting}
 use Rattle.frame_model.proofs.Steps.Seats.{look_keeps}
 use Rattle.frame_model.proofs.Steps.Every.{kind_keeps, seat_cut_keeps, seat_join_keeps}
 use Rattle.frame_table.specs.declared.rule.Origin.{Origin}
-use Rattle.frame_table.specs.Rule.{key_from, view_in, Holds, IsFoundFor, MayFind, IsOfOneMemory, Becomes, Looks, IsExchangedAs, IsChangedAs, left_eye, right_eye, both_eyes, nobody}
+use Rattle.frame_table.specs.Rule.{key_from, eye_view, Holds, IsFoundFor, MayFind, IsOfOneMemory, Becomes, Looks, IsExchangedAs, IsChangedAs, left_eye, right_eye, both_eyes, nobody}
 use Rattle.frame_table.proofs.Laid.{found_in}
 
 -- a seat that holds no slot
@@ -45,31 +45,31 @@ module _ (o : Origin) (slots id : ℕ) (e : Eye) (about : e.view.about ≡ Some 
   FitsAt ws vs = Fit key key.cores ws vs
 
   module _ (s : State (Unit {0}) Eye) (holds : Holds o s) (at : get_elem? s.views id ≡ some e) where
-    there : get_elem? (map view_in s.views) id ≡ some e.view
-    there = at_map view_in s.views id e at
+    there : get_elem? (map eye_view s.views) id ≡ some e.view
+    there = at_map eye_view s.views id e at
 
     -- the table after a step on one word
-    turned_to : (i n : ℕ) (w : Eye) → FitsAt (set s.words i n) (set (map view_in s.views) id w.view) → Holds o (stepped s i n id [] w keeps)
-    turned_to i n w fit = subst (FitsAt (set s.words i n)) (sym (map-set view_in s.views id w)) fit
+    turned_to : (i n : ℕ) (w : Eye) → FitsAt (set s.words i n) (set (map eye_view s.views) id w.view) → Holds o (stepped s i n id [] w keeps)
+    turned_to i n w fit = subst (FitsAt (set s.words i n)) (sym (map-set eye_view s.views id w)) fit
 
     -- and the view of the seat then
-    turned_is : (ws : List ℕ) (w : View) → FitsAt ws (set (map view_in s.views) id w) → IsOfOneMemory e.view w
+    turned_is : (ws : List ℕ) (w : View) → FitsAt ws (set (map eye_view s.views) id w) → IsOfOneMemory e.view w
     turned_is ws w fit k named =
-        let vs : List View = map view_in s.views in
+        let vs : List View = map eye_view s.views in
         let here = at_once vs id e.view w there in
         let is : IsViewOf key w = view_of key key.cores ws (set vs id w) id w fit here in
         let apart : IsApart key w = apart_of key key.cores ws (set vs id w) id w fit here in
         subst (λ (j : Key). IsViewOf j w × IsApart j w) (cc) (is, apart)
 
     -- the fit after a load or a lost exchange
-    looked_fit : (m l : ℕ) → FitsAt s.words (set (map view_in s.views) id (record e.view { moves = m; lost = l }))
-    looked_fit m l = look_keeps key key.cores s.words (map view_in s.views) id e.view holds there m l about
+    looked_fit : (m l : ℕ) → FitsAt s.words (set (map eye_view s.views) id (record e.view { moves = m; lost = l }))
+    looked_fit m l = look_keeps key key.cores s.words (map eye_view s.views) id e.view holds there m l about
 
     looked_at : (i m l : ℕ) (read : List Sighting) → Holds o (stepped s i (get_or s.words i 0) id [] (eye (record e.view { moves = m; lost = l }) read) keeps)
     looked_at i m l read =
         let v : View = record e.view { moves = m; lost = l } in
         turned_to i (get_or s.words i 0) (eye v read)
-        (subst (λ ws. FitsAt ws (set (map view_in s.views) id v)) (sym (set-get_or s.words i 0)) (looked_fit m l))
+        (subst (λ ws. FitsAt ws (set (map eye_view s.views) id v)) (sym (set-get_or s.words i 0)) (looked_fit m l))
 
     looked_is : (m l : ℕ) → IsOfOneMemory e.view (record e.view { moves = m; lost = l })
     looked_is m l = turned_is s.words (record e.view { moves = m; lost = l }) (looked_fit m l)
@@ -78,8 +78,8 @@ module _ (o : Origin) (slots id : ℕ) (e : Eye) (about : e.view.about ≡ Some 
     finds i k named = subst (λ (j : Key). Rattle.frame_table.specs.Rule.IsFoundIn j i (get_or s.words i 0)) (cc) (found_in key s.words i holds.words_in_range)
 
     made_by : (kind : Kind) → 0 < e.view.share → May key kind e.view → IsMade kind (get_or s.words (place key kind) 0)
-        → FitsAt (set s.words (place key kind) (turned kind (get_or s.words (place key kind) 0))) (set (map view_in s.views) id (effect next kind (get_or s.words (place key kind) 0) e.view))
-    made_by kind share may made = kind_keeps next key key.cores s.words (map view_in s.views) id e.view holds there kind share may made
+        → FitsAt (set s.words (place key kind) (turned kind (get_or s.words (place key kind) 0))) (set (map eye_view s.views) id (effect next kind (get_or s.words (place key kind) 0) e.view))
+    made_by kind share may made = kind_keeps next key key.cores s.words (map eye_view s.views) id e.view holds there kind share may made
 
   look_bare : (i : ℕ) → Allows (Holds o) slots id (e, []) i (λ n. n) (Looks (step slots i 0 0 none) (e, []))
   look_bare i s holds homes at fits =
@@ -105,10 +105,10 @@ module _ (o : Origin) (slots id : ℕ) (e : Eye) (about : e.view.about ≡ Some 
           let found : ℕ = get_or s.words i 0 in
           let same : found ≡ old = exact_unsigned_eq found old won in
           let w : Eye = eye (effect next kind old e.view) (sighting i None ∷ e.read) in
-          let P : ℕ → Type 0 = λ n. FitsAt (set s.words i (turned kind n)) (set (map view_in s.views) id (effect next kind n e.view)) in
+          let P : ℕ → Type 0 = λ n. FitsAt (set s.words i (turned kind n)) (set (map eye_view s.views) id (effect next kind n e.view)) in
           let made : IsMade kind found = subst (λ o. IsFoundBy o found) (sym seen) same in
           let fit : P old = subst P same (made_by s holds at kind share may made) in
-          let Q : ℕ → Type 0 = λ n. FitsAt (set s.words i n) (set (map view_in s.views) id w.view) in
+          let Q : ℕ → Type 0 = λ n. FitsAt (set s.words i n) (set (map eye_view s.views) id w.view) in
           let is_view = turned_is s holds at (set s.words i new) w.view (subst Q is fit) in
           (w, keeps, tt, turned_to s holds at i new w (subst Q is fit), (finds s holds at i, (refl, refl, is_view)))
       chosen s holds at false lost =
@@ -128,25 +128,25 @@ module _ (o : Origin) (slots id : ℕ) (e : Eye) (about : e.view.about ≡ Some 
         let found : ℕ = get_or s.words i 0 in
         let w : Eye = eye (effect next kind found e.view) (sighting i None ∷ e.read) in
         let made : IsMade kind found = subst (λ o. IsFoundBy o found) (sym always) tt in
-        let Q : ℕ → Type 0 = λ n. FitsAt (set s.words i n) (set (map view_in s.views) id w.view) in
-        let fit : Q (g found) = subst Q (is found fits (s.words, (map view_in s.views, (id, (holds, (there s holds at, refl)))))) (made_by s holds at kind share may made) in
+        let Q : ℕ → Type 0 = λ n. FitsAt (set s.words i n) (set (map eye_view s.views) id w.view) in
+        let fit : Q (g found) = subst Q (is found fits (s.words, (map eye_view s.views, (id, (holds, (there s holds at, refl)))))) (made_by s holds at kind share may made) in
         let is_view = turned_is s holds at (set s.words i (g found)) w.view fit in
         (w, keeps, tt, turned_to s holds at i (g found) w fit, (finds s holds at i, (refl, refl, is_view)))
 
   pub cut_splits : (cut : Cut) → MayCut key cut e.view → Splits (Holds o) id e (left_eye cut e) (right_eye cut e)
   cut_splits cut may s holds at =
-      let fit = seat_cut_keeps next key key.cores s.words (map view_in s.views) id e.view holds (there s holds at) cut may in
+      let fit = seat_cut_keeps next key key.cores s.words (map eye_view s.views) id e.view holds (there s holds at) cut may in
       let left : Eye = left_eye cut e in
       let right : Eye = right_eye cut e in
-      subst (FitsAt s.words) (sym (map-append view_in (set s.views id left) (right ∷ []) ∙ ap (λ (vs : List View). vs ++ right.view ∷ []) (map-set view_in s.views id left))) fit
+      subst (FitsAt s.words) (sym (map-append eye_view (set s.views id left) (right ∷ []) ∙ ap (λ (vs : List View). vs ++ right.view ∷ []) (map-set eye_view s.views id left))) fit
 
   pub join_joins : (other : ℕ) (f : Eye) (join : Join) → MayJoin join e.view f.view → Joins (Holds o) id e other f (both_eyes join e f) nobody
   join_joins other f join may s holds at apart at' =
       let both : Eye = both_eyes join e f in
-      let vs : List View = map view_in s.views in
-      let there' : get_elem? vs other ≡ some f.view = at_map view_in s.views other f (sym (set_else s.views id other both apart) ∙ at') in
+      let vs : List View = map eye_view s.views in
+      let there' : get_elem? vs other ≡ some f.view = at_map eye_view s.views other f (sym (set_else s.views id other both apart) ∙ at') in
       let fit = seat_join_keeps next key key.cores s.words vs id e.view holds (there s holds at) other f.view apart there' join may in
-      subst (FitsAt s.words) (sym (map-set view_in (set s.views id both) other nobody ∙ ap (λ (l : List View). set l other spent) (map-set view_in s.views id both))) fit
+      subst (FitsAt s.words) (sym (map-set eye_view (set s.views id both) other nobody ∙ ap (λ (l : List View). set l other spent) (map-set eye_view s.views id both))) fit
 
 -- The same of any seat that holds no slot.
 

@@ -29,12 +29,12 @@ key_from o = record {
 }
 
 -- what a seat has in flight, apart from what it has read
-abbrev pub view_in : Eye → View
-view_in e = e.view
+abbrev pub eye_view : Eye → View
+eye_view e = e.view
 
 -- the words and the views fit, with a share for each core
 abbrev pub Holds : Origin → State (Unit {0}) Eye → Type 0
-Holds o s = Fit (key_from o) (key_from o).cores s.words (map view_in s.views)
+Holds o s = Fit (key_from o) (key_from o).cores s.words (map eye_view s.views)
 
 -- the one view at the opening: it is idle, or keeps what the words hold until the ground parts off
 abbrev pub first_view : Origin → View

@@ -40,8 +40,8 @@ EndsInLastChild children frames =
     (child_frames * (children - 1) < frames) × (frames ≤ child_frames * children)
 
 -- the trees that so many children fill, the last of them perhaps in part
-abbrev pub tree_count : ℕ → ℕ
-tree_count children = (children + 7) / tree_children
+abbrev pub trees_for : ℕ → ℕ
+trees_for children = (children + 7) / tree_children
 
 -- the frames of a tree: those of its children, as far as there are so many
 abbrev pub tree_size : ℕ → ℕ → ℕ

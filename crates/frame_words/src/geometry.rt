@@ -4,7 +4,7 @@ ghost use Rattle.std.specs.Prelude.{◌≡◌, ◌+◌, ◌-◌, ◌*◌, ◌/�
 ghost use Rattle.std.specs.Prelude.{Err, IsOk, IfOk, IfErr};
 ghost use Rattle.frame_words.specs.Geometry.{child_frames, tree_frames, most_children, most_trees};
 ghost use Rattle.frame_words.specs.Geometry.{most_cores, IsWithinLimits, EndsInLastChild};
-ghost use Rattle.frame_words.specs.Geometry.{tree_count, tree_size};
+ghost use Rattle.frame_words.specs.Geometry.{trees_for, tree_size};
 
 use super::fault::Fault;
 use super::sizes::{CHILD_FRAMES, MOST_CHILDREN, MOST_CORES, TREE_CHILDREN, TREE_FRAMES};
@@ -88,7 +88,7 @@ impl Geometry {
     }
 
     pub fn trees(&self) -> u32
-        ensures value { result ≡ tree_count self.now.children }
+        ensures value { result ≡ trees_for self.now.children }
         ensures limits { (1 ≤ result) × (result ≤ most_trees) }
     {
         u32::div_ceil(self.children, TREE_CHILDREN)
@@ -96,7 +96,7 @@ impl Geometry {
 
     /// The frames of the tree's children, counted whole.
     pub fn tree_size(&self, tree: u32) -> u32
-        requires { tree < tree_count self.now.children }
+        requires { tree < trees_for self.now.children }
         ensures value { result ≡ tree_size self.now.children tree }
         ensures limits { (child_frames ≤ result) × (result ≤ tree_frames) }
     {

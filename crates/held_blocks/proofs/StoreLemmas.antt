@@ -10,20 +10,20 @@ use Rattle.held_blocks.specs.Label.{is_label, packed}
 use Rattle.held_blocks.specs.LabelChains.{Chained, IsBlank, Knows, IsFirstLive, NoneLive, is_live}
 use Rattle.held_blocks.specs.FramePlaces.{IsSound, HasPage, place_at}
 use Rattle.held_blocks.specs.LabelledBlocks.{IsUnder, IsTheBlock, BeginsAt, HasNone}
-use Rattle.held_blocks.specs.BlockStore.{held, Fits, IsFound, StandsAt, IsFirstAt, HoldsAt, CanMove}
+use Rattle.held_blocks.specs.BlockStore.{held, FindsEntries, IsFound, StandsAt, IsFirstAt, HoldsAt, CanMove}
 use Rattle.held_blocks.proofs.LabelLemmas.{same_label}
 use Rattle.held_blocks.proofs.ChainLists.{chained_less, chained_none}
 use Rattle.held_blocks.proofs.Slots.{held_push, held_less, none_held, all_at, below_from_some}
 use Rattle.held_blocks.proofs.Slots.{some_from, still, old_or_new}
 
-module _ (old : BlockStore) (fits : Fits old) where
+module _ (old : BlockStore) (fits : FindsEntries old) where
   -- the same entries, found in perhaps other ways
   pub fits_same : (new : BlockStore) → new.slots.items ≡ old.slots.items
       → Chained new.chains old.slots.items
       → new.chains.keys.items ≡ old.chains.keys.items → IsSound new.places
       → ((f : ℕ) → HasPage old.places f → HasPage new.places f)
       → ((f : ℕ) → HasPage old.places f → place_at new.places f ≡ place_at old.places f)
-      → new.live ≡ old.live → Fits new
+      → new.live ≡ old.live → FindsEntries new
   fits_same new slots chained keys sound pages places live = record {
     chained = rw slots chained;
     sound = sound;
@@ -41,7 +41,7 @@ module _ (old : BlockStore) (fits : Fits old) where
   -- an entry leaves
   pub fits_take : (new : BlockStore) (i : ℕ) (e : LabelledBlock)
       → StandsAt old.slots.items i e → new.slots.items ≡ set old.slots.items i None
-      → new.chains ≡ old.chains → new.places ≡ old.places → new.live + 1 ≡ old.live → Fits new
+      → new.chains ≡ old.chains → new.places ≡ old.places → new.live + 1 ≡ old.live → FindsEntries new
   fits_take new i e stands slots chains places live = record {
     chained = rw (slots, chains) (chained_less old.chains old.slots.items i fits.chained);
     sound = rw places fits.sound;
@@ -66,7 +66,7 @@ module _ (old : BlockStore) (fits : Fits old) where
       → ((f : ℕ) → HasPage old.places f → HasPage new.places f)
       → ((f : ℕ) → f ≢ x.block.frame → HasPage old.places f
       → place_at new.places f ≡ place_at old.places f)
-      → HasNone (BeginsAt x.block.frame) (held old.slots.items) → new.live ≡ old.live + 1 → Fits new
+      → HasNone (BeginsAt x.block.frame) (held old.slots.items) → new.live ≡ old.live + 1 → FindsEntries new
   fits_push new x lawful slots chained keys sound page here pages others apart live = record {
     chained = rw slots chained;
     sound = sound;
@@ -187,7 +187,7 @@ module _ (old : BlockStore) (fits : Fits old) where
 
 -- a store with no slot
 pub fits_none : (store : BlockStore) → store.slots.items ≡ []
-    → IsBlank store.chains → IsSound store.places → store.live ≡ 0 → Fits store
+    → IsBlank store.chains → IsSound store.places → store.live ≡ 0 → FindsEntries store
 fits_none store slots blank sound live = record {
   chained = rw slots (chained_none store.chains blank);
   sound = sound;

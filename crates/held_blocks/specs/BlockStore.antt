@@ -9,7 +9,7 @@ use Rattle.held_blocks.specs.declared.block_store.BlockStore.{BlockStore}
 use Rattle.held_blocks.specs.declared.label_chains.LabelChains.{LabelChains}
 use Rattle.held_blocks.specs.Label.{is_label, packed}
 use Rattle.held_blocks.specs.LabelChains.{Chained, Knows}
-use Rattle.held_blocks.specs.LabelChains.{HasRoom as ChainsHaveRoom}
+use Rattle.held_blocks.specs.LabelChains.{ChainsHaveRoom}
 use Rattle.held_blocks.specs.FramePlaces.{IsSound, HasPage, HasSpare, place_at}
 
 -- what the slots hold, in order
@@ -32,7 +32,7 @@ pub record IsFound (store : BlockStore) (i : ℕ) (e : LabelledBlock) : Type 0 w
   pub place : place_at store.places e.block.frame ≡ i
 
 -- chains and table lead to the entry of each slot
-pub record Fits (store : BlockStore) : Type 0 where
+pub record FindsEntries (store : BlockStore) : Type 0 where
   pub chained : Chained store.chains store.slots.items
   pub sound : IsSound store.places
   pub each : (i : ℕ) (e : LabelledBlock) → StandsAt store.slots.items i e → IsFound store i e

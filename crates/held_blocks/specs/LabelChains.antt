@@ -79,8 +79,8 @@ pub record Chained {T : Type 0} (chains : LabelChains) (slots : List (Option T))
       (λ i. slice_index_or chains.next.items i 0) (is_live slots) (first_at chains) (last_at chains)
 
 -- so many more places take no more memory
-abbrev pub HasRoom : LabelChains → ℕ → Type 0
-HasRoom chains n =
+abbrev pub ChainsHaveRoom : LabelChains → ℕ → Type 0
+ChainsHaveRoom chains n =
     (vec_len chains.keys + n ≤ vec_capacity chains.keys)
     × (vec_len chains.next + n ≤ vec_capacity chains.next)
 

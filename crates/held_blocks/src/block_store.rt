@@ -5,7 +5,7 @@ ghost use Rattle.std.specs.Prelude.{◌≡◌, ◌<◌, ◌+◌, ◌^◌, ◌++�
 ghost use Rattle.held_blocks.specs.Label.{packed};
 ghost use Rattle.held_blocks.specs.LabelChains.{Knows};
 ghost use Rattle.held_blocks.specs.FramePlaces.{HasPage, HasSpare};
-ghost use Rattle.held_blocks.specs.BlockStore.{entries_of, Fits, HasRoom, IsReadyFor};
+ghost use Rattle.held_blocks.specs.BlockStore.{entries_of, FindsEntries, HasRoom, IsReadyFor};
 ghost use Rattle.held_blocks.specs.LabelledBlocks.{BeginsAt, HasNone};
 
 use crate::compaction;
@@ -30,7 +30,7 @@ pub(crate) struct BlockStore {
 
 /// No slot, and no memory.
 pub(crate) fn empty_store(alloc: Global) -> BlockStore
-    ensures fits { Fits result }
+    ensures fits { FindsEntries result }
     ensures none { entries_of result ≡ [] }
 {
     BlockStore {
@@ -43,8 +43,8 @@ pub(crate) fn empty_store(alloc: Global) -> BlockStore
 
 /// Makes ready for one more entry under the label with this number.
 pub(crate) fn make_ready(store: &mut BlockStore, key: u128, alloc: Global) -> Result<(), AllocError>
-    requires { Fits store.old }
-    ensures fits { Fits store.new }
+    requires { FindsEntries store.old }
+    ensures fits { FindsEntries store.new }
     ensures entries { entries_of store.new ≡ entries_of store.old }
     ensures ready { OnOk result (IsReadyFor store.new key) }
     ensures kept { OnErr result ((q : ℕ) → IsReadyFor store.old q → IsReadyFor store.new q) }
@@ -59,8 +59,8 @@ pub(crate) fn make_ready(store: &mut BlockStore, key: u128, alloc: Global) -> Re
 
 // Makes a page that no child has, unless there is one.
 fn make_spare(store: &mut BlockStore) -> Result<(), AllocError>
-    requires { Fits store.old }
-    ensures fits { Fits store.new }
+    requires { FindsEntries store.old }
+    ensures fits { FindsEntries store.new }
     ensures slots { store.new.slots ≡ store.old.slots }
     ensures spare { OnOk result (HasSpare store.new.places) }
     ensures kept { (q : ℕ) → IsReadyFor store.old q → IsReadyFor store.new q }
@@ -70,7 +70,7 @@ fn make_spare(store: &mut BlockStore) -> Result<(), AllocError>
 
 // Whether more than half of the slots are empty, or of the labels have no entry.
 fn is_sparse(store: &BlockStore) -> bool
-    requires { Fits store.now }
+    requires { FindsEntries store.now }
 {
     let most = store.live + FEW;
     store.slots.len() / 2 > most || store.chains.ends.len() / 2 > most
@@ -78,9 +78,9 @@ fn is_sparse(store: &BlockStore) -> bool
 
 // Makes room for one more entry under the label with this number.
 fn make_room(store: &mut BlockStore, key: u128) -> Result<(), AllocError>
-    requires fits { Fits store.old }
+    requires fits { FindsEntries store.old }
     requires spare { HasSpare store.old.places }
-    ensures fits { Fits store.new }
+    ensures fits { FindsEntries store.new }
     ensures slots { store.new.slots.items ≡ store.old.slots.items }
     ensures ready { OnOk result (IsReadyFor store.new key) }
     ensures kept { (q : ℕ) → IsReadyFor store.old q → IsReadyFor store.new q }
@@ -91,11 +91,11 @@ fn make_room(store: &mut BlockStore, key: u128) -> Result<(), AllocError>
 
 /// Puts an entry last, for which the store was made ready.
 pub(crate) fn add_entry(store: &mut BlockStore, entry: LabelledBlock)
-    requires fits { Fits store.old }
+    requires fits { FindsEntries store.old }
     requires ready { IsReadyFor store.old (packed entry.label) }
     requires low { entry.block.frame < 2 ^ 21 }
     requires apart { HasNone (BeginsAt entry.block.frame) (entries_of store.old) }
-    ensures fits { Fits store.new }
+    ensures fits { FindsEntries store.new }
     ensures entries { entries_of store.new ≡ entries_of store.old ++ entry ∷ [] }
 {
     give_page(store, entry.block.frame());
@@ -104,10 +104,10 @@ pub(crate) fn add_entry(store: &mut BlockStore, entry: LabelledBlock)
 
 // Gives the child of a frame its page, if it has none.
 fn give_page(store: &mut BlockStore, frame: u32)
-    requires fits { Fits store.old }
+    requires fits { FindsEntries store.old }
     requires spare { HasSpare store.old.places }
     requires low { frame < 2 ^ 21 }
-    ensures fits { Fits store.new }
+    ensures fits { FindsEntries store.new }
     ensures slots { store.new.slots ≡ store.old.slots }
     ensures chains { store.new.chains ≡ store.old.chains }
     ensures page { HasPage store.new.places frame }
@@ -117,12 +117,12 @@ fn give_page(store: &mut BlockStore, frame: u32)
 
 /// Puts an entry last, where there is room and the child of its frame has a page.
 pub(crate) fn put_last(store: &mut BlockStore, entry: LabelledBlock)
-    requires fits { Fits store.old }
+    requires fits { FindsEntries store.old }
     requires room { HasRoom store.old 1 }
     requires knows { Knows store.old.chains (packed entry.label) }
     requires page { HasPage store.old.places entry.block.frame }
     requires apart { HasNone (BeginsAt entry.block.frame) (entries_of store.old) }
-    ensures fits { Fits store.new }
+    ensures fits { FindsEntries store.new }
     ensures entries { entries_of store.new ≡ entries_of store.old ++ entry ∷ [] }
     ensures room { (n : ℕ) → HasRoom store.old (n + 1) → HasRoom store.new n }
     ensures known { (q : ℕ) → Knows store.old.chains q → Knows store.new.chains q }

@@ -2,9 +2,9 @@
 
 ghost use Rattle.std.specs.Prelude.{◌≡◌, ◌+◌, [], ℕ, length, IfOk, OnOk, OnErr};
 ghost use Rattle.held_blocks.specs.LabelChains.{IsBlank, Knows};
-ghost use Rattle.held_blocks.specs.LabelChains.{HasRoom as ChainsHaveRoom};
+ghost use Rattle.held_blocks.specs.LabelChains.{ChainsHaveRoom};
 ghost use Rattle.held_blocks.specs.FramePlaces.{HasSpare};
-ghost use Rattle.held_blocks.specs.BlockStore.{held, entries_of, Fits, HasRoom, IsReadyFor};
+ghost use Rattle.held_blocks.specs.BlockStore.{held, entries_of, FindsEntries, HasRoom, IsReadyFor};
 ghost use Rattle.held_blocks.specs.BlockStore.{KnowsAll, CanMove};
 
 use crate::block_store::{BlockStore, put_last};
@@ -17,9 +17,9 @@ use std::mem;
 
 /// Moves the entries into new slots, none of them empty, with chains for their labels alone.
 pub(crate) fn compact(store: &mut BlockStore, key: u128, alloc: Global) -> Result<(), AllocError>
-    requires fits { Fits store.old }
+    requires fits { FindsEntries store.old }
     requires spare { HasSpare store.old.places }
-    ensures fits { Fits store.new }
+    ensures fits { FindsEntries store.new }
     ensures entries { entries_of store.new ≡ entries_of store.old }
     ensures ready { OnOk result (IsReadyFor store.new key) }
     ensures kept { OnErr result (store.new ≡ store.old) }
@@ -45,7 +45,7 @@ pub(crate) fn compact(store: &mut BlockStore, key: u128, alloc: Global) -> Resul
 
 // Chains through no place, for the labels of all entries and one more.
 fn needed_chains(store: &BlockStore, key: u128, alloc: Global) -> Result<LabelChains, AllocError>
-    requires { Fits store.now }
+    requires { FindsEntries store.now }
     ensures blank { IfOk result IsBlank }
     ensures room { IfOk result (λ chains. ChainsHaveRoom chains (store.now.live + 1)) }
     ensures knows { IfOk result (λ chains. Knows chains key) }
@@ -63,12 +63,12 @@ fn needed_chains(store: &BlockStore, key: u128, alloc: Global) -> Result<LabelCh
 
 // Puts the entries of these slots last, in order.
 fn move_all(slots: Vec<Option<LabelledBlock>>, store: &mut BlockStore)
-    requires fits { Fits store.old }
+    requires fits { FindsEntries store.old }
     requires none { entries_of store.old ≡ [] }
     requires room { HasRoom store.old (length (held slots.items) + 1) }
     requires spare { HasSpare store.old.places }
     requires can { CanMove slots.items store.old }
-    ensures fits { Fits store.new }
+    ensures fits { FindsEntries store.new }
     ensures entries { entries_of store.new ≡ held slots.items }
     ensures ready { (q : ℕ) → Knows store.old.chains q → IsReadyFor store.new q }
 {

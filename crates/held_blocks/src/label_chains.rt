@@ -5,7 +5,7 @@ ghost use Rattle.std.specs.Prelude.{◌≡◌, ◌≢◌, ◌≤◌, ◌<◌, �
 ghost use Rattle.std.specs.Prelude.{IfSome, IfNone, OnOk, Some, slice_set, vec_len, vec_capacity};
 ghost use Rattle.std.specs.Ordering.{nat_cmp};
 ghost use Rattle.std.specs.BTreeMap.{get};
-ghost use Rattle.held_blocks.specs.LabelChains.{Chained, HasRoom, Knows, IsFirstLive, NoneLive};
+ghost use Rattle.held_blocks.specs.LabelChains.{Chained, ChainsHaveRoom, Knows, IsFirstLive, NoneLive};
 ghost use Rattle.held_blocks.specs.LabelChains.{IsBlank, IsSame, WalksOn, SameBut, is_live};
 ghost use Rattle.held_blocks.specs.LabelChains.{first_at, last_at};
 
@@ -45,9 +45,9 @@ pub(crate) fn no_chains(alloc: Global) -> LabelChains
 pub(crate) fn make_ready(chains: &mut LabelChains, more: usize, key: u128) -> Result<(), AllocError>
     ensures same { IsSame chains.old chains.new }
     ensures blank { IsBlank chains.old → IsBlank chains.new }
-    ensures room { OnOk result (HasRoom chains.new more) }
+    ensures room { OnOk result (ChainsHaveRoom chains.new more) }
     ensures knows { OnOk result (Knows chains.new key) }
-    ensures kept { (n : ℕ) → HasRoom chains.old n → HasRoom chains.new n }
+    ensures kept { (n : ℕ) → ChainsHaveRoom chains.old n → ChainsHaveRoom chains.new n }
     ensures known { (q : ℕ) → Knows chains.old q → Knows chains.new q }
 {
     chains.keys.reserve(more)?;
@@ -60,7 +60,7 @@ pub(crate) fn know(chains: &mut LabelChains, key: u128) -> Result<(), AllocError
     ensures same { IsSame chains.old chains.new }
     ensures blank { IsBlank chains.old → IsBlank chains.new }
     ensures knows { OnOk result (Knows chains.new key) }
-    ensures kept { (n : ℕ) → HasRoom chains.old n → HasRoom chains.new n }
+    ensures kept { (n : ℕ) → ChainsHaveRoom chains.old n → ChainsHaveRoom chains.new n }
     ensures known { (q : ℕ) → Knows chains.old q → Knows chains.new q }
 {
     if chains.ends.contains_key(&key) {
@@ -85,7 +85,7 @@ pub(crate) fn first_live<T>(
     requires { Chained chains.old slots.now }
     ensures chained { Chained chains.new slots.now }
     ensures keys { chains.new.keys ≡ chains.old.keys }
-    ensures room { (n : ℕ) → HasRoom chains.old n → HasRoom chains.new n }
+    ensures room { (n : ℕ) → ChainsHaveRoom chains.old n → ChainsHaveRoom chains.new n }
     ensures known { (q : ℕ) → Knows chains.old q → Knows chains.new q }
     ensures none { IfNone result (NoneLive chains.old.keys.items slots.now key) }
     ensures found { IfSome result (IsFirstLive chains.old.keys.items slots.now key) }
@@ -128,11 +128,11 @@ fn begin_at(chains: &mut LabelChains, key: u128, at: usize)
 /// Puts a place with a key last, and leads the chain of the key on to it.
 pub(crate) fn put_last<T>(chains: &mut LabelChains, slots: &[Option<T>], key: u128)
     requires chained { Chained chains.old slots.now }
-    requires room { HasRoom chains.old 1 }
+    requires room { ChainsHaveRoom chains.old 1 }
     requires knows { Knows chains.old key }
     ensures chained { (x : T) → Chained chains.new (slots.now ++ Some x ∷ []) }
     ensures keys { chains.new.keys.items ≡ chains.old.keys.items ++ key ∷ [] }
-    ensures room { (n : ℕ) → HasRoom chains.old (n + 1) → HasRoom chains.new n }
+    ensures room { (n : ℕ) → ChainsHaveRoom chains.old (n + 1) → ChainsHaveRoom chains.new n }
     ensures known { (q : ℕ) → Knows chains.old q → Knows chains.new q }
 {
     let last = end_at(chains, key, slots.len());

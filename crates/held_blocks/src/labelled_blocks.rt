@@ -29,11 +29,11 @@ impl Model for LabelledBlocks {
     ghost Value = { LabelledList };
 
     ghost use Rattle.std.specs.Prelude.{IfSome};
-    ghost use Rattle.held_blocks.specs.BlockStore.{entries_of, Fits, IsReadyUnder};
+    ghost use Rattle.held_blocks.specs.BlockStore.{entries_of, FindsEntries, IsReadyUnder};
 
     ghost view = { λ list. record { entries = entries_of list.store; room = list.room } };
 
-    ghost invariant = { λ list. Fits list.store × IfSome list.room (IsReadyUnder list.store) };
+    ghost invariant = { λ list. FindsEntries list.store × IfSome list.room (IsReadyUnder list.store) };
 }
 
 impl LabelledBlocks {

@@ -1,7 +1,7 @@
 //! Where the entries stand.
 
 ghost use Rattle.std.specs.Prelude.{◌≡◌, ◌<◌, ℕ, length, IfSome, IfNone, slice_index_or};
-ghost use Rattle.held_blocks.specs.BlockStore.{held, entries_of, Fits, IsReadyFor};
+ghost use Rattle.held_blocks.specs.BlockStore.{held, entries_of, FindsEntries, IsReadyFor};
 ghost use Rattle.held_blocks.specs.BlockStore.{IsFirstAt, HoldsAt};
 ghost use Rattle.held_blocks.specs.LabelledBlocks.{IsUnder, IsTheBlock, BeginsAt, HasNone};
 
@@ -13,8 +13,8 @@ use frame_core::HeldBlock;
 
 /// The slot of the oldest entry under a label.
 pub(crate) fn oldest_place(store: &mut BlockStore, label: &Label) -> Option<usize>
-    requires { Fits store.old }
-    ensures fits { Fits store.new }
+    requires { FindsEntries store.old }
+    ensures fits { FindsEntries store.new }
     ensures slots { store.new.slots ≡ store.old.slots }
     ensures none { IfNone result (HasNone (IsUnder label.now) (entries_of store.old)) }
     ensures found { IfSome result (IsFirstAt (IsUnder label.now) store.old.slots.items) }
@@ -25,7 +25,7 @@ pub(crate) fn oldest_place(store: &mut BlockStore, label: &Label) -> Option<usiz
 
 /// The slot of the entry with exactly this block.
 pub(crate) fn exact_place(store: &BlockStore, frame: u32, order: u8) -> Option<usize>
-    requires { Fits store.now }
+    requires { FindsEntries store.now }
     ensures none { IfNone result (HasNone (IsTheBlock frame order) (entries_of store.now)) }
     ensures found { IfSome result (IsFirstAt (IsTheBlock frame order) store.now.slots.items) }
 {
@@ -40,7 +40,7 @@ pub(crate) fn exact_place(store: &BlockStore, frame: u32, order: u8) -> Option<u
 
 /// The slot of the entry that begins at a frame.
 pub(crate) fn frame_place(store: &BlockStore, frame: u32) -> Option<usize>
-    requires { Fits store.now }
+    requires { FindsEntries store.now }
     ensures none { IfNone result (HasNone (BeginsAt frame) (entries_of store.now)) }
     ensures found { IfSome result (HoldsAt (BeginsAt frame) store.now.slots.items) }
 {

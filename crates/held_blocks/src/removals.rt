@@ -3,7 +3,7 @@
 ghost use Rattle.std.specs.Prelude.{◌≡◌, ℕ, true, None, IfSome, IfNone, slice_set};
 ghost use Rattle.std.specs.Prelude.{vec_len, vec_capacity};
 ghost use Rattle.held_blocks.specs.LabelChains.{is_live};
-ghost use Rattle.held_blocks.specs.BlockStore.{entries_of, Fits, IsReadyFor, StandsAt};
+ghost use Rattle.held_blocks.specs.BlockStore.{entries_of, FindsEntries, IsReadyFor, StandsAt};
 ghost use Rattle.held_blocks.specs.LabelledBlocks.{IsUnder, IsTheBlock, HasNone, TakesFirst};
 
 use crate::block_store::BlockStore;
@@ -13,8 +13,8 @@ use crate::lookups::{exact_place, oldest_place};
 
 /// Takes out the oldest entry under a label.
 pub(crate) fn take_oldest(store: &mut BlockStore, label: &Label) -> Option<LabelledBlock>
-    requires { Fits store.old }
-    ensures fits { Fits store.new }
+    requires { FindsEntries store.old }
+    ensures fits { FindsEntries store.new }
     ensures taken { IfSome result (λ e. TakesFirst (IsUnder label.now) (entries_of store.old) e (entries_of store.new)) }
     ensures none { IfNone result (HasNone (IsUnder label.now) (entries_of store.old)) }
     ensures unchanged { IfNone result (entries_of store.new ≡ entries_of store.old) }
@@ -26,8 +26,8 @@ pub(crate) fn take_oldest(store: &mut BlockStore, label: &Label) -> Option<Label
 
 /// Takes out the entry with exactly this block.
 pub(crate) fn take_exact(store: &mut BlockStore, frame: u32, order: u8) -> Option<LabelledBlock>
-    requires { Fits store.old }
-    ensures fits { Fits store.new }
+    requires { FindsEntries store.old }
+    ensures fits { FindsEntries store.new }
     ensures taken { IfSome result (λ e. TakesFirst (IsTheBlock frame order) (entries_of store.old) e (entries_of store.new)) }
     ensures none { IfNone result (HasNone (IsTheBlock frame order) (entries_of store.old)) }
     ensures unchanged { IfNone result (entries_of store.new ≡ entries_of store.old) }
@@ -39,9 +39,9 @@ pub(crate) fn take_exact(store: &mut BlockStore, frame: u32, order: u8) -> Optio
 
 // Takes the entry of a slot out.
 fn take_at(store: &mut BlockStore, place: usize) -> LabelledBlock
-    requires fits { Fits store.old }
+    requires fits { FindsEntries store.old }
     requires live { is_live store.old.slots.items place ≡ true }
-    ensures fits { Fits store.new }
+    ensures fits { FindsEntries store.new }
     ensures entry { StandsAt store.old.slots.items place result }
     ensures slots { store.new.slots.items ≡ slice_set store.old.slots.items place None }
     ensures kept { (q : ℕ) → IsReadyFor store.old q → IsReadyFor store.new q }

@@ -4,15 +4,22 @@
 use frame_image::Watched;
 use llfree_trace::run_program;
 use std::alloc::AllocError;
-use std::env;
 use std::process::ExitCode;
+use std::{env, io};
 
-// The program's words, without its name; none where they can't be read.
+// The program's words, without its name; none where one of them is no text.
 fn words(rt: &HostRuntime) -> Result<Vec<String>, AllocError> {
     let mut words = Vec::new(rt.alloc());
-    if let Ok(arguments) = env::args(rt) {
-        for word in arguments.skip(1) {
-            words.push(word)?;
+    match env::args(rt) {
+        Ok(arguments) => {
+            for word in arguments.skip(1) {
+                words.push(word)?;
+            }
+        }
+        Err(error) => {
+            if error.kind() == io::ErrorKind::OutOfMemory {
+                return Err(AllocError);
+            }
         }
     }
     Ok(words)

@@ -4,7 +4,7 @@ use Rattle.std.specs.List.{Contains}
 use Rattle.std.specs.List.Sorted.{IsPermutation}
 use Rattle.frame_core.specs.Block.{block}
 use Rattle.frame_core.specs.QuietTake.{TakesBlock, FindsNone}
-use Rattle.core_frames.specs.PlainState.{PlainState, key_by, held_by}
+use Rattle.core_frames.specs.PlainState.{PlainState, memory_by, held_by}
 use Rattle.llfree_c.specs.declared.plain.Plain.{Plain}
 use Rattle.llfree_c.specs.Status.{no_memory, bad_geometry}
 
@@ -33,13 +33,13 @@ pub record IsSameMemory (old new : PlainState) : Type 0 where
 
 -- a free block was taken: it overlaps no block that was held, and is out from then on
 pub record Takes (order frame : ℕ) (old new : PlainState) : Type 0 where
-  pub quiet : TakesBlock (key_by old) (held_by old) (held_by new) order (block frame order)
+  pub quiet : TakesBlock (memory_by old) (held_by old) (held_by new) order (block frame order)
   pub out : IsPermutation (block frame order ∷ old.out) new.out
   pub memory : IsSameMemory old new
 
 -- no block of the order was free, and nothing changed
 pub record Finds (order : ℕ) (old new : PlainState) : Type 0 where
-  pub none : FindsNone (key_by old) (held_by old) (held_by new) order
+  pub none : FindsNone (memory_by old) (held_by old) (held_by new) order
   pub same : new ≡ old
 
 -- there are no blocks of the order, and nothing changed

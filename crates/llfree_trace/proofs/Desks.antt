@@ -3,12 +3,10 @@ use Rattle.std.proofs.Common.{◌≡◌, ◌∙◌, ℕ, List, [], ◌∷◌, �
 use Rattle.std.specs.List.{sum_by}
 use Rattle.std.proofs.lemmas.List.Sorted.{sum_by_pushed}
 use Rattle.std.proofs.lemmas.List.Sums.{sum_by-append}
-use Rattle.core_frames.specs.PlainState.{PlainState, held_by, key_by, HoldsExactly}
+use Rattle.core_frames.specs.PlainState.{PlainState, held_by, memory_by, HoldsExactly}
 use Rattle.held_blocks.specs.LabelledBlocks.{TakesFirst}
 use Rattle.held_blocks.specs.declared.labelled_block.LabelledBlock.{LabelledBlock}
-use Rattle.frame_core.specs.Block.{IsBlock, covers}
-use Rattle.frame_model.specs.declared.key.Key.{Key}
-use Rattle.frame_core.specs.Key.{key_of, sealed_key}
+use Rattle.frame_core.specs.Block.{covers}
 use Rattle.frame_core.specs.View.{boot_blocks}
 use Rattle.frame_core.specs.Holding.{IsFreeBlock, holders}
 use Rattle.frame_core.specs.QuietTake.{QuietTake}
@@ -18,19 +16,15 @@ use Rattle.frame_words.specs.declared.fault.TakeFault.{TakeFault}
 use Rattle.frame_words.specs.declared.fault.TakeFault.TheVariants as take_fault
 use Rattle.held_blocks.specs.Desk.{TakesUnder, blocks_of}
 use Rattle.held_blocks.proofs.HeldLemmas.{blocks_append, contained, count_same, counted_once, sum_split}
-use Rattle.llfree_trace.specs.Desk.{Agrees}
+use Rattle.llfree_trace.specs.Desk.{HasOut}
 use Rattle.llfree_trace.specs.Outcome.{HoldsFrames, MustRefuseHere}
 
--- the key of the memory names no ranges
-pub key_is : (a : PlainState) (held : List LabelledBlock) → Agrees a held → key_by a ≡ key_of a.geometry
-key_is a held agrees = ap (sealed_key a.geometry) agrees.no_ranges
-
 -- what is held under the allocator is held by the list, or nobody is ever given it
-pub holders_same : (a : PlainState) (held : List LabelledBlock) (x : ℕ) → Agrees a held
-    → holders x (blocks_of held ++ boot_blocks (key_by a)) ≡ holders x (held_by a)
+pub holders_same : (a : PlainState) (held : List LabelledBlock) (x : ℕ) → HasOut a held
+    → holders x (blocks_of held ++ boot_blocks (memory_by a)) ≡ holders x (held_by a)
 unfolding holders
 holders_same a held x agrees =
-    let boot : List FrameBlock = boot_blocks (key_by a) in
+    let boot : List FrameBlock = boot_blocks (memory_by a) in
     omega (
       arith,
       agrees.out (λ b. covers b x),
@@ -41,18 +35,11 @@ holders_same a held x agrees =
     )
 
 -- those frames are held, and no others
-pub held_exactly : (a : PlainState) (held : List LabelledBlock) (words : List ℕ) → Agrees a held
-    → HoldsExactly (key_by a) words (held_by a)
-    → HoldsFrames (key_of a.geometry) words (blocks_of held ++ boot_blocks (key_of a.geometry))
+pub held_exactly : (a : PlainState) (held : List LabelledBlock) (words : List ℕ) → HasOut a held
+    → HoldsExactly (memory_by a) words (held_by a)
+    → HoldsFrames (memory_by a) words (blocks_of held ++ boot_blocks (memory_by a))
 held_exactly a held words agrees exact =
-    subst (λ (k : Key). HoldsFrames k words (blocks_of held ++ boot_blocks k)) (key_is a held agrees)
-    (λ x within. exact.frames x within ∙ sym (holders_same a held x agrees))
-
--- a block of the allocator is one of the memory
-pub is_block_here : (a : PlainState) (held : List LabelledBlock) (b d : FrameBlock) → Agrees a held → d ≡ b
-    → IsBlock (key_by a) b → IsBlock (key_of a.geometry) d
-is_block_here a held b d agrees same is =
-    subst (λ (k : Key). IsBlock k d) (key_is a held agrees) (subst (IsBlock (key_by a)) (sym same) is)
+    λ x within. exact.frames x within ∙ sym (holders_same a held x agrees)
 
 -- a part of what nobody holds
 free_parts : (xs ys : List FrameBlock) (b : FrameBlock) → IsFreeBlock (xs ++ ys) b
@@ -65,28 +52,25 @@ free_parts xs ys b free = (
 
 -- what is free under the allocator is free under the list, and has no frame that nobody is given
 pub free_under_list : (a : PlainState) (held : List LabelledBlock) (b : FrameBlock)
-    → Agrees a held → IsFreeBlock (held_by a) b → IsFreeBlock (blocks_of held) b
+    → HasOut a held → IsFreeBlock (held_by a) b → IsFreeBlock (blocks_of held) b
 free_under_list a held b agrees free =
-    (free_parts (blocks_of held) (boot_blocks (key_by a)) b (λ x c. holders_same a held x agrees ∙ free x c)).0
+    (free_parts (blocks_of held) (boot_blocks (memory_by a)) b (λ x c. holders_same a held x agrees ∙ free x c)).0
 
 pub free_of_boot : (a : PlainState) (held : List LabelledBlock) (b d : FrameBlock)
-    → Agrees a held → d ≡ b → IsFreeBlock (held_by a) b → IsFreeBlock (boot_blocks (key_of a.geometry)) d
+    → HasOut a held → d ≡ b → IsFreeBlock (held_by a) b → IsFreeBlock (boot_blocks (memory_by a)) d
 free_of_boot a held b d agrees same free =
-    subst (λ (k : Key). IsFreeBlock (boot_blocks k) d) (key_is a held agrees)
-    (subst (IsFreeBlock (boot_blocks (key_by a))) (sym same)
-    (free_parts (blocks_of held) (boot_blocks (key_by a)) b (λ x c. holders_same a held x agrees ∙ free x c)).1)
+    subst (IsFreeBlock (boot_blocks (memory_by a))) (sym same)
+    (free_parts (blocks_of held) (boot_blocks (memory_by a)) b (λ x c. holders_same a held x agrees ∙ free x c)).1
 
 -- and the other way round
 pub free_under_allocator : (a : PlainState) (held : List LabelledBlock) (b : FrameBlock)
-    → Agrees a held → IsFreeBlock (blocks_of held ++ boot_blocks (key_by a)) b → IsFreeBlock (held_by a) b
+    → HasOut a held → IsFreeBlock (blocks_of held ++ boot_blocks (memory_by a)) b → IsFreeBlock (held_by a) b
 free_under_allocator a held b agrees free = λ x c. sym (holders_same a held x agrees) ∙ free x c
 
 -- a block that was taken goes last
 pub agrees_more : (a b : PlainState) (held : List LabelledBlock) (e : LabelledBlock)
-    → Agrees a held → IsPermutation (e.block ∷ a.out) b.out → b.kept ≡ a.kept
-    → (b.geometry ≡ a.geometry) × (b.ranges ≡ a.ranges) → Agrees b (held ++ e ∷ [])
-agrees_more a b held e agrees out kept same = record {
-  no_ranges = same.1 ∙ agrees.no_ranges;
+    → HasOut a held → IsPermutation (e.block ∷ a.out) b.out → b.kept ≡ a.kept → HasOut b (held ++ e ∷ [])
+agrees_more a b held e agrees out kept = record {
   none_kept = kept ∙ agrees.none_kept;
   out = λ f. rw (blocks_append held (e ∷ []), sum_by-append f (blocks_of held) (e.block ∷ []))
       (omega (arith, agrees.out f, sum_by_pushed f e.block a.out b.out out));
@@ -95,7 +79,7 @@ agrees_more a b held e agrees out kept same = record {
 -- a block of the list is out
 pub is_out : (a : PlainState) (held : List LabelledBlock) (e : LabelledBlock)
     (P : LabelledBlock → Type 0) (left : List LabelledBlock)
-    → Agrees a held → TakesFirst P held e left → Contains a.out e.block
+    → HasOut a held → TakesFirst P held e left → Contains a.out e.block
 is_out a held e P left agrees takes =
     let same = rw takes.was at (agrees.out (count_same e.block)) in
     let split = sum_split (count_same e.block) takes.front takes.back e in
@@ -104,11 +88,9 @@ is_out a held e P left agrees takes =
 -- a block that is given leaves
 pub agrees_less : (a b : PlainState) (held left : List LabelledBlock) (e : LabelledBlock)
     (P : LabelledBlock → Type 0)
-    → Agrees a held → TakesFirst P held e left
-    → IsPermutation (e.block ∷ b.out) a.out → b.kept ≡ a.kept
-    → (b.geometry ≡ a.geometry) × (b.ranges ≡ a.ranges) → Agrees b left
-agrees_less a b held left e P agrees takes out kept same = record {
-  no_ranges = same.1 ∙ agrees.no_ranges;
+    → HasOut a held → TakesFirst P held e left
+    → IsPermutation (e.block ∷ b.out) a.out → b.kept ≡ a.kept → HasOut b left
+agrees_less a b held left e P agrees takes out kept = record {
   none_kept = kept ∙ agrees.none_kept;
   out = λ f.
       let same = rw takes.was at (agrees.out f) in
@@ -117,21 +99,25 @@ agrees_less a b held left e P agrees takes out kept same = record {
       rw takes.stays (omega (arith, same, split, pushed));
 }
 
-refused_here : (a : PlainState) (held : List LabelledBlock) (new : List FrameBlock)
-    (label : List ℕ) (order : ℕ) (refusal : TakeFault)
-    → Agrees a held → QuietTake (key_by a) (held_by a) new order (Err refusal)
-    → TakesUnder MustRefuseHere (key_by a) held label order (Err (fault_of refusal)) held
-unfolding TakesUnder
-refused_here a held new label order take_fault.BadOrder agrees quiet = (quiet.above, refl)
-refused_here a held new label order take_fault.NoBlock agrees quiet =
-    (quiet.lawful, (λ b is has free. quiet.none b is has (free_under_allocator a held b agrees free)), refl)
-refused_here a held new label order take_fault.Contended agrees quiet = absurd quiet
+-- a block that goes from its place to the end
+pub agrees_moved : (a : PlainState) (held left : List LabelledBlock) (e : LabelledBlock)
+    (P : LabelledBlock → Type 0) → HasOut a held → TakesFirst P held e left → HasOut a (left ++ e ∷ [])
+agrees_moved a held left e P agrees takes = record {
+  none_kept = agrees.none_kept;
+  out = λ f.
+      let same = rw takes.was at (agrees.out f) in
+      let split = sum_split f takes.front takes.back e in
+      rw (takes.stays, blocks_append (takes.front ++ takes.back) (e ∷ []), sum_by-append f (blocks_of (takes.front ++ takes.back)) (e.block ∷ []))
+      (omega (arith, same, split));
+}
 
 -- a take that the allocator refuses is refused rightly under the list
 pub refused_step : (a : PlainState) (held : List LabelledBlock) (new : List FrameBlock)
     (label : List ℕ) (order : ℕ) (refusal : TakeFault)
-    → Agrees a held → QuietTake (key_by a) (held_by a) new order (Err refusal)
-    → TakesUnder MustRefuseHere (key_of a.geometry) held label order (Err (fault_of refusal)) held
-refused_step a held new label order refusal agrees quiet =
-    subst (λ (k : Key). TakesUnder MustRefuseHere k held label order (Err (fault_of refusal)) held)
-    (key_is a held agrees) (refused_here a held new label order refusal agrees quiet)
+    → HasOut a held → QuietTake (memory_by a) (held_by a) new order (Err refusal)
+    → TakesUnder MustRefuseHere (memory_by a) held label order (Err (fault_of refusal)) held
+unfolding TakesUnder
+refused_step a held new label order take_fault.BadOrder agrees quiet = (quiet.above, refl)
+refused_step a held new label order take_fault.NoBlock agrees quiet =
+    (quiet.lawful, (λ b is has free. quiet.none b is has (free_under_allocator a held b agrees free)), refl)
+refused_step a held new label order take_fault.Contended agrees quiet = absurd quiet

@@ -1,7 +1,7 @@
 -- Rows of four fields.
 use Rattle.std.proofs.Common.{◌≡◌, ◌≢◌, List, [], ◌∷◌, length, Some, None, refl, arith, ℕ}
 use Rattle.csv.specs.Records.{field_at}
-use Rattle.llfree_trace.specs.TraceText.{ask_of, line_of}
+use Rattle.llfree_trace.specs.TraceText.{line_of, record_of}
 
 -- four fields, one after another, are all of a row of four
 pub all_of_four : (xs : List (List ℕ)) (a b c d : List ℕ) → length xs ≡ 4
@@ -26,6 +26,6 @@ line_of_other cores (a ∷ b ∷ c ∷ d ∷ []) h = absurd (h refl)
 line_of_other cores (a ∷ b ∷ c ∷ d ∷ e ∷ others) h = refl
 
 pub line_of_four : (cores : ℕ) (xs : List (List ℕ)) (a b c d : List ℕ)
-    → xs ≡ a ∷ b ∷ c ∷ d ∷ [] → ask_of cores a b c d ≡ line_of cores xs
+    → xs ≡ a ∷ b ∷ c ∷ d ∷ [] → record_of cores a b c d ≡ line_of cores xs
 unfolding line_of
 line_of_four cores xs a b c d e = rw e refl

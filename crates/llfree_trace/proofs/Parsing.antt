@@ -1,12 +1,12 @@
 -- How a trace grows by one record.
-use Rattle.std.proofs.Common.{◌≡◌, ◌+◌, ℕ, List, [], ◌∷◌, ◌++◌, length, Some, None, Ok, Err, refl}
+use Rattle.std.proofs.Common.{◌≡◌, ◌+◌, ℕ, List, [], ◌∷◌, ◌++◌, Some, None, Ok, Err, refl}
 use Rattle.frame_image.specs.Records.{read_records}
 use Rattle.llfree_trace.specs.declared.line.Line.{Line}
 use Rattle.llfree_trace.specs.TraceText.{line_after, lines_with}
 
 -- a row that is a record goes behind those so far
 pub read_more : (cores number : ℕ) (lines : List Line) (row : List (List ℕ)) (rows : List (List (List ℕ))) (line : Line)
-    → Some line ≡ line_after cores (length lines) row
+    → Some line ≡ line_after cores lines row
     → read_records (lines_with cores) number lines (row ∷ rows)
     ≡ read_records (lines_with cores) (number + 1) (lines ++ line ∷ []) rows
 unfolding read_records lines_with
@@ -14,7 +14,7 @@ read_more cores number lines row rows line e = rw (← e) refl
 
 -- a row that is none is refused
 pub read_refused : (cores number : ℕ) (lines : List Line) (row : List (List ℕ)) (rows : List (List (List ℕ)))
-    → None ≡ line_after cores (length lines) row
+    → None ≡ line_after cores lines row
     → read_records (lines_with cores) number lines (row ∷ rows) ≡ Err number
 unfolding read_records lines_with
 read_refused cores number lines row rows e = rw (← e) refl

@@ -1,5 +1,5 @@
 -- How the answers to a trace grow by one.
-use Rattle.std.proofs.Common.{◌≡◌, ◌+◌, ◌-◌, ◌≤◌, ℕ, zero, suc, List, [], ◌∷◌, ◌++◌, length, replicate, refl, arith, set, Result, Ok, Err}
+use Rattle.std.proofs.Common.{◌≡◌, ◌⊎◌, inl, inr, ◌+◌, ◌-◌, ◌≤◌, ℕ, zero, suc, max, List, [], ◌∷◌, ◌++◌, length, replicate, refl, subst, arith, Result, Ok, Err}
 use Rattle.std.proofs.lemmas.List.{append-nil}
 use Rattle.std.proofs.lemmas.List.Elements.{All-nil}
 use Rattle.frame_core.specs.Block.{IsBlock}
@@ -19,7 +19,7 @@ use Rattle.held_blocks.specs.Desk.{MayRefuse, TakesUnder, blocks_of}
 use Rattle.held_blocks.specs.LabelledBlocks.{IsUnder}
 use Rattle.held_blocks.specs.declared.labelled_block.LabelledBlock.{LabelledBlock}
 use Rattle.held_blocks.proofs.DeskLemmas.{gives_exactly_lawful, gives_lawful, takes_lawful}
-use Rattle.llfree_trace.specs.Outcome.{DeskStep, MustRefuseHere, Runs, all_blocks, list_of}
+use Rattle.llfree_trace.specs.Outcome.{DeskStep, Moves, MustRefuseHere, Runs, all_blocks, list_of}
 
 -- a step leaves a list whose blocks are disjoint
 pub step_lawful : (refuses : Key → List FrameBlock → ℕ → Fault → Type 0) (key : Key)
@@ -42,36 +42,51 @@ step_lawful refuses key old _ _ new lawful step = absurd step
 
 -- Runs.
 
--- one more round
-pub runs_round : (refuses : Key → List FrameBlock → ℕ → Fault → Type 0) (key : Key) (number : ℕ)
+-- a run by another name of its first number
+pub renumbered : (refuses : Key → List FrameBlock → ℕ → Fault → Type 0) (key : Key) (n m : ℕ)
     (old : List (List LabelledBlock)) (lines : List Line) (answers : List Answer) (new : List (List LabelledBlock))
-    → Runs refuses key number old lines answers new
-    → Runs refuses key number old (lines ++ line.Round ∷ []) answers new
-unfolding Runs
-runs_round refuses key number old [] [] new run = run
-runs_round refuses key number old [] (b ∷ answers) new run = absurd run
-runs_round refuses key number old (line.Ask m x ∷ lines) [] new run = absurd run
-runs_round refuses key number old (line.Ask m x ∷ lines) (b ∷ answers) new run =
-    (run.0, run.1, run.2, run.3, run.4, runs_round refuses key (number + 1) _ lines answers new run.5)
-runs_round refuses key number old (line.Round ∷ lines) answers new run =
-    runs_round refuses key (number + 1) old lines answers new run
+    → n ≡ m → Runs refuses key n old lines answers new → Runs refuses key m old lines answers new
+renumbered refuses key n m old lines answers new same run =
+    subst (λ (k : ℕ). Runs refuses key k old lines answers new) same run
 
--- one more record with its answer
-pub runs_more : (refuses : Key → List FrameBlock → ℕ → Fault → Type 0) (key : Key) (number : ℕ)
+-- a run and then another one
+pub runs_append : (refuses : Key → List FrameBlock → ℕ → Fault → Type 0) (key : Key) (number : ℕ)
     (old : List (List LabelledBlock)) (lines : List Line) (answers : List Answer) (mid : List (List LabelledBlock))
-    (core : ℕ) (ask : Request) (a : Answer) (list : List LabelledBlock)
-    → Runs refuses key number old lines answers mid → a.line ≡ number + length lines → a.core ≡ core
-    → DeskStep refuses key (list_of mid core) ask a.reply list → IsHolding key (blocks_of list)
-    → Runs refuses key number old (lines ++ line.Ask core ask ∷ []) (answers ++ a ∷ []) (set mid core list)
+    (more : List Line) (others : List Answer) (new : List (List LabelledBlock))
+    → Runs refuses key number old lines answers mid
+    → Runs refuses key (number + length lines) mid more others new
+    → Runs refuses key number old (lines ++ more) (answers ++ others) new
 unfolding Runs
-runs_more refuses key number old [] [] mid core ask a list run n k step lawful =
-    (omega (arith, n), k, list, rw run step, lawful, rw run refl)
-runs_more refuses key number old [] (b ∷ answers) mid core ask a list run n k step lawful = absurd run
-runs_more refuses key number old (line.Ask m x ∷ lines) [] mid core ask a list run n k step lawful = absurd run
-runs_more refuses key number old (line.Ask m x ∷ lines) (b ∷ answers) mid core ask a list run n k step lawful =
-    (run.0, run.1, run.2, run.3, run.4, runs_more refuses key (number + 1) _ lines answers mid core ask a list run.5 (omega (arith, n)) k step lawful)
-runs_more refuses key number old (line.Round ∷ lines) answers mid core ask a list run n k step lawful =
-    runs_more refuses key (number + 1) old lines answers mid core ask a list run (omega (arith, n)) k step lawful
+runs_append refuses key number old [] [] mid more others new run next =
+    rw run (renumbered refuses key (number + 0) number mid more others new (omega arith) next)
+runs_append refuses key number old [] (b ∷ answers) mid more others new run next = absurd run
+runs_append refuses key number old (line.Ask m x ∷ lines) [] mid more others new run next = absurd run
+runs_append refuses key number old (line.Ask m x ∷ lines) (b ∷ answers) mid more others new run next = (
+  run.0,
+  run.1,
+  run.2,
+  run.3,
+  run.4,
+  runs_append refuses key (number + 1) _ lines answers mid more others new run.5
+      (renumbered refuses key _ (number + 1 + length lines) mid more others new (omega arith) next),
+)
+runs_append refuses key number old (line.Move m l to ∷ lines) [] mid more others new run next = absurd run
+runs_append refuses key number old (line.Move m l to ∷ lines) (b ∷ answers) mid more others new run next = (
+  run.0,
+  run.1,
+  run.2,
+  run.3,
+  run.4,
+  run.5,
+  runs_append refuses key (number + 1) _ lines answers mid more others new run.6
+      (renumbered refuses key _ (number + 1 + length lines) mid more others new (omega arith) next),
+)
+runs_append refuses key number old (line.Round ∷ lines) answers mid more others new run next =
+    runs_append refuses key (number + 1) old lines answers mid more others new run
+    (renumbered refuses key _ (number + 1 + length lines) mid more others new (omega arith) next)
+runs_append refuses key number old (line.Reserve f n ∷ lines) answers mid more others new run next =
+    runs_append refuses key (number + 1) old lines answers mid more others new run
+    (renumbered refuses key _ (number + 1 + length lines) mid more others new (omega arith) next)
 
 -- a take that is refused only where it must be is one that may be refused
 may_here : (key : Key) (old : List LabelledBlock) (label : List ℕ) (order : ℕ)
@@ -105,7 +120,12 @@ may_runs key number old [] (b ∷ answers) new run = absurd run
 may_runs key number old (line.Ask m x ∷ lines) [] new run = absurd run
 may_runs key number old (line.Ask m x ∷ lines) (b ∷ answers) new run =
     (run.0, run.1, run.2, may_step key (list_of old m) x b.reply run.2 run.3, run.4, may_runs key (number + 1) _ lines answers new run.5)
+may_runs key number old (line.Move m l to ∷ lines) [] new run = absurd run
+may_runs key number old (line.Move m l to ∷ lines) (b ∷ answers) new run =
+    (run.0, run.1, run.2, run.3, run.4, run.5, may_runs key (number + 1) _ lines answers new run.6)
 may_runs key number old (line.Round ∷ lines) answers new run = may_runs key (number + 1) old lines answers new run
+may_runs key number old (line.Reserve f n ∷ lines) answers new run =
+    may_runs key (number + 1) old lines answers new run
 
 -- One core.
 
@@ -122,6 +142,38 @@ none_in_others (suc n) = none_in_others n
 
 pub blocks_of_one : (list : List LabelledBlock) (n : ℕ) → all_blocks (list ∷ replicate n []) ≡ blocks_of list
 blocks_of_one list n = rw (none_in_others n, append-nil) refl
+
+-- a request of the first core
+pub asked : (refuses : Key → List FrameBlock → ℕ → Fault → Type 0) (key : Key) (number core : ℕ)
+    (old new : List LabelledBlock) (ask : Request) (a : Answer) (others : List (List LabelledBlock))
+    → core + 1 ≤ 1 → a.line ≡ number → a.core ≡ 0
+    → IsHolding key (blocks_of old) → DeskStep refuses key old ask a.reply new
+    → Runs refuses key number (old ∷ others) (line.Ask core ask ∷ []) (a ∷ []) (new ∷ others)
+unfolding Runs
+asked refuses key number zero old new ask a others first n k lawful step =
+    (n, k, new, step, step_lawful refuses key old ask a.reply new lawful step, refl)
+asked refuses key number (suc core) old new ask a others first n k lawful step = absurd (omega arith)
+
+-- a move of the first core to itself
+pub moved : (refuses : Key → List FrameBlock → ℕ → Fault → Type 0) (key : Key) (number core : ℕ)
+    (label : List ℕ) (to : ℕ) (old new : List LabelledBlock) (a : Answer) (others : List (List LabelledBlock))
+    → max core to + 1 ≤ 1 → a.line ≡ number → a.core ≡ 0
+    → IsHolding key (blocks_of new) → Moves (old ∷ others) 0 label 0 a.reply (new ∷ others)
+    → Runs refuses key number (old ∷ others) (line.Move core label to ∷ []) (a ∷ []) (new ∷ others)
+unfolding Runs
+moved refuses key number zero label zero old new a others first n k lawful step =
+    (n, k, new ∷ others, step, lawful, lawful, refl)
+moved refuses key number (suc core) label to old new a others first n k lawful step = absurd (omega arith)
+moved refuses key number zero label (suc to) old new a others first n k lawful step = absurd (omega arith)
+
+-- a record without an answer
+pub unanswered : (refuses : Key → List FrameBlock → ℕ → Fault → Type 0) (key : Key) (number : ℕ)
+    (lists : List (List LabelledBlock)) (l : Line)
+    → (l ≡ line.Round) ⊎ ((frame : ℕ) × (count : ℕ) × (l ≡ line.Reserve frame count))
+    → Runs refuses key number lists (l ∷ []) [] lists
+unfolding Runs
+unanswered refuses key number lists l (inl e) = rw e refl
+unanswered refuses key number lists l (inr e) = rw e.2 refl
 
 -- nothing is a holding
 pub none_lawful : (key : Key) → IsHolding key []

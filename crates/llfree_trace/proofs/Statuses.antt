@@ -1,12 +1,13 @@
 -- Why a command that is served was refused.
-use Rattle.std.proofs.Common.{◌≡◌, ℕ, List, Option, Some, None, refl, sym, subst, IfSome, IsErr, Err}
+use Rattle.std.proofs.Common.{◌≡◌, inl, inr, ℕ, List, Option, Some, None, refl, sym, subst, IfSome, IsErr, Err}
 use Rattle.std.specs.Prelude.{IsSomeAnd}
 use Rattle.frame_words.specs.declared.fault.Fault.{Fault}
 use Rattle.frame_words.specs.declared.fault.Fault.TheVariants as fault
+use Rattle.frame_words.specs.declared.geometry.Geometry.{Geometry}
 use Rattle.frame_image.specs.ImageText.{image_of}
 use Rattle.llfree_trace.specs.ImageStreams.{IsImageFault}
-use Rattle.llfree_trace.specs.Program.{AreLawful, AreServed, CanDo, Does, EndsCommand, IsUnlawful, MustWait}
-use Rattle.llfree_trace.specs.Streams.{IsRunFault}
+use Rattle.llfree_trace.specs.Program.{AreLawful, AreServed, CanDo, Does, EndsCommand, IsOfSizes, IsRefused, IsUnlawful, MustWait}
+use Rattle.llfree_trace.specs.Streams.{HasBadRanges, IsRunFault}
 use Rattle.llfree_trace.specs.TraceText.{trace_of}
 use Rattle.llfree_trace.specs.declared.command.Command.{Command}
 use Rattle.llfree_trace.specs.declared.command.Command.TheVariants as command
@@ -15,10 +16,16 @@ use Rattle.llfree_trace.specs.declared.program.Failure.TheVariants as failure
 use Rattle.llfree_trace.specs.declared.streams.Show.{Show}
 
 -- a record is refused only in a text that is no trace
-refused_trace : (o : Option (List ℕ)) (line : ℕ) → IfSome o (λ text. trace_of 1 text ≡ Err line)
-    → IfSome o (λ text. IsErr (trace_of 1 text))
-refused_trace None line h = tt
-refused_trace (Some text) line h = rw h refl
+refused_trace : (sizes : Sizes) (show : Show) (g : Geometry) (o : Option (List ℕ)) (line : ℕ) → IsOfSizes sizes g
+    → IfSome o (λ text. trace_of g.cores text ≡ Err line) → IfSome o (IsRefused (command.Run sizes show))
+refused_trace sizes show g None line has h = tt
+refused_trace sizes show g (Some text) line has h = (g, has, inl (rw h refl))
+
+-- or in one whose ranges may not be held back
+refused_ranges : (sizes : Sizes) (show : Show) (g : Geometry) (o : Option (List ℕ)) → IsOfSizes sizes g
+    → IfSome o (HasBadRanges g) → IfSome o (IsRefused (command.Run sizes show))
+refused_ranges sizes show g None has h = tt
+refused_ranges sizes show g (Some text) has h = (g, has, inr h)
 
 -- and only in one that is no image
 refused_image : (o : Option (List ℕ)) (line : ℕ) → IfSome o (λ text. image_of text ≡ Err line)
@@ -27,22 +34,28 @@ refused_image None line h = tt
 refused_image (Some text) line h = rw h refl
 
 -- each fault of a run says why it ended
-run_of : (sizes : Sizes) (show : Show) (input : Option (List ℕ)) (f : Fault) → AreLawful sizes
-    → AreServed sizes → IsRunFault f
-    → ((line : ℕ) → f ≡ fault.BadTrace line → IfSome input (λ text. trace_of 1 text ≡ Err line))
+run_of : (sizes : Sizes) (show : Show) (g : Geometry) (input : Option (List ℕ)) (f : Fault) → AreLawful sizes
+    → AreServed sizes → IsOfSizes sizes g → IsRunFault f
+    → ((line : ℕ) → f ≡ fault.BadTrace line → IfSome input (λ text. trace_of g.cores text ≡ Err line))
+    → (f ≡ fault.BadRange → IfSome input (HasBadRanges g))
     → EndsCommand (command.Run sizes show) input (failure.Refused f)
-run_of sizes show input fault.NoMemory lawful served is bad = (lawful, served)
-run_of sizes show input (fault.BadTrace line) lawful served is bad = ((lawful, served), refused_trace input line (bad line refl))
-run_of sizes show input fault.ReadFailed lawful served is bad = (lawful, served)
-run_of sizes show input fault.WriteFailed lawful served is bad = (lawful, served)
-run_of sizes show input f lawful served is bad = absurd is
+run_of sizes show g input fault.NoMemory lawful served has is bad range = (lawful, served)
+run_of sizes show g input (fault.BadTrace line) lawful served has is bad range =
+    ((lawful, served), refused_trace sizes show g input line has (bad line refl))
+run_of sizes show g input fault.BadRange lawful served has is bad range =
+    inr ((lawful, served), refused_ranges sizes show g input has (range refl))
+run_of sizes show g input fault.ReadFailed lawful served has is bad range = (lawful, served)
+run_of sizes show g input fault.WriteFailed lawful served has is bad range = (lawful, served)
+run_of sizes show g input f lawful served has is bad range = absurd is
 
-pub run_ends : (c : Command) (sizes : Sizes) (show : Show) (input : Option (List ℕ)) (f : Fault)
-    → c ≡ command.Run sizes show → AreLawful sizes → AreServed sizes → IsRunFault f
-    → ((line : ℕ) → f ≡ fault.BadTrace line → IfSome input (λ text. trace_of 1 text ≡ Err line))
+pub run_ends : (c : Command) (sizes : Sizes) (show : Show) (g : Geometry) (input : Option (List ℕ)) (f : Fault)
+    → c ≡ command.Run sizes show → AreLawful sizes → AreServed sizes → IsOfSizes sizes g → IsRunFault f
+    → ((line : ℕ) → f ≡ fault.BadTrace line → IfSome input (λ text. trace_of g.cores text ≡ Err line))
+    → (f ≡ fault.BadRange → IfSome input (HasBadRanges g))
     → EndsCommand c input (failure.Refused f)
-run_ends c sizes show input f e lawful served is bad =
-    subst (λ (k : Command). EndsCommand k input (failure.Refused f)) (sym e) (run_of sizes show input f lawful served is bad)
+run_ends c sizes show g input f e lawful served has is bad range =
+    subst (λ (k : Command). EndsCommand k input (failure.Refused f)) (sym e)
+    (run_of sizes show g input f lawful served has is bad range)
 
 -- and each of rebuilding
 rebuild_of : (input : Option (List ℕ)) (f : Fault) → IsImageFault f

@@ -1,19 +1,50 @@
 -- The list of one core beside the allocator that its blocks came from.
-use Rattle.std.specs.Prelude.{ℕ, ◌≡◌, List, []}
+use Rattle.std.specs.Prelude.{ℕ, ◌≡◌, List, [], ◌∷◌, Option}
 use Rattle.std.specs.List.{sum_by}
+use Rattle.std.specs.Option.{option_to_list}
 use Rattle.core_frames.specs.PlainState.{PlainState}
+use Rattle.frame_core.specs.Holding.{IsHolding}
+use Rattle.frame_core.specs.Key.{sealed_key}
 use Rattle.frame_model.specs.declared.block.FrameBlock.{FrameBlock}
+use Rattle.frame_model.specs.declared.key.Key.{Key}
 use Rattle.frame_words.specs.declared.geometry.Geometry.{Geometry}
 use Rattle.held_blocks.specs.Desk.{blocks_of}
 use Rattle.held_blocks.specs.declared.labelled_block.LabelledBlock.{LabelledBlock}
+use Rattle.llfree_trace.specs.Outcome.{Moves, MustRefuseHere, Runs}
+use Rattle.llfree_trace.specs.declared.line.Line.{Line}
+use Rattle.llfree_trace.specs.declared.reply.Answer.{Answer}
+use Rattle.llfree_trace.specs.declared.reply.Reply.{Reply}
 
--- a memory, and the list of what its one core holds
+-- a memory, the ranges that its opening held back, and the list of what its one core holds
 pub record DeskState : Type 0 where
   pub geometry : Geometry
+  pub ranges : List (ℕ × ℕ)
   pub list : List LabelledBlock
 
--- the memory holds no range back, and exactly the blocks of the list are out
-pub record Agrees (allocator : PlainState) (held : List LabelledBlock) : Type 0 where
-  pub no_ranges : allocator.ranges ≡ []
+-- the key of the memory
+abbrev pub desk_key : DeskState → Key
+desk_key desk = sealed_key desk.geometry desk.ranges
+
+-- the blocks of the list lie inside the memory, and no two of them share a frame
+abbrev pub IsLawful : DeskState → Type 0
+IsLawful desk = IsHolding (desk_key desk) (blocks_of desk.list)
+
+-- the memory and its ranges are the same
+abbrev pub IsSameMemory : DeskState → DeskState → Type 0
+IsSameMemory old new = (new.geometry ≡ old.geometry) × (new.ranges ≡ old.ranges)
+
+-- exactly the blocks of the list are out
+pub record HasOut (allocator : PlainState) (held : List LabelledBlock) : Type 0 where
   pub none_kept : allocator.kept ≡ []
   pub out : (f : FrameBlock → ℕ) → sum_by f (blocks_of held) ≡ sum_by f allocator.out
+
+-- a move of the oldest block under a label from the first core to itself, whatever the others hold
+abbrev pub MovesToEnd : List LabelledBlock → List ℕ → Reply → List LabelledBlock → Type 0
+MovesToEnd old label r new =
+    (others : List (List LabelledBlock)) → Moves (old ∷ others) 0 label 0 r (new ∷ others)
+
+-- a run of one record on the first core, whatever the others hold
+abbrev pub RunsOne : DeskState → ℕ → Line → Option Answer → DeskState → Type 0
+RunsOne old number line answer new =
+    (others : List (List LabelledBlock)) → Runs MustRefuseHere (desk_key old) number
+    (old.list ∷ others) (line ∷ []) (option_to_list answer) (new.list ∷ others)

@@ -2,6 +2,7 @@ pub mod Trace
 pub mod TraceText
 pub mod AnswerText
 pub mod Outcome
+pub mod Rounds
 pub mod Desk
 pub mod Streams
 pub mod Program

@@ -3,16 +3,19 @@ use Rattle.std.specs.Prelude.{ℕ, ◌+◌, ◌≡◌, ◌<◌, List, [], ◌∷
 use Rattle.std.specs.Prelude.{slice_index_or, slice_set, Result, Ok, Err}
 use Rattle.std.specs.List.{flat_map}
 use Rattle.held_blocks.specs.Desk.{blocks_of, MustRefuse, TakesUnder, GivesOldest, GivesExactly}
+use Rattle.held_blocks.specs.LabelledBlocks.{HasNone, IsUnder, TakesFirst}
 use Rattle.held_blocks.specs.declared.labelled_block.LabelledBlock.{LabelledBlock}
 use Rattle.frame_core.specs.Block.{block}
 use Rattle.frame_core.specs.Holding.{IsFreeBlock, IsHolding, holders}
 use Rattle.frame_core.specs.View.{boot_blocks}
-use Rattle.frame_core.specs.Image.{Contents, key_in}
-use Rattle.frame_core.specs.Key.{frame_count}
+use Rattle.frame_core.specs.Image.{Contents}
+use Rattle.frame_core.specs.Key.{frame_count, sealed_key}
 use Rattle.frame_core.specs.Report.{held_at}
 use Rattle.frame_model.specs.declared.block.FrameBlock.{FrameBlock}
 use Rattle.frame_model.specs.declared.key.Key.{Key}
 use Rattle.frame_words.specs.declared.fault.Fault.{Fault}
+use Rattle.frame_words.specs.declared.fault.Fault.TheVariants as fault
+use Rattle.llfree_trace.specs.Trace.{ranges_in}
 use Rattle.llfree_trace.specs.declared.line.Line.{Line}
 use Rattle.llfree_trace.specs.declared.line.Line.TheVariants as line
 use Rattle.llfree_trace.specs.declared.line.Request.{Request}
@@ -30,6 +33,10 @@ all_blocks lists = flat_map blocks_of lists
 -- the list of a core
 abbrev pub list_of : List (List LabelledBlock) → ℕ → List LabelledBlock
 list_of lists core = slice_index_or lists core []
+
+-- the lists with one more entry at the end of a core's list
+abbrev pub put_last : List (List LabelledBlock) → ℕ → LabelledBlock → List (List LabelledBlock)
+put_last lists core entry = slice_set lists core (list_of lists core ++ entry ∷ [])
 
 -- Steps of one core's list.
 
@@ -64,11 +71,34 @@ DeskStep refuses key old (request.Give label) r new =
 DeskStep refuses key old (request.GiveAt frame order) r new =
     SaysGiven (λ o. GivesExactly old frame order o new) r
 
+-- Moves between two cores' lists, or inside one.
+
+-- the oldest entry under the label, which has this block, leaves the core's list and goes last in
+-- the other's
+pub record MovesOldest (old : List (List LabelledBlock)) (core : ℕ) (label : List ℕ) (to : ℕ)
+    (b : FrameBlock) (new : List (List LabelledBlock)) : Type 0 where
+  pub entry : LabelledBlock
+  pub left : List LabelledBlock
+  pub is_block : entry.block ≡ b
+  pub leaves : TakesFirst (IsUnder label) (list_of old core) entry left
+  pub goes_last : new ≡ put_last (slice_set old core left) to entry
+
+-- what a move of the oldest block under a label answers, and the lists afterwards; where there is
+-- none, none is held under the label
+unfoldable pub Moves :
+    List (List LabelledBlock) → ℕ → List ℕ → ℕ → Reply → List (List LabelledBlock) → Type 0
+Moves old core label to (reply.Moved frame order) new =
+    MovesOldest old core label to (block frame order) new
+Moves old core label to (reply.Refused fault.NotHeld) new =
+    HasNone (IsUnder label) (list_of old core) × (new ≡ old)
+Moves old core label to _ new = ⊥
+
 -- Runs.
 
 -- the records, the first of which has this number, are answered one after another; each answer has
--- its record's number and core, and is a step of that core's list, whose blocks stay disjoint; the
--- end of a round has no answer
+-- its record's number and core; to a request it is a step of that core's list, to a move one of the
+-- lists of both its cores, and the blocks of each of these lists stay disjoint; the end of a round
+-- and a range that is held back have no answer
 unfoldable pub Runs : (Key → List FrameBlock → ℕ → Fault → Type 0) → Key → ℕ
     → List (List LabelledBlock) → List Line → List Answer → List (List LabelledBlock) → Type 0
 Runs refuses key number old [] [] new = old ≡ new
@@ -77,7 +107,14 @@ Runs refuses key number old (line.Ask core request ∷ lines) (a ∷ answers) ne
     × (list : List LabelledBlock) × DeskStep refuses key (list_of old core) request a.reply list
     × IsHolding key (blocks_of list)
     × Runs refuses key (number + 1) (slice_set old core list) lines answers new
+Runs refuses key number old (line.Move core label to ∷ lines) (a ∷ answers) new =
+    (a.line ≡ number) × (a.core ≡ core)
+    × (lists : List (List LabelledBlock)) × Moves old core label to a.reply lists
+    × IsHolding key (blocks_of (list_of lists core)) × IsHolding key (blocks_of (list_of lists to))
+    × Runs refuses key (number + 1) lists lines answers new
 Runs refuses key number old (line.Round ∷ lines) answers new =
+    Runs refuses key (number + 1) old lines answers new
+Runs refuses key number old (line.Reserve frame count ∷ lines) answers new =
     Runs refuses key (number + 1) old lines answers new
 Runs refuses key number old _ _ new = ⊥
 
@@ -86,13 +123,18 @@ abbrev pub HoldsFrames : Key → List ℕ → List FrameBlock → Type 0
 HoldsFrames key words blocks =
     (x : ℕ) → x < frame_count key → held_at key words x ≡ holders x blocks
 
+-- the key of the memory that a run leaves: its opening held back the ranges of the records
+abbrev pub key_under : List Line → Contents → Key
+key_under lines image = sealed_key image.geometry (ranges_in lines)
+
 -- the answers are a run of the records from empty lists, one for each core; at the end no two blocks
 -- of all lists share a frame, and the image's held frames are exactly those of the lists and those
--- that nobody is ever given
+-- that nobody is ever given, past the end and in the ranges of the records
 pub record IsAnsweredBy (refuses : Key → List FrameBlock → ℕ → Fault → Type 0) (lines : List Line)
     (answers : List Answer) (image : Contents) : Type 0 where
   pub lists : List (List LabelledBlock)
-  pub runs : Runs refuses (key_in image) 1 (replicate image.geometry.cores []) lines answers lists
-  pub disjoint : IsHolding (key_in image) (all_blocks lists)
-  pub holds : HoldsFrames (key_in image) image.words
-      (all_blocks lists ++ boot_blocks (key_in image))
+  pub runs :
+      Runs refuses (key_under lines image) 1 (replicate image.geometry.cores []) lines answers lists
+  pub disjoint : IsHolding (key_under lines image) (all_blocks lists)
+  pub holds : HoldsFrames (key_under lines image) image.words
+      (all_blocks lists ++ boot_blocks (key_under lines image))

@@ -1,5 +1,5 @@
 -- What a command does, why it ends without a result, and the status of the program.
-use Rattle.std.specs.Prelude.{ℕ, ◌≡◌, ◌*◌, List, Option, unwrap_or, IfSome, IsSomeAnd, IsErr}
+use Rattle.std.specs.Prelude.{ℕ, ◌≡◌, ◌⊎◌, ◌*◌, List, Option, unwrap_or, IfSome, IsSomeAnd, IsErr}
 use Rattle.frame_image.specs.ImageText.{image_of}
 use Rattle.frame_words.specs.Geometry.{IsWithinLimits, EndsInLastChild, child_frames}
 use Rattle.frame_words.specs.declared.fault.Fault.{Fault}
@@ -7,7 +7,7 @@ use Rattle.frame_words.specs.declared.fault.Fault.TheVariants as fault
 use Rattle.frame_words.specs.declared.geometry.Geometry.{Geometry}
 use Rattle.llfree_trace.specs.Command.{command_of}
 use Rattle.llfree_trace.specs.ImageStreams.{IsRebuiltText, IsReportText, WritesSo, WritesFrontSo}
-use Rattle.llfree_trace.specs.Streams.{WritesFrontOfRun, WritesRun}
+use Rattle.llfree_trace.specs.Streams.{HasBadRanges, WritesFrontOfRun, WritesRun}
 use Rattle.llfree_trace.specs.TraceText.{trace_of}
 use Rattle.llfree_trace.specs.declared.command.Command.{Command}
 use Rattle.llfree_trace.specs.declared.command.Command.TheVariants as command
@@ -29,7 +29,7 @@ abbrev pub frames_of : Sizes → ℕ
 frames_of sizes = unwrap_or sizes.frames (child_frames * sizes.children)
 
 -- the geometry has these sizes
-pub record HasSizes (sizes : Sizes) (g : Geometry) : Type 0 where
+pub record IsOfSizes (sizes : Sizes) (g : Geometry) : Type 0 where
   pub children : g.children ≡ sizes.children
   pub cores : g.cores ≡ sizes.cores
   pub frames : g.frames ≡ frames_of sizes
@@ -53,7 +53,7 @@ CanDo _ = Unit {0}
 -- the known bytes grow by what the command makes of the input
 unfoldable pub Does : Command → Option (List ℕ) → Option (List ℕ) → Option (List ℕ) → Type 0
 Does (command.Run sizes show) input old new =
-    (g : Geometry) × HasSizes sizes g × CanDo (command.Run sizes show)
+    (g : Geometry) × IsOfSizes sizes g × CanDo (command.Run sizes show)
     × IfSome input (λ text. WritesRun g show text old new)
 Does command.Rebuild input old new = IfSome input (λ text. WritesSo IsRebuiltText text old new)
 Does command.Report input old new = IfSome input (λ text. WritesSo IsReportText text old new)
@@ -61,7 +61,7 @@ Does command.Report input old new = IfSome input (λ text. WritesSo IsReportText
 -- the known bytes grow by a front of that
 unfoldable pub DoesFront : Command → Option (List ℕ) → Option (List ℕ) → Option (List ℕ) → Type 0
 DoesFront (command.Run sizes show) input old new =
-    (g : Geometry) × HasSizes sizes g × CanDo (command.Run sizes show)
+    (g : Geometry) × IsOfSizes sizes g × CanDo (command.Run sizes show)
     × IfSome input (λ text. WritesFrontOfRun g show text old new)
 DoesFront command.Rebuild input old new =
     IfSome input (λ text. WritesFrontSo IsRebuiltText text old new)
@@ -78,9 +78,13 @@ abbrev pub IsUnlawful : Command → Type 0
 IsUnlawful (command.Run sizes show) = ¬ AreLawful sizes
 IsUnlawful _ = ⊥
 
--- the command reads a trace or an image, and the text is none
+-- the text is no trace for the cores of a geometry, or one whose ranges may not be held back
+abbrev pub IsUnrunnable : Geometry → List ℕ → Type 0
+IsUnrunnable g text = IsErr (trace_of g.cores text) ⊎ HasBadRanges g text
+
+-- the command reads a trace or an image, and the text is none that it can run or show
 abbrev pub IsRefused : Command → List ℕ → Type 0
-IsRefused (command.Run sizes show) text = IsErr (trace_of 1 text)
+IsRefused (command.Run sizes show) text = (g : Geometry) × IsOfSizes sizes g × IsUnrunnable g text
 IsRefused _ text = IsErr (image_of text)
 
 -- Command lines.
@@ -122,7 +126,8 @@ EndsSizes sizes (failure.Refused _) = ⊥
 abbrev pub EndsCommand : Command → Option (List ℕ) → Failure → Type 0
 EndsCommand c input failure.Usage = MustWait c
 EndsCommand c input (failure.Refused fault.BadGeometry) = IsUnlawful c
-EndsCommand c input (failure.Refused fault.BadRange) = IsUnlawful c
+EndsCommand c input (failure.Refused fault.BadRange) =
+    IsUnlawful c ⊎ (CanDo c × IfSome input (IsRefused c))
 EndsCommand c input (failure.Refused (fault.BadTrace line)) = CanDo c × IfSome input (IsRefused c)
 EndsCommand c input (failure.Refused (fault.BadImage line)) = CanDo c × IfSome input (IsRefused c)
 EndsCommand c input (failure.Refused fault.NoMemory) = CanDo c

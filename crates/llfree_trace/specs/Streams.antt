@@ -1,5 +1,6 @@
 -- What a run from a reader to a writer writes.
 use Rattle.std.specs.Prelude.{ℕ, ◌≡◌, ◌<◌, List, length, Option, Ok, IsSomeAnd}
+use Rattle.core_frames.specs.Ranges.{MayHoldBack}
 use Rattle.std.specs.Io.KnownBytes.{Appends}
 use Rattle.frame_core.specs.Image.{Contents, key_in}
 use Rattle.frame_core.specs.Report.{free_frames, held_frames}
@@ -12,7 +13,8 @@ use Rattle.frame_words.specs.declared.geometry.Geometry.{Geometry}
 use Rattle.llfree_trace.specs.AnswerText.{answers_of}
 use Rattle.held_blocks.specs.Desk.{MayRefuse}
 use Rattle.llfree_trace.specs.Outcome.{IsAnsweredBy, MustRefuseHere}
-use Rattle.llfree_trace.specs.TraceText.{trace_of}
+use Rattle.llfree_trace.specs.Trace.{ranges_in}
+use Rattle.llfree_trace.specs.TraceText.{ExplainsTrace, trace_of}
 use Rattle.llfree_trace.specs.declared.line.Line.{Line}
 use Rattle.llfree_trace.specs.declared.reply.Answer.{Answer}
 use Rattle.llfree_trace.specs.declared.streams.Show.{Show}
@@ -29,14 +31,15 @@ abbrev pub shown_of : Show → List Answer → Contents → List ℕ
 shown_of show.Answers answers image = outcome_answers answers image
 shown_of show.Picture answers image = picture_of (drawn image)
 
--- the bytes show an outcome that fits what the text says as a trace; a take is refused in it only
--- where no block of its order is free
+-- the bytes show an outcome that fits what the text says as a trace, whose ranges may be held back; a
+-- take is refused in it only where no block of its order is free
 pub record IsRunOf (geometry : Geometry) (show : Show) (text out : List ℕ) : Type 0 where
   pub lines : List Line
   pub answers : List Answer
   pub image : Contents
   pub says : trace_of geometry.cores text ≡ Ok lines
   pub of : image.geometry ≡ geometry
+  pub ranges : MayHoldBack geometry (ranges_in lines)
   pub fits : IsAnsweredBy MayRefuse lines answers image
   pub exact : IsAnsweredBy MustRefuseHere lines answers image
   pub spells : out ≡ shown_of show answers image
@@ -55,10 +58,22 @@ WritesFrontOfRun geometry show text old new =
 abbrev pub IsTooLong : Option (List ℕ) → Type 0
 IsTooLong input = IsSomeAnd input (λ text. MOST_BYTES < length text)
 
+-- the text says a trace whose ranges may not be held back
+pub record HasBadRanges (geometry : Geometry) (text : List ℕ) : Type 0 where
+  pub lines : List Line
+  pub says : trace_of geometry.cores text ≡ Ok lines
+  pub unlawful : ¬ MayHoldBack geometry (ranges_in lines)
+
+-- why a trace was not run: the text says none, or its ranges may not be held back
+abbrev pub ExplainsRun : Geometry → List ℕ → Fault → Type 0
+ExplainsRun geometry text fault.BadRange = HasBadRanges geometry text
+ExplainsRun geometry text f = ExplainsTrace f (trace_of geometry.cores text)
+
 -- the faults of a run from a reader to a writer
 abbrev pub IsRunFault : Fault → Type 0
 IsRunFault fault.NoMemory = Unit {0}
 IsRunFault (fault.BadTrace line) = Unit {0}
+IsRunFault fault.BadRange = Unit {0}
 IsRunFault fault.ReadFailed = Unit {0}
 IsRunFault fault.WriteFailed = Unit {0}
 IsRunFault _ = ⊥

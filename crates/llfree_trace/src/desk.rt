@@ -1,10 +1,12 @@
 //! The one core of a run on one thread: an allocator, and the list of the blocks taken from it.
 
 ghost use Rattle.std.specs.Prelude.{◌≡◌, ◌≤◌, ◌<◌, ◌∷◌, ◌++◌, [], IfErr, IfOk, Contains, IsPermutation};
-ghost use Rattle.frame_core.specs.Key.{key_of};
+ghost use Rattle.core_frames.specs.Ranges.{IsUnopenedFor, MayHoldBack};
+ghost use Rattle.llfree_trace.specs.Desk.{desk_key, IsLawful, IsSameMemory, MovesToEnd, RunsOne};
+ghost use Rattle.llfree_trace.specs.Trace.{cores_in};
 
-use crate::line::Request;
-use crate::reply::Reply;
+use crate::line::{Line, Request};
+use crate::reply::{Answer, Reply};
 use core_frames::{Label, LabelledBlock, LabelledBlocks, PlainAllocator};
 use frame_core::{HeldBlock, Image};
 use frame_words::{Fault, Geometry, HUGE_ORDER};
@@ -19,13 +21,17 @@ pub(crate) struct PlainDesk {
 }
 
 impl Model for PlainDesk {
-    ghost use Rattle.llfree_trace.specs.Desk.{Agrees, DeskState};
+    ghost use Rattle.llfree_trace.specs.Desk.{HasOut, DeskState};
 
     ghost Value = { DeskState };
 
-    ghost view = { λ d. record { geometry = d.allocator.geometry; list = d.list.entries } };
+    ghost view = { λ d. record {
+      geometry = d.allocator.geometry;
+      ranges = d.allocator.ranges;
+      list = d.list.entries;
+    } };
 
-    ghost invariant = { λ d. Agrees d.allocator d.list.entries };
+    ghost invariant = { λ d. HasOut d.allocator d.list.entries };
 }
 
 impl PlainDesk {
@@ -35,25 +41,52 @@ impl PlainDesk {
     ghost use Rattle.llfree_trace.specs.Outcome.{DeskStep, HoldsFrames, SaysGiven, SaysTaken};
     ghost use Rattle.llfree_trace.specs.Outcome.{LeavesBootFrames, MustRefuseHere};
 
-    // A memory of which nothing is held but what lies past its end.
-    pub(crate) fn open(alloc: Global, geometry: Geometry) -> Result<PlainDesk, Fault>
-        ensures geometry { IfOk result (λ d. d.geometry ≡ geometry) }
+    // A memory of which nothing is held but what lies past its end and in the ranges.
+    pub(crate) fn open(
+        alloc: Global,
+        geometry: Geometry,
+        ranges: &[(u32, u32)],
+    ) -> Result<PlainDesk, Fault>
+        ensures geometry { IfOk result (λ d. (d.geometry ≡ geometry) × (d.ranges ≡ ranges.now)) }
         ensures empty { IfOk result (λ d. d.list ≡ []) }
-        ensures fault { IfErr result (λ e. e ≡ Fault.NoMemory) }
+        ensures lawful { IfOk result (λ d. MayHoldBack geometry ranges.now) }
+        ensures refused { IfErr result (IsUnopenedFor geometry ranges.now) }
     {
-        let allocator = PlainAllocator::open(alloc, geometry)?;
+        let allocator = PlainAllocator::open_with(alloc, geometry, ranges)?;
         Ok(PlainDesk {
             allocator,
             list: LabelledBlocks::new(alloc),
         })
     }
 
+    // Runs a record, and gives the answer to it, if there is one.
+    pub(crate) fn run(&mut self, number: u32, line: &Line) -> Result<Option<Answer>, Fault>
+        requires core { cores_in line.now ≤ 1 }
+        requires lawful { IsLawful self.old }
+        ensures run { IfOk result (λ a. RunsOne self.old number line.now a self.new) }
+        ensures lawful { IfOk result (λ _. IsLawful self.new) }
+        ensures memory { IsSameMemory self.old self.new }
+        ensures fault { IfErr result (λ e. e ≡ Fault.NoMemory) }
+    {
+        match line {
+            Line::Ask { request, .. } => {
+                let reply = self.answer(request)?;
+                Ok(Some(answer_to(number, reply)))
+            }
+            Line::Move { label, .. } => {
+                let reply = self.move_to_end(label)?;
+                Ok(Some(answer_to(number, reply)))
+            }
+            Line::Round | Line::Reserve { .. } => Ok(None),
+        }
+    }
+
     // Answers a request.
     #[tactic(auto, unfolding(crate::specs::Outcome::DeskStep))]
-    pub(crate) fn answer(&mut self, request: &Request) -> Result<Reply, Fault>
-        ensures step { IfOk result (λ r. DeskStep MustRefuseHere (key_of self.old.geometry)
+    fn answer(&mut self, request: &Request) -> Result<Reply, Fault>
+        ensures step { IfOk result (λ r. DeskStep MustRefuseHere (desk_key self.old)
             self.old.list request.now r self.new.list) }
-        ensures geometry { self.new.geometry ≡ self.old.geometry }
+        ensures memory { IsSameMemory self.old self.new }
         ensures fault { IfErr result (λ e. e ≡ Fault.NoMemory) }
     {
         match request {
@@ -66,9 +99,9 @@ impl PlainDesk {
     // Takes a block. Want of memory is answered before the take.
     fn take(&mut self, label: &Label, order: u8) -> Result<Reply, Fault>
         ensures step { IfOk result (SaysTaken (λ o. TakesUnder MustRefuseHere
-            (key_of self.old.geometry) self.old.list label.now order o self.new.list
-            × LeavesBootFrames (key_of self.old.geometry) o)) }
-        ensures geometry { self.new.geometry ≡ self.old.geometry }
+            (desk_key self.old) self.old.list label.now order o self.new.list
+            × LeavesBootFrames (desk_key self.old) o)) }
+        ensures memory { IsSameMemory self.old self.new }
         ensures fault { IfErr result (λ e. e ≡ Fault.NoMemory) }
     {
         if order > HUGE_ORDER {
@@ -90,7 +123,7 @@ impl PlainDesk {
     fn give(&mut self, label: &Label) -> Reply
         ensures step { SaysGiven (λ o. GivesOldest self.old.list label.now o self.new.list)
             result }
-        ensures geometry { self.new.geometry ≡ self.old.geometry }
+        ensures memory { IsSameMemory self.old self.new }
     {
         match self.list.remove_oldest(label) {
             Some(held) => give_back(&mut self.allocator, held),
@@ -102,7 +135,7 @@ impl PlainDesk {
     fn give_at(&mut self, frame: u32, order: u8) -> Reply
         ensures step { SaysGiven (λ o. GivesExactly self.old.list frame order o self.new.list)
             result }
-        ensures geometry { self.new.geometry ≡ self.old.geometry }
+        ensures memory { IsSameMemory self.old self.new }
     {
         if order > HUGE_ORDER {
             return Reply::Refused(Fault::BadOrder);
@@ -113,17 +146,48 @@ impl PlainDesk {
         }
     }
 
+    // Moves the oldest block under a label to the end of the list. Want of memory is answered
+    // before the move.
+    fn move_to_end(&mut self, label: &Label) -> Result<Reply, Fault>
+        requires { IsLawful self.old }
+        ensures step { IfOk result (λ r. MovesToEnd self.old.list label.now r self.new.list) }
+        ensures lawful { IfOk result (λ _. IsLawful self.new) }
+        ensures memory { IsSameMemory self.old self.new }
+        ensures fault { IfErr result (λ e. e ≡ Fault.NoMemory) }
+    {
+        self.list.reserve(label)?;
+        let Some(held) = self.list.remove_oldest(label) else {
+            return Ok(Reply::Refused(Fault::NotHeld));
+        };
+        let reply = Reply::Moved(held.block.frame(), held.block.order());
+        self.list.add(held);
+        Ok(reply)
+    }
+
     // The words of the memory. Blocks of the list stay held.
     pub(crate) fn close(self, alloc: Global) -> Result<Image, Fault>
         ensures geometry { IfOk result (λ i. i.geometry ≡ self.geometry) }
-        ensures holds { IfOk result (λ i. HoldsFrames (key_of self.geometry) i.words
-            (blocks_of self.list ++ boot_blocks (key_of self.geometry))) }
+        ensures holds { IfOk result (λ i. HoldsFrames (desk_key self) i.words
+            (blocks_of self.list ++ boot_blocks (desk_key self))) }
         ensures fault { IfErr result (λ e. e ≡ Fault.NoMemory) }
     {
         match self.allocator.close(alloc) {
             Ok(image) => Ok(image),
             Err(_) => Err(Fault::NoMemory),
         }
+    }
+}
+
+// The answer of the one core to the record with this number.
+fn answer_to(number: u32, reply: Reply) -> Answer
+    ensures line { result.line ≡ number }
+    ensures core { result.core ≡ 0 }
+    ensures reply { result.reply ≡ reply }
+{
+    Answer {
+        line: number,
+        core: 0,
+        reply,
     }
 }
 

@@ -4,16 +4,26 @@
 mod answers;
 mod command;
 mod desk;
+mod gate;
 mod image_streams;
 mod line;
+mod lines;
+mod many_cores;
+mod merge;
 mod one_core;
 mod parser;
 mod program;
+mod progress;
 mod reply;
+mod rounds;
+mod seating;
 mod streams;
+mod transfers;
 
+pub use gate::{Gate, OpenGate};
 pub use image_streams::{rebuild_over, report_over};
 pub use line::{Line, Request, Trace};
+pub use many_cores::run_trace;
 pub use one_core::run_one;
 pub use parser::parse_trace;
 pub use program::run_program;

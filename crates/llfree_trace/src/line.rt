@@ -3,7 +3,7 @@
 ghost use Rattle.std.specs.Prelude.{◌≡◌, ◌≤◌, length};
 ghost use Rattle.frame_words.specs.Geometry.{most_cores};
 ghost use Rattle.llfree_trace.specs.Trace.{core_count, cores_in as the_cores_in};
-ghost use Rattle.llfree_trace.specs.Trace.{most_records};
+ghost use Rattle.llfree_trace.specs.Trace.{most_records, ranges_in};
 
 use core_frames::Label;
 use std::marker::Model;
@@ -20,38 +20,46 @@ pub enum Request {
 #[derive(Drop)]
 pub enum Line {
     Ask { core: u32, request: Request },
+    /// The oldest block under the label goes from the core's list to the end of the other's.
+    Move { core: u32, label: Label, to: u32 },
     /// The end of a round, which has no answer.
     Round,
+    /// So many frames from this one on are never given to anybody, which has no answer.
+    Reserve { frame: u32, count: u32 },
 }
 
 /// The records of a trace, in order: at most 1,000,000.
 #[derive(Drop)]
 pub struct Trace {
     lines: Vec<Line>,
+    // What the reserve records say.
+    ranges: Vec<(u32, u32)>,
 }
 
 impl Model for Trace {
-    ghost use Rattle.std.specs.Prelude.{List, ◌≤◌, length};
+    ghost use Rattle.std.specs.Prelude.{List, ◌≡◌, ◌≤◌, length};
     ghost use Rattle.llfree_trace.specs.declared.line.Line.{Line};
     ghost use Rattle.frame_words.specs.Geometry.{most_cores};
-    ghost use Rattle.llfree_trace.specs.Trace.{core_count, most_records};
+    ghost use Rattle.llfree_trace.specs.Trace.{core_count, most_records, ranges_in};
 
     ghost Value = { List Line };
 
     ghost view = { λ t. t.lines.items };
 
     ghost invariant = { λ t. (length t.lines.items ≤ most_records)
-        × (core_count t.lines.items ≤ most_cores) };
+        × (core_count t.lines.items ≤ most_cores)
+        × (t.ranges.items ≡ ranges_in t.lines.items) };
 }
 
 impl Trace {
-    // The trace of these records.
-    pub(crate) fn of(lines: Vec<Line>) -> Trace
+    // The trace of these records, beside the ranges that they hold back.
+    pub(crate) fn of(lines: Vec<Line>, ranges: Vec<(u32, u32)>) -> Trace
         requires few { length lines.items ≤ most_records }
         requires cores { core_count lines.items ≤ most_cores }
+        requires ranges { ranges.items ≡ ranges_in lines.items }
         ensures { result ≡ lines.items }
     {
-        Trace { lines }
+        Trace { lines, ranges }
     }
 
     /// The records, in order.
@@ -73,6 +81,14 @@ impl Trace {
         }
         count
     }
+
+    /// The ranges that the records hold back, in their order: the first frame of each, and how many
+    /// frames it has.
+    pub fn ranges(&self) -> &[(u32, u32)]
+        ensures { result.now ≡ ranges_in self.now }
+    {
+        self.ranges.as_slice()
+    }
 }
 
 // One more than the greatest core that a record names.
@@ -82,6 +98,7 @@ fn cores_in(line: &Line) -> u32
 {
     match line {
         Line::Ask { core, .. } => *core + 1,
-        Line::Round => 0,
+        Line::Move { core, to, .. } => (*core).max(*to) + 1,
+        Line::Round | Line::Reserve { .. } => 0,
     }
 }

@@ -1,41 +1,38 @@
 //! A run of a trace on one core, on the calling thread.
 
 ghost use Rattle.std.specs.Prelude.{◌≡◌, ◌≤◌, IfErr, IfOk};
+ghost use Rattle.core_frames.specs.Ranges.{IsUnopenedFor, MayHoldBack};
 ghost use Rattle.held_blocks.specs.Desk.{MayRefuse};
 ghost use Rattle.llfree_trace.specs.Outcome.{IsAnsweredBy, MustRefuseHere};
-ghost use Rattle.llfree_trace.specs.Trace.{core_count};
+ghost use Rattle.llfree_trace.specs.Trace.{core_count, ranges_in};
 
 use crate::desk::PlainDesk;
-use crate::line::{Line, Trace};
-use crate::reply::{Answer, Outcome};
+use crate::line::Trace;
+use crate::reply::Outcome;
 use frame_words::{Fault, Geometry};
 use std::alloc::Global;
 
 /// Runs a trace that names no core but 0.
 ///
-/// It waits for nobody. A take is refused only where no block of its order is free.
+/// It waits for nobody. A take is refused only where no block of its order is free. `BadRange`
+/// where the ranges of its records may not be held back, before anything is run.
 pub fn run_one(alloc: Global, geometry: Geometry, trace: &Trace) -> Result<Outcome, Fault>
     requires core { core_count trace.now ≤ 1 }
     ensures fits { IfOk result (λ o. IsAnsweredBy MayRefuse trace.now o.answers.items o.image) }
     ensures exact { IfOk result (λ o.
         IsAnsweredBy MustRefuseHere trace.now o.answers.items o.image) }
     ensures geometry { IfOk result (λ o. o.image.geometry ≡ geometry) }
-    ensures fault { IfErr result (λ e. e ≡ Fault.NoMemory) }
+    ensures lawful { IfOk result (λ o. MayHoldBack geometry (ranges_in trace.now)) }
+    ensures refused { IfErr result (IsUnopenedFor geometry (ranges_in trace.now)) }
 {
-    let mut desk = PlainDesk::open(alloc, geometry)?;
+    let mut desk = PlainDesk::open(alloc, geometry, trace.ranges())?;
     let mut answers = Vec::new(alloc);
     let mut number: u32 = 0;
     for line in trace.lines() {
         number += 1;
-        let Line::Ask { core, request } = line else {
-            continue;
-        };
-        let reply = desk.answer(request)?;
-        answers.push(Answer {
-            line: number,
-            core: *core,
-            reply,
-        })?;
+        if let Some(answer) = desk.run(number, line)? {
+            answers.push(answer)?;
+        }
     }
     let image = desk.close(alloc)?;
     Ok(Outcome { answers, image })

@@ -1,19 +1,20 @@
 //! How a text is read as a trace.
 
-ghost use Rattle.std.specs.Prelude.{◌≡◌, ◌≢◌, ◌<◌, ◌≤◌, ◌^◌, ◌∷◌, [], length};
-ghost use Rattle.std.specs.Prelude.{Some, IfErr, IfNone, IfOk, IfSome};
+ghost use Rattle.std.specs.Prelude.{◌≡◌, ◌≢◌, ◌<◌, ◌≤◌, ◌^◌, ◌∷◌, ◌++◌, [], length};
+ghost use Rattle.std.specs.Prelude.{Some, IfErr, IfNone, IfOk, IfSome, OnOk};
+ghost use Rattle.std.specs.Option.{option_copied};
 ghost use Rattle.csv.specs.Records.{field_at, fields_of};
 ghost use Rattle.frame_image.specs.Numbers.{number_below as the_number_below};
-ghost use Rattle.llfree_trace.specs.Trace.{core_count, cores_in, most_records};
+ghost use Rattle.llfree_trace.specs.Trace.{core_count, cores_in, most_records, range_in};
 ghost use Rattle.llfree_trace.specs.TraceText as Spec;
-ghost use Rattle.llfree_trace.specs.TraceText.{Explains, trace_of};
+ghost use Rattle.llfree_trace.specs.TraceText.{ExplainsTrace, trace_of};
 
 use crate::line::{Line, Request, Trace};
 use core_frames::Label;
 use csv::ByteRecord;
 use frame_image::{RecordReader, number_below};
 use frame_words::{Fault, Geometry};
-use std::alloc::Global;
+use std::alloc::{AllocError, Global};
 
 /// The most records of a trace.
 const MOST_RECORDS: usize = 1_000_000;
@@ -24,37 +25,67 @@ const MOST_RECORDS: usize = 1_000_000;
 pub fn parse_trace(alloc: Global, geometry: &Geometry, text: &[u8]) -> Result<Trace, Fault>
     ensures found { IfOk result (λ trace. trace_of geometry.now.cores text.now ≡ Ok trace) }
     ensures cores { IfOk result (λ trace. core_count trace ≤ geometry.now.cores) }
-    ensures refused { IfErr result (λ e. Explains e (trace_of geometry.now.cores text.now)) }
+    ensures refused { IfErr result (λ e. ExplainsTrace e (trace_of geometry.now.cores text.now)) }
 {
     let cores = geometry.cores();
     let mut records = RecordReader::new(alloc, text);
     let mut row = ByteRecord::new(alloc);
     let mut lines = Vec::new(alloc);
+    let mut ranges = Vec::new(alloc);
     loop {
         let found = records.read(&mut row)?;
         if !found {
-            return Ok(Trace::of(lines));
+            return Ok(Trace::of(lines, ranges));
         }
         let number = lines.len() as u32 + 1;
-        match line_after(cores, lines.len(), &row) {
-            Some(line) => lines.push(line)?,
+        match line_after(cores, lines.as_slice(), &row) {
+            Some(line) => {
+                note_range(&mut ranges, &line)?;
+                lines.push(line)?;
+            }
             None => return Err(Fault::BadTrace { line: number }),
         }
     }
 }
 
-// The record behind so many, where this row is one.
-#[tactic(auto, unfolding(crate::specs::TraceText::line_after))]
-fn line_after(cores: u32, count: usize, row: &ByteRecord) -> Option<Line>
-    requires { cores ≤ 64 }
-    ensures value { result ≡ Spec.line_after cores count (fields_of row.now) }
-    ensures core { IfSome result (λ line. cores_in line ≤ cores) }
-    ensures few { IfSome result (λ _. count < most_records) }
+// Adds the range that a record holds back, if it is of that kind.
+fn note_range(ranges: &mut Vec<(u32, u32)>, line: &Line) -> Result<(), AllocError>
+    ensures { OnOk result (ranges.new.items ≡ ranges.old.items ++ range_in line.now) }
 {
-    if count >= MOST_RECORDS {
+    if let Line::Reserve { frame, count } = line {
+        ranges.push((*frame, *count))?;
+    }
+    Ok(())
+}
+
+// The record behind those so far, where this row is one.
+#[tactic(auto, unfolding(crate::specs::TraceText::line_after))]
+fn line_after(cores: u32, lines: &[Line], row: &ByteRecord) -> Option<Line>
+    requires { cores ≤ 64 }
+    ensures value { result ≡ Spec.line_after cores lines.now (fields_of row.now) }
+    ensures core { IfSome result (λ line. cores_in line ≤ cores) }
+    ensures few { IfSome result (λ _. length lines.now < most_records) }
+{
+    if lines.len() >= MOST_RECORDS {
         return None;
     }
-    line_of(cores, row)
+    let line = line_of(cores, row)?;
+    if !may_follow(lines.last(), &line) {
+        return None;
+    }
+    Some(line)
+}
+
+// Whether a record may come straight behind that one, or first where there is none.
+#[tactic(auto, unfolding(crate::specs::TraceText::may_follow))]
+fn may_follow(before: Option<&Line>, line: &Line) -> bool
+    ensures { result ≡ Spec.may_follow (option_copied before.entry) line.now }
+{
+    match line {
+        Line::Reserve { .. } => matches!(before, None | Some(Line::Reserve { .. })),
+        Line::Move { .. } => matches!(before, Some(Line::Round | Line::Move { .. })),
+        Line::Ask { .. } | Line::Round => true,
+    }
 }
 
 // The record that a row of four fields is.
@@ -64,9 +95,66 @@ fn line_of(cores: u32, row: &ByteRecord) -> Option<Line>
     ensures core { IfSome result (λ line. cores_in line ≤ cores) }
 {
     match four_fields(row) {
-        Some((core, word, third, fourth)) => ask_of(cores, core, word, third, fourth),
+        Some((core, word, third, fourth)) => record_of(cores, core, word, third, fourth),
         None => None,
     }
+}
+
+// A record, by its four fields.
+#[tactic(auto, unfolding(crate::specs::TraceText::record_of))]
+fn record_of(cores: u32, core: &[u8], word: &[u8], third: &[u8], fourth: &[u8]) -> Option<Line>
+    requires { cores ≤ 64 }
+    ensures value { result ≡ Spec.record_of cores core.now word.now third.now fourth.now }
+    ensures core { IfSome result (λ line. cores_in line ≤ cores) }
+{
+    if word == b"round".as_slice() {
+        round_of(core, third, fourth)
+    } else if word == b"reserve".as_slice() {
+        reserve_of(core, third, fourth)
+    } else if word == b"move".as_slice() {
+        move_of(cores, core, third, fourth)
+    } else {
+        ask_of(cores, core, word, third, fourth)
+    }
+}
+
+// The end of a round, with nothing beside the word.
+#[tactic(auto, unfolding(crate::specs::TraceText::round_of))]
+fn round_of(core: &[u8], third: &[u8], fourth: &[u8]) -> Option<Line>
+    ensures value { result ≡ Spec.round_of core.now third.now fourth.now }
+    ensures core { IfSome result (λ line. cores_in line ≡ 0) }
+{
+    if core.is_empty() && third.is_empty() && fourth.is_empty() {
+        return Some(Line::Round);
+    }
+    None
+}
+
+// A range that is held back, for no core.
+#[tactic(auto, unfolding(crate::specs::TraceText::reserve_of))]
+fn reserve_of(core: &[u8], frame: &[u8], count: &[u8]) -> Option<Line>
+    ensures value { result ≡ Spec.reserve_of core.now frame.now count.now }
+    ensures core { IfSome result (λ line. cores_in line ≡ 0) }
+{
+    if !core.is_empty() {
+        return None;
+    }
+    let frame = frame_of(frame)?;
+    let count = frame_of(count)?;
+    Some(Line::Reserve { frame, count })
+}
+
+// A move of the oldest block under a label from one core to another.
+#[tactic(auto, unfolding(crate::specs::TraceText::move_of))]
+fn move_of(cores: u32, core: &[u8], label: &[u8], to: &[u8]) -> Option<Line>
+    requires { cores ≤ 64 }
+    ensures value { result ≡ Spec.move_of cores core.now label.now to.now }
+    ensures core { IfSome result (λ line. cores_in line ≤ cores) }
+{
+    let core = core_of(core, cores)?;
+    let label = Label::of(label)?;
+    let to = core_of(to, cores)?;
+    Some(Line::Move { core, label, to })
 }
 
 // A core and what it asks for.
@@ -150,7 +238,7 @@ fn order_of(field: &[u8]) -> Option<u8>
     }
 }
 
-// A frame, as a field spells it.
+// A frame or a number of frames, as a field spells it.
 fn frame_of(field: &[u8]) -> Option<u32>
     ensures { result ≡ the_number_below (2 ^ 32) field.now }
 {

@@ -6,7 +6,7 @@ ghost use Rattle.std.specs.String.{string_bytes};
 ghost use Rattle.frame_image.specs.Devices.{device_of, has_failed};
 ghost use Rattle.frame_words.specs.declared.fault.Fault.{Fault};
 ghost use Rattle.llfree_trace.specs.Program as Spec;
-ghost use Rattle.llfree_trace.specs.Program.{AreLawful, AreServed, HasSizes, CanDo, IsUnlawful};
+ghost use Rattle.llfree_trace.specs.Program.{AreLawful, AreServed, IsOfSizes, CanDo, IsUnlawful};
 ghost use Rattle.llfree_trace.specs.Program.{Does, DoesFront, DoesWords, DoesWordsFront};
 ghost use Rattle.llfree_trace.specs.Program.{EndsCommand, EndsSizes, EndsWords};
 ghost use Rattle.llfree_trace.specs.Program.{HasBadSizes, HasBadText, IsServed, IsUnserved};
@@ -60,7 +60,7 @@ pub fn run_program<I: Read, O: Write, E: Write>(
     ensures not_begun { HasBadSizes (map string_bytes words.now)
         → (input.new ≡ input.old) × (output.new ≡ output.old) }
 
-    // The sizes, or a record of what was read, are refused, and nothing was written.
+    // The sizes, a record of what was read or its ranges are refused, and nothing was written.
     ensures why_refused { result ≡ 1 → HasBadSizes (map string_bytes words.now)
         ⊎ HasBadText (map string_bytes words.now) (I.remaining (device_of input.old)) }
     ensures refused { result ≡ 1 → output.new ≡ output.old }
@@ -178,7 +178,7 @@ fn perform<I: Read, O: Write>(
 
 // The geometry of these sizes, where it is served.
 fn geometry_of(sizes: Sizes) -> Result<Geometry, Failure>
-    ensures sizes { IfOk result (HasSizes sizes) }
+    ensures sizes { IfOk result (IsOfSizes sizes) }
     ensures lawful { IfOk result (λ _. AreLawful sizes) }
     ensures served { IfOk result (λ _. AreServed sizes) }
     ensures why { IfErr result (EndsSizes sizes) }
@@ -192,7 +192,7 @@ fn geometry_of(sizes: Sizes) -> Result<Geometry, Failure>
 
 // The geometry of these sizes.
 fn memory_of(sizes: Sizes) -> Result<Geometry, Fault>
-    ensures sizes { IfOk result (HasSizes sizes) }
+    ensures sizes { IfOk result (IsOfSizes sizes) }
     ensures lawful { IsOk result ↔ AreLawful sizes }
     ensures fault { IfErr result (λ e. (e ≡ Fault.BadGeometry) ⊎ (e ≡ Fault.BadRange)) }
 {

@@ -4,9 +4,10 @@ ghost use Rattle.std.specs.Prelude.{◌≡◌, ◌≢◌, ◌*◌, ◌<◌, ◌�
 ghost use Rattle.std.specs.Prelude.{IfErr, IfOk, IfSome, IsErrOf, OnOk};
 ghost use Rattle.std.specs.Io.KnownBytes.{Appends};
 ghost use Rattle.frame_image.specs.Devices.{device_of, has_failed, WritesFront};
-ghost use Rattle.llfree_trace.specs.Streams.{IsRunFault, IsRunOf, IsTooLong, WritesFrontOfRun};
+ghost use Rattle.llfree_trace.specs.Streams.{ExplainsRun, HasBadRanges, IsRunFault, IsRunOf};
+ghost use Rattle.llfree_trace.specs.Streams.{IsTooLong, WritesFrontOfRun};
 ghost use Rattle.llfree_trace.specs.Streams.{WritesRun, outcome_answers, shown_of};
-ghost use Rattle.llfree_trace.specs.TraceText.{Explains, trace_of};
+ghost use Rattle.llfree_trace.specs.TraceText.{trace_of};
 
 use crate::answers::answers_text;
 use crate::one_core::run_one;
@@ -57,6 +58,10 @@ pub fn run_over<R: Read, W: Write>(
         → IfSome (R.remaining (device_of input.old)) (λ text.
         trace_of geometry.cores text ≡ Err line) }
 
+    // The text is a trace, and its ranges may not be held back.
+    ensures bad_range { IsErrOf result Fault.BadRange
+        → IfSome (R.remaining (device_of input.old)) (HasBadRanges geometry) }
+
     // A write failed, and a front of that was written.
     ensures write_failed { IsErrOf result Fault.WriteFailed → (has_failed output.new ≡ true)
         × IfSome (R.remaining (device_of input.old)) (λ text.
@@ -76,7 +81,7 @@ pub fn run_over<R: Read, W: Write>(
 fn run_text(alloc: Global, geometry: Geometry, show: Show, text: &[u8]) -> Result<Vec<u8>, Fault>
     requires { geometry.cores ≡ 1 }
     ensures ok { IfOk result (λ out. IsRunOf geometry show text.now out.items) }
-    ensures err { IfErr result (λ e. Explains e (trace_of geometry.cores text.now)) }
+    ensures err { IfErr result (ExplainsRun geometry text.now) }
 {
     let trace = parse_trace(alloc, &geometry, text)?;
     let outcome = run_one(alloc, geometry, &trace)?;

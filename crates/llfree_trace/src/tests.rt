@@ -1,4 +1,5 @@
 mod images;
+mod records;
 
 use super::*;
 use crate::answers::answers_text;
@@ -214,8 +215,6 @@ fn refused_traces_print_nothing(rt: HostRuntime) -> Result<(), Fail> {
         ("0,ta\"ke,a,0\n", 1),
         ("0,take,a,0\n\u{feff}0,take,a,0\n", 2),
         ("0,take,a,0\n\n\n1,take,b,0\n", 2),
-        ("0,take,a,0\n0,move,a,0\n", 2),
-        (",round,,\n", 1),
     ] {
         let (status, output, errors) = runs(rt.alloc(), &["run", "1", "1"], text.as_bytes())?;
         let want = format!(in rt.alloc(); "llfree: bad trace at record {line}\n")?;

@@ -5,12 +5,13 @@ use Rattle.std.proofs.lemmas.Nat.{pow_pos}
 use Rattle.frame_model.specs.declared.block.FrameBlock.{FrameBlock}
 use Rattle.frame_model.specs.declared.key.Key.{Key}
 use Rattle.frame_model.specs.declared.view.View.{View}
+use Rattle.frame_model.specs.Steps.{words_after}
 use Rattle.frame_core.specs.Key.{child_of}
 use Rattle.frame_core.specs.Block.{block}
 use Rattle.frame_core.specs.Steps.{refund}
-use Rattle.frame_core.specs.Moves.{words_after, Changes}
+use Rattle.frame_core.specs.Moves.{Changes}
 use Rattle.low_frames.specs.Takes.{IsBlockIn}
-use Rattle.low_frames.specs.Alone.{Turns, FindsOf, HasTaken, HoldsMore, HasNoneIn, HasNoneOfTree, IsCharged, HasTooFew, IsClaimedIn}
+use Rattle.low_frames.specs.Alone.{Turns, FindsOf, WordsTake, HoldsMore, HasNoneIn, HasNoneOfTree, IsCharged, HasTooFew, IsClaimedIn}
 use Rattle.low_frames.specs.Alone.{HasNoRunIn, IsTakenHuge, IsNotWhole}
 use Rattle.low_frames.proofs.AloneLemmas.{if_known, at_known, then_found}
 use Rattle.low_frames.proofs.RoomLemmas.{FitsAlone, range_alone, entries_alone, none_of_few, none_of_part, none_of_runs, huge_taken}
@@ -28,7 +29,7 @@ module _ (A : Type 0) (key : Key) (old : Option (List ℕ)) (v : View) (fits : (
   -- a charge, a claim and a handing out
   pub small_taken_known : (n frame order : ℕ) (b : FrameBlock) (mid now new : Option (List ℕ)) (is : Key) → order ≤ 6 → is ≡ key
       → IsBlockIn is child order (block frame order) → b ≡ block frame order → Turns (IsCharged key child n) old mid
-      → Turns (IsClaimedIn is frame order) mid now → new ≡ now → HasTaken key old new b
+      → Turns (IsClaimedIn is frame order) mid now → new ≡ now → WordsTake key old new b
   small_taken_known n frame order b mid now new is few k in_child e charged claimed same =
       if_known old (λ ws. (us : List ℕ) × ((mid ≡ Some us) × IsCharged key child n ws us))
       (λ ws. (us : List ℕ) × ((new ≡ Some us) × HoldsMore key ws us b)) charged
@@ -68,7 +69,7 @@ module _ (A : Type 0) (key : Key) (old : Option (List ℕ)) (v : View) (fits : (
 
   -- a huge take and a handing out
   pub huge_taken_known : (b : FrameBlock) (now new : Option (List ℕ)) → b ≡ block (512 * child) 9
-      → Turns (IsTakenHuge key child) old now → new ≡ now → HasTaken key old new b
+      → Turns (IsTakenHuge key child) old now → new ≡ now → WordsTake key old new b
   huge_taken_known b now new e taken same =
       if_known old (λ ws. (us : List ℕ) × ((now ≡ Some us) × IsTakenHuge key child ws us))
       (λ ws. (us : List ℕ) × ((new ≡ Some us) × HoldsMore key ws us b)) taken

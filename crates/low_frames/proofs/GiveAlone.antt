@@ -7,12 +7,13 @@ use Rattle.frame_model.specs.declared.view.View.{View}
 use Rattle.frame_model.specs.declared.block.FrameBlock.{FrameBlock}
 use Rattle.frame_core.specs.Block.{block, IsBlock, covers, smalls, wholes}
 use Rattle.frame_core.specs.Words.{huge_of}
-use Rattle.frame_core.specs.Moves.{Changes, words_after, release_run, give_whole}
+use Rattle.frame_core.specs.Moves.{Changes, release_run, give_whole}
 use Rattle.frame_core.specs.Steps.Amounts.{IsRun}
 use Rattle.frame_core.specs.Steps.{refund}
 use Rattle.frame_core.specs.Steps.Conditions.{CanRefund, CanGiveHuge}
 use Rattle.frame_model.proofs.Blocks.{smalls_cons, in_block, whole_here}
-use Rattle.low_frames.specs.Alone.{HoldsMore, HasGiven}
+use Rattle.frame_model.specs.Steps.{words_after}
+use Rattle.low_frames.specs.Alone.{HoldsMore, WordsGive}
 use Rattle.low_frames.specs.Groups.{HoldsWords, HoldsMoreWords, HasGivenWords}
 use Rattle.low_frames.proofs.AloneLemmas.{at_known}
 use Rattle.low_frames.proofs.RoomLemmas.{FitsAlone, range_alone, is_covered, covered_from}
@@ -61,7 +62,7 @@ given_more key was v alone first count i (Some ws) mid new same inside h own fit
 -- the one block in flight, of an order up to 6, was released
 pub block_given : (key : Key) (v : View) (alone : Type 0) (frame order : ℕ) (old new : Option (List ℕ)) → order ≤ 6
     → IsBlock key (block frame order) → v.own ≡ block frame order ∷ [] → ((ws : List ℕ) → old ≡ Some ws → FitsAlone alone key ws v)
-    → Changes key (release_run (frame / 64) (frame % 64) order) old new → HasGiven key old new (block frame order)
+    → Changes key (release_run (frame / 64) (frame % 64) order) old new → WordsGive key old new (block frame order)
 block_given key v alone frame order None new h is own fits step = tt
 block_given key v alone frame order (Some ws) new h is own fits step =
     let b : FrameBlock = block frame order in
@@ -96,7 +97,7 @@ block_given key v alone frame order (Some ws) new h is own fits step =
 -- the one block in flight, of whole words, was released
 pub words_given : (key : Key) (frame order child n : ℕ) (old new : Option (List ℕ)) → 7 ≤ order → order ≤ 8
     → IsBlock key (block frame order) → child ≡ frame / 512 → n ≡ 2 ^ order → HasGivenWords key old new (8 * child + frame / 64 % 8)
-    (n / 64) → HasGiven key old new (block frame order)
+    (n / 64) → WordsGive key old new (block frame order)
 words_given key frame order child n None new l h is c e given = tt
 words_given key frame order child n (Some ws) new l h is c e given =
     let size : 2 ^ order ≡ 64 * (n / 64) = size_in_words order l h ∙ ap (λ k. 64 * (k / 64)) (sym e) in
@@ -113,8 +114,8 @@ words_given key frame order child n (Some ws) new l h is c e given =
 -- the block was released, and its frames were refunded
 pub small_given : (key mid_key was : Key) (y : View) (alone : Type 0) (b d : FrameBlock) (child n : ℕ)
     (old in_flight low new : Option (List ℕ)) → key ≡ was → mid_key ≡ was → d ≡ b → in_flight ≡ old → CanRefund key y child n
-    → ((us : List ℕ) → low ≡ Some us → FitsAlone alone key us y) → HasGiven mid_key in_flight low d
-    → Changes key (refund child n) low new → HasGiven was old new b
+    → ((us : List ℕ) → low ≡ Some us → FitsAlone alone key us y) → WordsGive mid_key in_flight low d
+    → Changes key (refund child n) low new → WordsGive was old new b
 small_given key mid_key was y alone b d child n None in_flight low new same mid_same is flight can fits given step = tt
 small_given key mid_key was y alone b d child n (Some ws) in_flight low new same mid_same is flight can fits given step =
     let there : (us : List ℕ) × ((low ≡ Some us) × HoldsMore mid_key us ws d) =
@@ -137,7 +138,7 @@ small_given key mid_key was y alone b d child n (Some ws) in_flight low new same
 pub huge_given : (key was : Key) (v : View) (alone : Type 0) (b : FrameBlock) (frame order child : ℕ) (rest : List FrameBlock)
     (old mid new : Option (List ℕ)) → key ≡ was → IsBlock was b → frame ≡ b.frame → order ≡ b.order → order ≡ 9 → child ≡ frame / 512
     → mid ≡ old → CanGiveHuge key v child rest → ((us : List ℕ) → mid ≡ Some us → FitsAlone alone key us v)
-    → Changes key (give_whole child) mid new → HasGiven was old new b
+    → Changes key (give_whole child) mid new → WordsGive was old new b
 huge_given key was v alone b frame order child rest None mid new same is f o nine c flight can fits step = tt
 huge_given key was v alone b frame order child rest (Some ws) mid new same is f o nine c flight can fits step =
     let z : b.frame % 512 ≡ 0 = subst (λ i. b.frame % 2 ^ i ≡ 0) (sym o ∙ nine) is.aligned in

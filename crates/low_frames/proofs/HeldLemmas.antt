@@ -19,12 +19,13 @@ use Rattle.frame_core.specs.Words.{AreInRange}
 use Rattle.frame_core.specs.Report.{held_at}
 use Rattle.frame_core.specs.Steps.{charge, refund, claim}
 use Rattle.frame_core.specs.Steps.Amounts.{IsRun}
-use Rattle.frame_core.specs.Moves.{words_after, release_run, give_whole}
+use Rattle.frame_core.specs.Moves.{release_run, give_whole}
 use Rattle.frame_model.proofs.Bits.{bit_at_clear, run-lt}
 use Rattle.frame_model.proofs.Blocks.{run_here, run_else, run_is_block, not_small, not_whole, whole_here, whole_else}
 use Rattle.frame_model.proofs.Lanes.{lane_added, lane_taken}
 use Rattle.frame_model.proofs.Words.{bits_written, EntryWritten, entry_written, child-has-lane}
 use Rattle.frame_model.proofs.Steps.Shared.{bit_word_is, bit_is, as_bits, as_entry, entry_of_is, free_of_is, huge_of_is, free_is, flag_is}
+use Rattle.frame_model.specs.Steps.{words_after}
 use Rattle.low_frames.specs.Alone.{HoldsMore}
 use Rattle.low_frames.specs.Groups.{HoldsMoreWords}
 use Rattle.low_frames.proofs.RoomLemmas.{is_covered, covered_from, bits_more}

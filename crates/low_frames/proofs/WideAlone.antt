@@ -12,10 +12,11 @@ use Rattle.frame_core.specs.Block.{block}
 use Rattle.frame_core.specs.Words.{bits_place, bit_word_of, huge_of, AreInRange}
 use Rattle.frame_core.specs.Report.{held_at}
 use Rattle.frame_core.specs.View.{charged_in}
-use Rattle.frame_core.specs.Moves.{Changes, Exchanges, words_after}
+use Rattle.frame_core.specs.Moves.{Changes, Exchanges}
 use Rattle.frame_core.specs.Steps.{refund, claim}
 use Rattle.frame_model.proofs.Steps.Shared.{bit_word_is}
-use Rattle.low_frames.specs.Alone.{IsFreeIn, HoldsMore, Turns, IsCharged, HasTaken, HasNoneIn, FindsOf}
+use Rattle.frame_model.specs.Steps.{words_after}
+use Rattle.low_frames.specs.Alone.{IsFreeIn, HoldsMore, Turns, IsCharged, WordsTake, HasNoneIn, FindsOf}
 use Rattle.frame_core.specs.Mover.{Mover}
 use Rattle.low_frames.specs.Takes.{IsBlockIn, LosesNone}
 use Rattle.low_frames.specs.Groups.{HoldsMoreWords, HasTakenWords, WhereFree, AreFree, AreWordsOf}
@@ -212,7 +213,7 @@ group_tried key was v alone child order count first tries list old now P same l 
 pub group_taken : (key was : Key) (child order count first : ℕ) (old now new : Option (List ℕ)) (P Q : Type 0) → key ≡ was
     → order ≤ 8 → 64 * count ≡ 2 ^ order
     → IfSome old (λ ws. (now ≡ Some ws) × (P × (HasTakenWords key now new (8 * child + first) count × Q)))
-    → HasTaken was old new (block (512 * child + 64 * first) order)
+    → WordsTake was old new (block (512 * child + 64 * first) order)
 group_taken key was child order count first old now new P Q same high size done =
     if_known old (λ ws. (now ≡ Some ws) × (P × (HasTakenWords key now new (8 * child + first) count × Q)))
     (λ ws. (us : List ℕ) × ((new ≡ Some us) × HoldsMore was ws us (block (512 * child + 64 * first) order))) done
@@ -250,7 +251,7 @@ look_lost old now x P Q h = if_known old (λ ws. (now ≡ Some ws) × ((Some x �
 -- a charge, a claim of a group and a handing out
 pub wide_taken : (key mid_key : Key) (v : View) (alone : Type 0) (child n : ℕ) (b d : FrameBlock) (old mid now new : Option (List ℕ))
     → mid_key ≡ key → child < key.children → d ≡ b → ((ws : List ℕ) → old ≡ Some ws → FitsAlone alone key ws v)
-    → Turns (IsCharged key child n) old mid → HasTaken mid_key mid now b → new ≡ now → HasTaken key old new d
+    → Turns (IsCharged key child n) old mid → WordsTake mid_key mid now b → new ≡ now → WordsTake key old new d
 wide_taken key mid_key v alone child n b d old mid now new same inside is fits charged taken out =
     if_known old (λ ws. (us : List ℕ) × ((mid ≡ Some us) × IsCharged key child n ws us))
     (λ ws. (vs : List ℕ) × ((new ≡ Some vs) × HoldsMore key ws vs d)) charged

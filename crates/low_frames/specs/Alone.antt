@@ -4,11 +4,11 @@ use Rattle.frame_words.specs.Geometry.{child_frames}
 use Rattle.frame_words.specs.Runs.{IsClearRun, HasNoClearRun}
 use Rattle.frame_model.specs.declared.block.FrameBlock.{FrameBlock}
 use Rattle.frame_model.specs.declared.key.Key.{Key}
+use Rattle.frame_model.specs.Steps.{words_after}
 use Rattle.frame_core.specs.Key.{frame_count}
 use Rattle.frame_core.specs.Block.{covers, small_at, whole_at}
 use Rattle.frame_core.specs.Words.{entry_place, entry_of, free_of, huge_of, bit_of, bit_word_of}
 use Rattle.frame_core.specs.Report.{held_at}
-use Rattle.frame_core.specs.Moves.{words_after}
 use Rattle.frame_core.specs.Steps.{charge, claim, take_huge}
 use Rattle.low_frames.specs.Takes.{IsBlockIn, IsBlockOfTree}
 
@@ -32,24 +32,24 @@ abbrev pub FindsOf : (List ℕ → Type 0) → Option (List ℕ) → Option (Lis
 FindsOf P old new = IfSome old (λ ws. (new ≡ Some ws) × P ws)
 
 -- where the words were known, they are known, and the block was taken from what was free
-abbrev pub HasTaken : Key → Option (List ℕ) → Option (List ℕ) → FrameBlock → Type 0
-HasTaken key old new b = Turns (λ ws us. HoldsMore key ws us b) old new
+abbrev pub WordsTake : Key → Option (List ℕ) → Option (List ℕ) → FrameBlock → Type 0
+WordsTake key old new b = Turns (λ ws us. HoldsMore key ws us b) old new
 
 -- where the words were known, they are known, and the block was put back to what is free
-abbrev pub HasGiven : Key → Option (List ℕ) → Option (List ℕ) → FrameBlock → Type 0
-HasGiven key old new b = Turns (λ ws us. HoldsMore key us ws b) old new
+abbrev pub WordsGive : Key → Option (List ℕ) → Option (List ℕ) → FrameBlock → Type 0
+WordsGive key old new b = Turns (λ ws us. HoldsMore key us ws b) old new
 
 -- no block of these is free
-abbrev pub HasNone : Key → (FrameBlock → Type 0) → List ℕ → Type 0
-HasNone key In words = (b : FrameBlock) → In b → ¬ IsFreeIn key words b
+abbrev pub NoneIsFree : Key → (FrameBlock → Type 0) → List ℕ → Type 0
+NoneIsFree key In words = (b : FrameBlock) → In b → ¬ IsFreeIn key words b
 
 -- no block of the order in the child is free
 abbrev pub HasNoneIn : Key → ℕ → ℕ → List ℕ → Type 0
-HasNoneIn key child order words = HasNone key (IsBlockIn key child order) words
+HasNoneIn key child order words = NoneIsFree key (IsBlockIn key child order) words
 
 -- no block of the order in the tree is free
 abbrev pub HasNoneOfTree : Key → ℕ → ℕ → List ℕ → Type 0
-HasNoneOfTree key tree order words = HasNone key (IsBlockOfTree key tree order) words
+HasNoneOfTree key tree order words = NoneIsFree key (IsBlockOfTree key tree order) words
 
 -- n frames of the entry of the child, which shows no huge frame and so many free, are charged
 pub record IsCharged (key : Key) (child n : ℕ) (old new : List ℕ) : Type 0 where

@@ -7,7 +7,7 @@ use Rattle.frame_core.specs.View.{NoneBut}
 use Rattle.frame_core.specs.Mover.{Mover, KeepsOthers}
 use Rattle.frame_core.specs.Steps.Amounts.{more}
 use Rattle.low_frames.specs.Takes.{Counts, StaysSure}
-use Rattle.low_frames.specs.Alone.{HasGiven}
+use Rattle.low_frames.specs.Alone.{WordsGive}
 
 -- the frames of the block are paid, and one less is lent; all else but the counts is as before
 abbrev pub HasTakenBack : FrameBlock → View → View → Type 0
@@ -43,4 +43,4 @@ pub record Gives {T H : Type 0} (block_of : H → FrameBlock) (exact : ℕ → T
   pub counts : Counts exact most old new
   pub back : V old.view new.view
   pub sure : StaysSure old new
-  pub alone_given : old.is_alone → HasGiven old.key old.words new.words (block_of given)
+  pub alone_given : old.is_alone → WordsGive old.key old.words new.words (block_of given)

@@ -9,7 +9,7 @@ use Rattle.frame_core.specs.View.{paid_on}
 use Rattle.frame_core.specs.Holding.{IsFreeBlock}
 use Rattle.frame_core.specs.Mover.{Mover, Keeps}
 use Rattle.low_frames.specs.Takes.{Counts, IsAsBefore, StaysSure}
-use Rattle.low_frames.specs.Alone.{FindsOf, HasTaken, HasNone}
+use Rattle.low_frames.specs.Alone.{FindsOf, WordsTake, NoneIsFree}
 
 -- What a take asks.
 
@@ -46,12 +46,12 @@ pub record TakesOut {T H : Type 0} (block_of : H → FrameBlock) (In : FrameBloc
   pub is_one : In (block_of held)
   pub apart : IsFreeBlock old.view.kept (block_of held)
   pub no_boot_frame : HasNoBootFrame old.key (block_of held)
-  pub alone : old.is_alone → HasTaken old.key old.words new.words (block_of held)
+  pub alone : old.is_alone → WordsTake old.key old.words new.words (block_of held)
 
 -- all is as before, and where nobody else steps none of these blocks is free
-pub record FindsNone {T H : Type 0} (In : FrameBlock → Type 0) (old new : Mover T H) : Type 0 where
+pub record TakesNothing {T H : Type 0} (In : FrameBlock → Type 0) (old new : Mover T H) : Type 0 where
   pub view : IsAsBefore old.view new.view
-  pub alone : old.is_alone → FindsOf (HasNone old.key In) old.words new.words
+  pub alone : old.is_alone → FindsOf (NoneIsFree old.key In) old.words new.words
 
 -- a take of one of these blocks in at most so many moves, which turns the view so
 pub record Takes {T H : Type 0} (block_of : H → FrameBlock) (exact : ℕ → Type 0) (most : ℕ)
@@ -61,4 +61,4 @@ pub record Takes {T H : Type 0} (block_of : H → FrameBlock) (exact : ℕ → T
   pub counts : Counts exact most old new
   pub sure : StaysSure old new
   pub some : IfSome answer (λ held. TakesOut block_of In V held old new)
-  pub none : IfNone answer (FindsNone In old new)
+  pub none : IfNone answer (TakesNothing In old new)

@@ -10,7 +10,7 @@ use Rattle.frame_core.specs.Moves.{ReadsBut}
 use Rattle.frame_core.specs.Mover.{Mover, Keeps, IsApart}
 use Rattle.low_frames.specs.Takes.{Counts, IsAsBefore, HasClaimed, LosesNone, StaysSure}
 use Rattle.low_frames.specs.Gives.{HasReleased}
-use Rattle.low_frames.specs.Alone.{Turns, FindsOf, HasGiven}
+use Rattle.low_frames.specs.Alone.{Turns, FindsOf, WordsGive}
 use Rattle.low_frames.specs.Groups.{HoldsWords, HasClaimedWords, WasReadClear, ReadsOutside, HasTakenWords, HasGivenWords, WhereFree, AreWordsOf}
 
 -- What they ask.
@@ -190,4 +190,4 @@ pub record ReleasesBlock {T H : Type 0} (exact : ℕ → Type 0) (b : FrameBlock
   pub counts : Counts exact 4 old new
   pub sure : StaysSure old new
   pub view : HasReleased (child_of b.frame) (2 ^ b.order) old.view new.view
-  pub alone : old.is_alone → HasGiven old.key old.words new.words b
+  pub alone : old.is_alone → WordsGive old.key old.words new.words b

@@ -3,3 +3,4 @@
 mod answers;
 mod calls;
 mod counts;
+mod scripted;

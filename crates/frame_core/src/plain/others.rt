@@ -2,7 +2,7 @@
 
 ghost use Rattle.std.specs.Prelude.{◌≡◌, ◌*◌, ◌<◌, [], Some, vec_len, slice_get, replicate};
 ghost use Rattle.std.specs.List.{All};
-ghost use Rattle.frame_core.specs.Plain.{HasRoom, IsFresh};
+ghost use Rattle.frame_core.specs.Plain.{HasRoomToFill, IsFresh};
 ghost use Rattle.frame_core.specs.declared.plain.party.Party.{Party};
 ghost use Rattle.frame_core.specs.PlainState.{view_by, IsParked};
 
@@ -15,7 +15,7 @@ impl PlainMoves {
     pub(crate) fn admit(&mut self, them: Company)
         requires alone { self.old.them.parties.items ≡ [] }
         requires fresh { All IsFresh them.parties.items }
-        requires room { All (HasRoom self.old.geometry.children) them.parties.items }
+        requires room { All (HasRoomToFill self.old.geometry.children) them.parties.items }
         requires outs { them.outs.items ≡ replicate (512 * self.old.geometry.children) 0 }
         ensures key { (self.new.geometry ≡ self.old.geometry)
             × (self.new.sealed ≡ self.old.sealed) }

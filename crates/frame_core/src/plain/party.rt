@@ -45,13 +45,13 @@ pub struct Company {
 }
 
 impl Party {
-    ghost use Rattle.frame_core.specs.Plain.{HasRoom, IsFresh};
+    ghost use Rattle.frame_core.specs.Plain.{HasRoomToFill, IsFresh};
 
     // One share, and nothing in flight.
     fn fresh(alloc: Global, geometry: Geometry) -> Result<Party, Fault>
         ensures err { IfErr result (λ e. e ≡ Fault.NoMemory) }
         ensures fresh { IfOk result IsFresh }
-        ensures room { IfOk result (HasRoom geometry.children) }
+        ensures room { IfOk result (HasRoomToFill geometry.children) }
     {
         let own = VecDeque::with_capacity(alloc, MOST_PIECES)?;
         let filled = VecDeque::with_capacity(
@@ -72,14 +72,14 @@ impl Party {
 }
 
 impl Company {
-    ghost use Rattle.frame_core.specs.Plain.{HasRoom, IsFresh};
+    ghost use Rattle.frame_core.specs.Plain.{HasRoomToFill, IsFresh};
 
     // Eight new parties, of whom none has handed out a block.
     pub(crate) fn fresh(alloc: Global, geometry: Geometry) -> Result<Company, Fault>
         ensures err { IfErr result (λ e. e ≡ Fault.NoMemory) }
         ensures parties { IfOk result (λ c. vec_len c.parties ≡ 8) }
         ensures fresh { IfOk result (λ c. All IsFresh c.parties.items) }
-        ensures room { IfOk result (λ c. All (HasRoom geometry.children) c.parties.items) }
+        ensures room { IfOk result (λ c. All (HasRoomToFill geometry.children) c.parties.items) }
         ensures outs { IfOk result (λ c. c.outs.items
             ≡ replicate (512 * geometry.children) 0) }
     {

@@ -6,7 +6,7 @@ ghost use Rattle.frame_core.specs.Script.{HasCue, IsNotAt, LosesAt};
 ghost use Rattle.frame_core.specs.ScriptState.{
   at_by,
   one_skipped,
-  Counts,
+  CountsCue,
   IsButPlain,
   IsReady,
   IsUntold,
@@ -63,7 +63,7 @@ impl ScriptMoves {
         ensures still { IsStill self.old.plain self.new.plain }
         ensures untold { IsUntold self.old self.new }
         ensures loses { result ≡ true → cue.what ≡ What.Lose }
-        ensures counts { Counts cue.what is_exchange self.old self.new }
+        ensures counts { CountsCue cue.what is_exchange self.old self.new }
         ensures quiet { cue.what ≡ What.Stop → IsQuiet self.old.plain self.new.plain }
         ensures stops { cue.what ≡ What.Stop → (self.new.has_stopped ≡ true)
             × (self.new.stop.words ≡ words_by self.old.plain) }

@@ -3,7 +3,7 @@
 ghost use Rattle.std.specs.Prelude.{◌≡◌, Some, true, false, slice_get, slice_index};
 ghost use Rattle.frame_core.specs.Moves.{place_of, IsPlace};
 ghost use Rattle.frame_core.specs.PlainState.{key_by, words_by};
-ghost use Rattle.frame_core.specs.ScriptState.{read_by, IsReady, IsLost, IsFound};
+ghost use Rattle.frame_core.specs.ScriptState.{read_by, IsReady, IsLost, FindsWord};
 
 use super::ScriptMoves;
 use crate::moves::Moves;
@@ -14,7 +14,7 @@ impl ScriptMoves {
     // The word is found as it stands.
     fn find(&mut self, place: Place) -> u64
         requires { IsPlace (key_by self.old.plain) place }
-        ensures found { IsFound (place_of (key_by self.old.plain) place) self.old self.new }
+        ensures found { FindsWord (place_of (key_by self.old.plain) place) self.old self.new }
         ensures value { slice_index (words_by self.old.plain)
             (place_of (key_by self.old.plain) place) ≡ result }
         ensures here { read_by self.new (place_of (key_by self.old.plain) place) ≡ Some result }

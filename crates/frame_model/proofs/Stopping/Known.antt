@@ -15,7 +15,7 @@ use Rattle.frame_model.specs.View.{spent, ground_with, boot_blocks, fixed_ground
 use Rattle.frame_model.specs.Fit.{total}
 use Rattle.frame_model.specs.Holding.{holders}
 use Rattle.frame_model.specs.Events.{views_of, Fits}
-use Rattle.frame_model.specs.Laws.{blocks_of, holding_of}
+use Rattle.frame_model.specs.Laws.{blocks_with, holding_of}
 use Rattle.frame_model.specs.Stops.{Moment, is_holder, known_of, flying_of, known_at, flying_at, is_lost, Survives}
 use Rattle.frame_model.proofs.Keeps.{total_is}
 use Rattle.frame_model.proofs.Safe.{none_outside, once}
@@ -80,15 +80,15 @@ zero_test : (n : ℕ) → n ≡ 0 → nat_eq n 0 ≡ true
 zero_test n e = rw e refl
 
 pub held_split : (x : ℕ) (vs : List View) → All GroundApart vs
-    → holders x (blocks_of vs) ≡ holders x (known_of vs) + holders x (flying_of vs) + sum_by (grounded x) vs
-unfolding blocks_of known_of flying_of grounded
+    → holders x (blocks_with vs) ≡ holders x (known_of vs) + holders x (flying_of vs) + sum_by (grounded x) vs
+unfolding blocks_with known_of flying_of grounded
 held_split x [] all = omega (arith, holders_none x)
 held_split x (v ∷ vs) all =
     omega (
       arith,
       held_split x vs (All-tail GroundApart v vs all),
-      holders_both x v.own (v.kept ++ blocks_of vs),
-      holders_both x v.kept (blocks_of vs),
+      holders_both x v.own (v.kept ++ blocks_with vs),
+      holders_both x v.kept (blocks_with vs),
       holders_both x (if is_holder v then v.own else []) (v.kept ++ known_of vs),
       holders_both x v.kept (known_of vs),
       holders_both x (if nat_eq v.share 0 then [] else v.own) (flying_of vs),
@@ -112,9 +112,9 @@ unfolding fixed_ground
 fixed_has key x = fixed_by key x key.sealed
 
 first_blocks : (x : ℕ) (v : View) (vs : List View)
-    → holders x (blocks_of (v ∷ vs)) ≡ holders x v.own + holders x v.kept + holders x (blocks_of vs)
-unfolding blocks_of
-first_blocks x v vs = omega (arith, holders_both x v.own (v.kept ++ blocks_of vs), holders_both x v.kept (blocks_of vs))
+    → holders x (blocks_with (v ∷ vs)) ≡ holders x v.own + holders x v.kept + holders x (blocks_with vs)
+unfolding blocks_with
+first_blocks x v vs = omega (arith, holders_both x v.own (v.kept ++ blocks_with vs), holders_both x v.kept (blocks_with vs))
 
 -- what is held is known, in flight, or the ground's
 pub held_is_split : (key : Key) (x : ℕ) (vs : List View) → All GroundApart vs

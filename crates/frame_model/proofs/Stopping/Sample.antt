@@ -10,7 +10,7 @@ use Rattle.frame_model.specs.View.{count_in, counted, idle, boot_blocks, fixed_g
 use Rattle.frame_model.specs.Holding.{holders}
 use Rattle.frame_model.specs.Rebuilt.{IsRebuilt}
 use Rattle.frame_model.specs.Openings.{set_blocks, huge_blocks, opened}
-use Rattle.frame_model.specs.Laws.{blocks_of}
+use Rattle.frame_model.specs.Laws.{blocks_with}
 use Rattle.frame_model.specs.Seats.{part_share, hand_out, recall, part_ground, adopt}
 use Rattle.frame_model.specs.Steps.Amounts.{more, less}
 use Rattle.frame_model.specs.Events.{State, last_seen, Event, loads, makes, loses, loses_at_will, cuts, joins, LeadsTo}
@@ -179,7 +179,7 @@ goes =
     (subst (λ (l : List ℕ). IsRebuilt one_child l again) (sym ends_so) rebuilt)) (stays last))
 
 held_still : is_lost last 0 ≡ true
-unfolding is_lost known_of flying_of range_blocks is_boot_frame is_in_range holders covers blocks_of fixed_ground
+unfolding is_lost known_of flying_of range_blocks is_boot_frame is_in_range holders covers blocks_with fixed_ground
     boot_blocks set_blocks huge_blocks bit_of huge_of entry_of bit_word_of entry_place bits_place tree_place
     local_place word_count free_in flag_in lane_in lane_put lane_shift entry_word count_in counted more less last_seen
 held_still = refl

@@ -17,7 +17,7 @@ use Rattle.frame_model.specs.Holding.{holders}
 use Rattle.frame_model.specs.Rebuilt.{IsRebuilt}
 use Rattle.frame_model.specs.Openings.{held_blocks}
 use Rattle.frame_model.specs.Events.{views_of, Fits}
-use Rattle.frame_model.specs.Laws.{blocks_of, holding_of}
+use Rattle.frame_model.specs.Laws.{blocks_with, holding_of}
 use Rattle.frame_model.specs.Stops.{Moment, known_of, flying_of, known_at, flying_at, unsealed, range_blocks, stopped, seats_after}
 use Rattle.frame_model.proofs.Sums.{sum_plus}
 use Rattle.frame_model.proofs.Keeps.{total_is}
@@ -212,14 +212,14 @@ one_more : (a n : ℕ) → a * (n + 1) ≡ a * n + a
 one_more a n = grind arith
 
 own-le-blocks : (x : ℕ) (vs : List View) (k : ℕ) (d : View) → k < length vs
-    → holders x (get_or vs k d).own ≤ holders x (blocks_of vs)
-unfolding blocks_of
+    → holders x (get_or vs k d).own ≤ holders x (blocks_with vs)
+unfolding blocks_with
 own-le-blocks x [] k d h = absurd (omega arith)
-own-le-blocks x (v ∷ vs) zero d h = omega (arith, holders_both x v.own (v.kept ++ blocks_of vs))
+own-le-blocks x (v ∷ vs) zero d h = omega (arith, holders_both x v.own (v.kept ++ blocks_with vs))
 own-le-blocks x (v ∷ vs) (suc k) d h = omega (
   arith,
-  holders_both x v.own (v.kept ++ blocks_of vs),
-  holders_both x v.kept (blocks_of vs),
+  holders_both x v.own (v.kept ++ blocks_with vs),
+  holders_both x v.kept (blocks_with vs),
   own-le-blocks x vs k d (omega arith),
 )
 

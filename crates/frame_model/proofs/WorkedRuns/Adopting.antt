@@ -9,7 +9,7 @@ use Rattle.frame_model.specs.Block.{block, IsBlock}
 use Rattle.frame_model.specs.Words.{entry_place, bits_place, entry_of, huge_of, bit_word_of, bit_of}
 use Rattle.frame_model.specs.Openings.{held_blocks}
 use Rattle.frame_model.specs.Stops.{unsealed}
-use Rattle.frame_model.specs.WorkedRuns.{one_child, full_word, one_claimed, still_huge, all_set, IsAdopted, IsNotHeld}
+use Rattle.frame_model.specs.WorkedRuns.{one_child, full_word, one_claimed, still_huge, all_set, MayBeAdopted, IsNotHeld}
 use Rattle.frame_model.proofs.Blocks.{in_block, whole_here}
 use Rattle.frame_model.proofs.Opening.{held_are_blocks, held_smalls, held_wholes}
 use Rattle.frame_model.proofs.Sets.{bit_at_full}
@@ -30,7 +30,7 @@ is_clear ws x e = bit_is again ws x (x / 64) refl ∙ ap (λ n. bit_at n (x % 64
 
 -- a block below order 9 of which all frames are set
 adopts : (ws : List ℕ) (b : FrameBlock) → IsBlock again b → b.order < 9
-    → ((x : ℕ) → x < b.frame + 2 ^ b.order → bit_of again ws x ≡ 1) → IsAdopted ws b
+    → ((x : ℕ) → x < b.frame + 2 ^ b.order → bit_of again ws x ≡ 1) → MayBeAdopted ws b
 adopts ws b is low all = record {
   share = refl;
   is_ground = refl;
@@ -52,7 +52,7 @@ word_1 : bit_word_of again one_claimed 1 ≡ 0
 unfolding bit_word_of bits_place
 word_1 = refl
 
-pub claimed_is_adopted : IsAdopted one_claimed (block 0 6)
+pub claimed_is_adopted : MayBeAdopted one_claimed (block 0 6)
 claimed_is_adopted =
     adopts one_claimed (block 0 6) (record { order = omega arith; aligned = refl; inside = omega arith }) (omega arith)
     (λ x h. let first : 0 ≡ x / 64 = omega arith in is_set one_claimed x (ap (bit_word_of again one_claimed) (sym first) ∙ word_0))
@@ -73,7 +73,7 @@ flag_up : huge_of still_huge 0 ≡ 1
 unfolding huge_of entry_of entry_place flag_in lane_in lane_shift
 flag_up = refl
 
-pub huge_is_adopted : IsAdopted still_huge (block 0 9)
+pub huge_is_adopted : MayBeAdopted still_huge (block 0 9)
 huge_is_adopted = record {
   share = refl;
   is_ground = refl;
@@ -98,12 +98,12 @@ flag_down : huge_of all_set 0 ≡ 0
 unfolding huge_of entry_of entry_place flag_in lane_in lane_shift
 flag_down = refl
 
-pub lower_is_adopted : IsAdopted all_set (block 0 8)
+pub lower_is_adopted : MayBeAdopted all_set (block 0 8)
 lower_is_adopted =
     adopts all_set (block 0 8) (record { order = omega arith; aligned = refl; inside = omega arith }) (omega arith)
     (λ x h. is_set all_set x (words_full (x / 64) (omega arith)))
 
-pub upper_is_adopted : IsAdopted all_set (block 256 8)
+pub upper_is_adopted : MayBeAdopted all_set (block 256 8)
 upper_is_adopted =
     adopts all_set (block 256 8) (record { order = omega arith; aligned = refl; inside = omega arith }) (omega arith)
     (λ x h. is_set all_set x (words_full (x / 64) (omega arith)))

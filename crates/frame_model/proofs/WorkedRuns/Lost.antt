@@ -8,7 +8,7 @@ use Rattle.frame_model.specs.Key.{child_of, is_boot_frame}
 use Rattle.frame_model.specs.Words.{bits_place, bit_of, set_of, huge_of, AreInRange}
 use Rattle.frame_model.specs.View.{fixed_ground}
 use Rattle.frame_model.specs.Holding.{holders}
-use Rattle.frame_model.specs.Laws.{blocks_of, holding_of}
+use Rattle.frame_model.specs.Laws.{blocks_with, holding_of}
 use Rattle.frame_model.specs.Openings.{held_blocks}
 use Rattle.frame_model.specs.Events.{State, views_of}
 use Rattle.frame_model.specs.Stops.{known_of, flying_of, known_at, flying_at, is_lost, lost_frames, unsealed, range_blocks}
@@ -48,7 +48,7 @@ no_boot b e = rw e refl
 module _ (end : State) (again : List ℕ) (none : known_of (views_of end) ≡ []) (range : AreInRange now again) where
   held_is : (x : ℕ) → x < 512
       → holders x (holding_of now (views_of (stopped_at end again).state)) ≡ bit_of now again x + huge_of again (child_of x)
-  unfolding blocks_of fixed_ground
+  unfolding blocks_with fixed_ground
   held_is x h =
       omega (
         arith,

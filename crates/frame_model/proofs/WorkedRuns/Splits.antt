@@ -9,7 +9,7 @@ use Rattle.frame_model.specs.Events.{last_seen, views_of}
 use Rattle.frame_model.specs.Rebuilt.{IsRebuilt}
 use Rattle.frame_model.specs.Stops.{known_of, unsealed}
 use Rattle.frame_model.specs.Without.{less_one, times, is_same}
-use Rattle.frame_model.specs.WorkedRuns.{one_child, words_of_one, full_word, at_first, fills_others, hands_out_halves, fills_half, fills_all, splits_huge, still_huge, all_set, StopsAfter, HandsOut, StopWithHalfFilled, StopWithTheFlagDropped, SplitOfAHugeFrame}
+use Rattle.frame_model.specs.WorkedRuns.{one_child, words_of_one, full_word, at_first, fills_others, hands_out_halves, fills_half, fills_all, splits_huge, still_huge, all_set, StopsAfter, RunHandsOut, StopWithHalfFilled, StopWithTheFlagDropped, SplitOfAHugeFrame}
 use Rattle.frame_model.proofs.Amounts.{names_none}
 use Rattle.frame_model.proofs.Bits.{ones_zero}
 use Rattle.frame_model.proofs.Blocks.{child_is_block, half_is_block, other_half_is_block}
@@ -187,7 +187,7 @@ split_allowed =
     ⟫ tt
     )
 
-lower_half : HandsOut splits_huge 2 (block 0 8) 0 512
+lower_half : RunHandsOut splits_huge 2 (block 0 8) 0 512
 unfolding entry_place tree_place bits_place local_place word_count last_seen free_in flag_in entry_word lane_in
     lane_put lane_shift count_in counted more less less_one times is_same names wholes whole_at free_of entry_of
 lower_half = record {
@@ -198,7 +198,7 @@ lower_half = record {
   bits = stop_with_the_flag_dropped_set;
 }
 
-upper_half : HandsOut splits_huge 3 (block 256 8) 0 512
+upper_half : RunHandsOut splits_huge 3 (block 256 8) 0 512
 unfolding entry_place tree_place bits_place local_place word_count last_seen free_in flag_in entry_word lane_in
     lane_put lane_shift count_in counted more less less_one times is_same names wholes whole_at free_of entry_of
 upper_half = record {

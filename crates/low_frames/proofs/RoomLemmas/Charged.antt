@@ -11,9 +11,9 @@ use Rattle.frame_words.proofs.LaneLemmas.{lane_in-lane_put, lane_put-add, lane_p
 use Rattle.frame_model.specs.declared.key.Key.{Key}
 use Rattle.frame_core.specs.Words.{run, entry_place, bits_place, word_count, free_of, huge_of, bit_word_of, with_entry, AreInRange}
 use Rattle.frame_core.specs.Steps.{refund}
-use Rattle.frame_core.specs.Moves.{words_after}
 use Rattle.frame_model.proofs.Words.{child-has-lane, entry-lt-bits, EntryWritten, entry_written}
 use Rattle.frame_model.proofs.Steps.Shared.{bit_word_is, free_is, flag_is, free_of_is, huge_of_is, entry_of_is, as_entry}
+use Rattle.frame_model.specs.Steps.{words_after}
 use Rattle.low_frames.specs.Alone.{IsCharged, HasNoRunIn}
 
 module _ (key : Key) (ws us : List ℕ) (child n : ℕ) (r : AreInRange key ws) (inside : child < key.children)

@@ -82,7 +82,7 @@ reserve_own-requires g c =
     let inside : tree_of b.frame < tree_count m.key = in_a_tree m.key b (g.met.M.Moves.outs_are_blocks c.args.m.now c.args.held c.requires.held) in
     let tree : c.tree_of-tree.result ≡ tree_of b.frame = c.tree_of-tree.ensures ∙ ap tree_of c.frame.ensures in
     record {
-      core = subst (λ (i : Key). c.counts.new.self.core < i.cores) (sym k) (subst (λ n. n < m.key.cores) (sym c.counts.ensures) c.requires.core);
+      core = subst (λ (i : Key). c.counts.new.self.core < i.cores) (sym k) (subst (λ n. n < m.key.cores) (sym c.counts.ensures.core) c.requires.core);
       tree = subst (λ (i : Key). c.tree_of-tree.result < tree_count i) (sym k) (subst (λ t. t < tree_count m.key) (sym tree) inside);
       idle = idle_taken_one m.view x.view c.requires.idle
           (given_to_tree m.view u.view b c.frame.result c.order.result c.tree_of-tree.result c.frames_of-n.result c.requires.idle

@@ -1,14 +1,17 @@
 use Rattle.std.proofs.Common.{◌≡◌, ◌-◌, ◌∷◌, [], replicate, take}
-use Rattle.frame_core.specs.Holding.{IsHolding}
-use Rattle.frame_core.specs.Key.{key_of}
-use Rattle.held_blocks.specs.Desk.{blocks_of}
+use Rattle.frame_core.specs.Key.{sealed_key}
+use Rattle.llfree_trace.specs.Desk.{IsLawful}
 use Rattle.llfree_trace.specs.Outcome.{MustRefuseHere, Runs}
+use Rattle.llfree_trace.specs.Trace.{ranges_in}
 use Rattle.llfree_trace.proofs.one_core.run_one.Given as goal
 
 abbrev pub invariant-loop-line : goal.invariant-loop-line
-invariant-loop-line l =
-    Runs MustRefuseHere (key_of l.fn.geometry) 1 (replicate l.fn.geometry.cores []) (take l.line-index l.trace)
-    l.answers.items (l.desk.list ∷ replicate (l.fn.geometry.cores - 1) [])
-    × IsHolding (key_of l.fn.geometry) (blocks_of l.desk.list)
-    × (l.number ≡ l.line-index)
-    × (l.desk.geometry ≡ l.fn.geometry)
+invariant-loop-line l = record {
+  runs :
+      Runs MustRefuseHere (sealed_key l.fn.geometry (ranges_in l.trace)) 1 (replicate l.fn.geometry.cores [])
+      (take l.line-index l.trace) l.answers.items (l.desk.list ∷ replicate (l.fn.geometry.cores - 1) []);
+  lawful : IsLawful l.desk;
+  count : l.number ≡ l.line-index;
+  geometry : l.desk.geometry ≡ l.fn.geometry;
+  ranges : l.desk.ranges ≡ ranges_in l.trace;
+}

@@ -1,4 +1,4 @@
-use Rattle.std.proofs.Common.{◌≡◌, ◌∙◌, ap, Err}
+use Rattle.std.proofs.Common.{◌≡◌, ap, Err}
 use Rattle.frame_words.specs.declared.fault.Fault.TheVariants as fault
 use Rattle.llfree_trace.specs.Program.{Does, DoesFront}
 use Rattle.llfree_trace.proofs.Statuses.{run_ends, rebuild_ends, report_ends}
@@ -13,10 +13,9 @@ returns-in-Ok-clause-done g c =
 pub returns-in-Err-clause-why : goal.returns-in-Err-clause-why
 returns-in-Err-clause-why g c =
     let made = c.in_ok-geometry-in-Run.ensures in
-    let one : c.in_ok-geometry-in-Run.geometry.cores ≡ 1 = made.sizes.cores ∙ made.served in
-    let refused = rw one at c.in-Err.ensures.bad_trace in
-    run_ends c.args.command c.in-Run.sizes c.in-Run.show _ c.in-Err.fault c.in-Run.is made.lawful made.served c.in-Err.ensures.others
-    (λ line e. refused line (ap Err e))
+    let why = c.in-Err.ensures in
+    run_ends c.args.command c.in-Run.sizes c.in-Run.show _ _ c.in-Err.fault c.in-Run.is made.lawful made.served made.sizes why.others
+    (λ line e. why.bad_trace line (ap Err e)) (λ e. why.bad_range (ap Err e))
 
 pub returns-in-Err-clause-front : goal.returns-in-Err-clause-front
 unfolding DoesFront

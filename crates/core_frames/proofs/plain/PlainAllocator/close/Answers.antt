@@ -4,7 +4,7 @@ use Rattle.frame_core.specs.Image.{Contents}
 use Rattle.frame_core.specs.Key.{sealed_key}
 use Rattle.frame_core.specs.Laws.{AddsUp}
 use Rattle.frame_core.specs.Plain.{plain_key}
-use Rattle.core_frames.specs.PlainState.{PlainState, key_by, held_by, HoldsExactly}
+use Rattle.core_frames.specs.PlainState.{PlainState, memory_by, held_by, HoldsExactly}
 use Rattle.core_frames.proofs.PlainCalls.{state_of, counters}
 use Rattle.core_frames.proofs.PlainKeys.{adds_over}
 use Rattle.core_frames.proofs.plain.PlainAllocator.close.Goals as goal
@@ -13,7 +13,7 @@ pub returns-in-Ok-clause-exact : goal.returns-in-Ok-clause-exact
 returns-in-Ok-clause-exact c =
     let a = c.self.inside in
     let m = a.moves in
-    subst (λ (s : PlainState). HoldsExactly (key_by s) c.in-Ok.image.words (held_by s)) c.self.view_is
+    subst (λ (s : PlainState). HoldsExactly (memory_by s) c.in-Ok.image.words (held_by s)) c.self.view_is
     (subst (λ (i : Contents). HoldsExactly (sealed_key m.geometry a.ranges.items) i.words
     (held_by (state_of m.geometry a.ranges.items a.starts.items))) (sym c.in-Ok.ensures.image) c.self.invariant.exact)
 
@@ -22,7 +22,7 @@ returns-in-Ok-clause-counters c =
     let a = c.self.inside in
     let m = a.moves in
     let key : Key = sealed_key m.geometry a.ranges.items in
-    subst (λ (s : PlainState). AddsUp (key_by s) c.in-Ok.image.words) c.self.view_is
+    subst (λ (s : PlainState). AddsUp (memory_by s) c.in-Ok.image.words) c.self.view_is
     (subst (λ (i : Contents). AddsUp key i.words) (sym c.in-Ok.ensures.image)
     (adds_over key m.words.items (subst (λ (k : Key). AddsUp k m.words.items) c.self.invariant.same_key
     (counters (plain_key m.geometry m.sealed) m.them m.words.items m.outs.items _ c.self.invariant.by_itself c.self.invariant.idle

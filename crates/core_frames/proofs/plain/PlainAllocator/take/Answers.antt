@@ -6,7 +6,7 @@ use Rattle.frame_core.specs.Key.{sealed_key}
 use Rattle.frame_core.specs.QuietTake.{QuietTake, TakesBlock, FindsNone}
 use Rattle.core_frames.specs.PlainAgree.{held_with}
 use Rattle.core_frames.specs.PlainBytes.{out_of, kept_of, first_out}
-use Rattle.core_frames.specs.PlainState.{PlainState, key_by, held_by}
+use Rattle.core_frames.specs.PlainState.{PlainState, memory_by, held_by}
 use Rattle.core_frames.proofs.PlainCalls.{renamed, moved, state_of, same_geometry, same_state, drained, remembered, refused_by, quiet_refused, taken, quiet_take, out_more, kept_same}
 use Rattle.core_frames.proofs.plain.PlainAllocator.take.Goals as goal
 
@@ -35,7 +35,7 @@ returns-then-order-le-MOST_ORDER-clause-quiet c =
     let rs = a.ranges.items in
     let bytes = a.starts.items in
     let key = sealed_key m.geometry rs in
-    subst (λ (s : PlainState). FindsNone (key_by s) (held_by s) (held_by (state_of n.geometry rs bytes)) c.args.order) c.self.view_is
+    subst (λ (s : PlainState). FindsNone (memory_by s) (held_by s) (held_by (state_of n.geometry rs bytes)) c.args.order) c.self.view_is
     (subst (λ (g : Geometry). FindsNone key (held_with key bytes) (held_by (state_of g rs bytes)) c.args.order) (sym (drain_stays c))
     (remembered key _ m.words.items bytes a.habits.items a.refused c.args.order c.self.invariant c.if-order-self.true
     c.if-order-le-MOST_ORDER.true))
@@ -75,7 +75,7 @@ returns-in-Err-clause-quiet c =
     let rs = a.ranges.items in
     let bytes = a.starts.items in
     let key = sealed_key m.geometry rs in
-    subst (λ (s : PlainState). QuietTake (key_by s) (held_by s) (held_by (state_of n.geometry rs bytes)) c.args.order (Err c.in-Err.fault))
+    subst (λ (s : PlainState). QuietTake (memory_by s) (held_by s) (held_by (state_of n.geometry rs bytes)) c.args.order (Err c.in-Err.fault))
     c.self.view_is
     (subst (λ (g : Geometry). QuietTake key (held_with key bytes) (held_by (state_of g rs bytes)) c.args.order (Err c.in-Err.fault))
     (sym (missed_stays c))
@@ -130,7 +130,7 @@ returns-clause-quiet c =
     let key = sealed_key m.geometry rs in
     let b : FrameBlock = c.in-Ok.block in
     let now : List ℕ = set a.starts.items c.frame.result c.out_byte.result in
-    subst (λ (s : PlainState). TakesBlock (key_by s) (held_by s) (held_by (state_of n.geometry rs now)) c.args.order b) c.self.view_is
+    subst (λ (s : PlainState). TakesBlock (memory_by s) (held_by s) (held_by (state_of n.geometry rs now)) c.args.order b) c.self.view_is
     (subst (λ (g : Geometry). TakesBlock key (held_with key a.starts.items) (held_by (state_of g rs now)) c.args.order b) (sym (stays c))
     (subst (λ (bytes : List ℕ). TakesBlock key (held_with key a.starts.items) (held_with key bytes) c.args.order b) (bytes_are c)
     (quiet_take key _ _ m.words.items n.words.items a.starts.items a.habits.items a.refused c.self.invariant refl

@@ -6,7 +6,7 @@ use Rattle.frame_core.specs.Movers.{sizes_of}
 use Rattle.frame_core.specs.Without.{without}
 use Rattle.frame_table.specs.Openings.{ground_view, IsLeft}
 use Rattle.core_frames.specs.Cores.{memory_of}
-use Rattle.core_frames.specs.Left.{left_by}
+use Rattle.core_frames.specs.Left.{left_blocks}
 use Rattle.core_frames.specs.LeftFrames.{Shows, IsShown}
 use Rattle.core_frames.proofs.LeftLemmas.{shown_is_left, left_is_shown, shows_without}
 use Rattle.core_frames.proofs.survivors.Survivors.adopt.Goals as goal
@@ -18,9 +18,9 @@ returns-then-not-is_shown-clause-adopts c =
     let b = block c.args.frame c.args.order in
     let is = c.requires in
     let frames = c.frames.ensures.value ∙ is.sizes.2 in
-    let shown : IsLeft key (left_by s) b → IsShown c.frames.result s.left.bits.items s.left.huge.items b =
+    let shown : IsLeft key (left_blocks s) b → IsShown c.frames.result s.left.bits.items s.left.huge.items b =
     λ l. subst (λ n. IsShown n s.left.bits.items s.left.huge.items b) (sym frames)
-    (left_is_shown key (sizes_of key s.geometry is.sizes) s.left.bits.items s.left.huge.items (left_by s) is.shown b l) in
+    (left_is_shown key (sizes_of key s.geometry is.sizes) s.left.bits.items s.left.huge.items (left_blocks s) is.shown b l) in
     record {
       ok = tt;
       err = (inr (refl, omega (arith, c.if-order-gt-MOST_ORDER.false), λ l. c.if-not-is_shown.ensures (shown l)), refl);
@@ -33,7 +33,7 @@ part-requires-clause-block c =
     let b = block c.args.frame c.args.order in
     let is = c.requires in
     let frames = c.frames.ensures.value ∙ is.sizes.2 in
-    shown_is_left key (sizes_of key s.geometry is.sizes) s.left.bits.items s.left.huge.items (left_by s) is.shown b
+    shown_is_left key (sizes_of key s.geometry is.sizes) s.left.bits.items s.left.huge.items (left_blocks s) is.shown b
     (omega (arith, c.if-order-gt-MOST_ORDER.false))
     (subst (λ n. IsShown n s.left.bits.items s.left.huge.items b) frames c.if-not-is_shown.ensures)
 
@@ -46,15 +46,15 @@ returns-clause-survivors c =
     let frames = c.frames.ensures.value ∙ is.sizes.2 in
     let sizes = sizes_of key s.geometry is.sizes in
     let new = c.clear_block.new.left in
-    let was = shown_is_left key sizes s.left.bits.items s.left.huge.items (left_by s) is.shown b
+    let was = shown_is_left key sizes s.left.bits.items s.left.huge.items (left_blocks s) is.shown b
     (omega (arith, c.if-order-gt-MOST_ORDER.false))
     (subst (λ n. IsShown n s.left.bits.items s.left.huge.items b) frames c.if-not-is_shown.ensures) in
-    let own : (ground_view c.part.new.self).own ≡ without b (left_by s) = ap (λ (v : View). v.own) c.part.ensures.view in
+    let own : (ground_view c.part.new.self).own ≡ without b (left_blocks s) = ap (λ (v : View). v.own) c.part.ensures.view in
     record {
       seat = c.part.ensures.seat;
       sizes = is.sizes;
       shown = subst (λ (bs : List FrameBlock). Shows key new.bits.items new.huge.items bs) (sym own)
-          (shows_without key sizes s.left.bits.items s.left.huge.items (left_by s) is.shown b
+          (shows_without key sizes s.left.bits.items s.left.huge.items (left_blocks s) is.shown b
           new.bits.items new.huge.items was c.clear_block.ensures);
     }
 
@@ -65,7 +65,7 @@ returns-clause-adopts c =
     let b = block c.args.frame c.args.order in
     let is = c.requires in
     let frames = c.frames.ensures.value ∙ is.sizes.2 in
-    let was = shown_is_left key (sizes_of key s.geometry is.sizes) s.left.bits.items s.left.huge.items (left_by s) is.shown b
+    let was = shown_is_left key (sizes_of key s.geometry is.sizes) s.left.bits.items s.left.huge.items (left_blocks s) is.shown b
     (omega (arith, c.if-order-gt-MOST_ORDER.false))
     (subst (λ n. IsShown n s.left.bits.items s.left.huge.items b) frames c.if-not-is_shown.ensures) in
     record {

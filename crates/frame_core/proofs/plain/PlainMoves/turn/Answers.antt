@@ -1,7 +1,7 @@
 use Rattle.std.proofs.Common.{◌*◌, ◌<◌, ◌≤◌, refl, ap, sym, subst, arith}
 use Rattle.std.specs.VecDeque.{deque_capacity}
 use Rattle.frame_core.specs.Apart.{AreApart}
-use Rattle.frame_core.specs.Plain.{HasRoom}
+use Rattle.frame_core.specs.Plain.{HasRoomToFill}
 use Rattle.frame_core.specs.PlainState.{key_by}
 use Rattle.frame_core.proofs.PlainOthers.{changed_places, found_at, read_at, written_at, all_set}
 use Rattle.frame_core.proofs.plain.PlainMoves.turn.Goals as goal
@@ -47,7 +47,7 @@ invariant_of-self-clause-agrees c =
 pub invariant_of-self-clause-their_room : goal.invariant_of-self-clause-their_room
 invariant_of-self-clause-their_room c =
     let m = c.args.self.now in
-    all_set (HasRoom m.geometry.children) m.them.parties.items c.args.who _
+    all_set (HasRoomToFill m.geometry.children) m.them.parties.items c.args.who _
     (subst (λ d. 8 * m.geometry.children < deque_capacity d) (sym c.swap-6.ensures.y_after) m.filled_room) m.their_room
 
 pub invariant_of-self-clause-distinct : goal.invariant_of-self-clause-distinct

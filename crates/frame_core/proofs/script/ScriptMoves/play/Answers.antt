@@ -1,6 +1,6 @@
 use Rattle.std.proofs.Common.{inl, inr, ap, sym, subst, ◌∙◌}
 use Rattle.frame_core.specs.declared.script.cue.What.{What}
-use Rattle.frame_core.specs.ScriptState.{one_skipped, Counts}
+use Rattle.frame_core.specs.ScriptState.{one_skipped, CountsCue}
 use Rattle.frame_core.proofs.Scripts.{stop_here}
 use Rattle.frame_core.proofs.script.ScriptMoves.play.Goals as goal
 
@@ -11,10 +11,10 @@ invariant_of-self-clause-stops c =
 
 pub returns-then-not-acts-clause-counts : goal.returns-then-not-acts-clause-counts
 returns-then-not-acts-clause-counts c =
-    subst (λ (w : What). Counts w c.args.is_exchange c.args.self.now c.skip-then-not-acts.new.self) (sym c.in-Stranger.is)
+    subst (λ (w : What). CountsCue w c.args.is_exchange c.args.self.now c.skip-then-not-acts.new.self) (sym c.in-Stranger.is)
     (inr (c.skip-then-not-acts.ensures.skipped ∙ ap one_skipped c.acts.ensures.only.skipped, c.acts.ensures.refused c.if-not-acts.true))
 
 pub returns-else-not-acts-clause-counts : goal.returns-else-not-acts-clause-counts
 returns-else-not-acts-clause-counts c =
-    subst (λ (w : What). Counts w c.args.is_exchange c.args.self.now c.acts.new.self) (sym c.in-Stranger.is)
+    subst (λ (w : What). CountsCue w c.args.is_exchange c.args.self.now c.acts.new.self) (sym c.in-Stranger.is)
     (inl (c.acts.ensures.only.skipped, c.acts.ensures.allowed c.if-not-acts.false))

@@ -9,7 +9,7 @@ give_back-requires-clause-out c =
 
 pub invariant_of-self : goal.invariant_of-self
 invariant_of-self c =
-    agrees_less c.self.inside.allocator _ c.self.inside.list.entries c.remove_oldest.new.self.entries c.in-Some.held _ c.self.invariant c.in-Some.ensures.taken c.give_back.ensures.out c.give_back.ensures.kept c.give_back.ensures.geometry
+    agrees_less c.self.inside.allocator _ c.self.inside.list.entries c.remove_oldest.new.self.entries c.in-Some.held _ c.self.invariant c.in-Some.ensures.taken c.give_back.ensures.out c.give_back.ensures.kept
 
 pub returns-in-Some-clause-step : goal.returns-in-Some-clause-step
 unfolding GivesFirst

@@ -2,7 +2,7 @@ use Rattle.std.proofs.Common.{◌≡◌, refl, arith}
 use Rattle.frame_core.specs.Block.{block}
 use Rattle.held_blocks.specs.Desk.{TakesUnder}
 use Rattle.held_blocks.proofs.HeldLemmas.{begins_apart}
-use Rattle.llfree_trace.proofs.Desks.{agrees_more, free_of_boot, free_under_list, is_block_here, refused_step}
+use Rattle.llfree_trace.proofs.Desks.{agrees_more, free_of_boot, free_under_list, refused_step}
 use Rattle.llfree_trace.proofs.desk.PlainDesk.take.Goals as goal
 
 pub returns-then-order-gt-HUGE_ORDER-clause-step :
@@ -18,7 +18,7 @@ add-requires-clause-apart c =
 pub invariant_of-self-in-Ok : goal.invariant_of-self-in-Ok
 invariant_of-self-in-Ok c =
     rw (c.add.ensures.entries, c.reserve.ensures.entries)
-    (agrees_more _ _ _ _ c.self.invariant c.in-Ok.ensures.out c.in-Ok.ensures.kept c.in-Ok.ensures.geometry)
+    (agrees_more _ _ _ _ c.self.invariant c.in-Ok.ensures.out c.in-Ok.ensures.kept)
 
 pub returns-in-Ok-clause-step : goal.returns-in-Ok-clause-step
 unfolding TakesUnder
@@ -28,7 +28,7 @@ returns-in-Ok-clause-step c =
     rw (c.frame-frame.ensures, ← quiet.has_order) refl in
     rw (← c.self.view_is, c.add.ensures.entries, c.reserve.ensures.entries) (
       record {
-        is_block = is_block_here c.self.inside.allocator c.self.inside.list.entries _ _ c.self.invariant same quiet.is_block;
+        is_block = rw same quiet.is_block;
         has_order = refl;
         was_free = rw same (free_under_list _ _ _ c.self.invariant quiet.was_free);
         last = rw (c.again-label.ensures, same) refl;

@@ -1,7 +1,7 @@
 use Rattle.std.proofs.Common.{◌≡◌, ◌≤◌, length}
 use Rattle.std.specs.Prelude.{vec_capacity}
 use Rattle.std.specs.List.{All}
-use Rattle.frame_core.specs.Plain.{HasRoom, IsFresh}
+use Rattle.frame_core.specs.Plain.{HasRoomToFill, IsFresh}
 use Rattle.frame_core.proofs.plain.party.Company.fresh.Given as goal
 
 abbrev pub invariant-loop-i : goal.invariant-loop-i
@@ -10,5 +10,5 @@ invariant-loop-i l = record {
   count : length l.parties.items ≡ l._i;
   room : 8 ≤ vec_capacity l.parties;
   fresh : All IsFresh l.parties.items;
-  filled : All (HasRoom l.initial.geometry.children) l.parties.items;
+  filled : All (HasRoomToFill l.initial.geometry.children) l.parties.items;
 }

@@ -1,0 +1,16 @@
+use Rattle.frame_table.specs.Seats.{block_in}
+use Rattle.held_blocks.specs.Desk.{pair_block}
+use Rattle.held_blocks.specs.LabelledBlocks.{IsUnder}
+use Rattle.core_frames.specs.Desks.{list_of}
+use Rattle.core_frames.proofs.DeskLemmas.{given_err, given_ok}
+use Rattle.core_frames.proofs.desk.Desk.give.Goals as goal
+
+pub returns-in-Ok-clause-gives : goal.returns-in-Ok-clause-gives
+returns-in-Ok-clause-gives c =
+    given_ok block_in (IsUnder c.args.label.now) (list_of c.args.self.now) (list_of c.lift.new.self) c.in-Ok.oldest c.give_back.result
+    c.give_back.ensures.answer c.in-Ok.ensures.lifts
+
+pub returns-in-Err-clause-gives : goal.returns-in-Err-clause-gives
+returns-in-Err-clause-gives c =
+    given_err block_in pair_block (IsUnder c.args.label.now) (list_of c.args.self.now) (list_of c.lift.new.self) c.in-Err.refusal
+    c.in-Err.ensures.lifts

@@ -1,0 +1,215 @@
+-- What desks hold at the end of a run is just what the closed memory holds.
+use Rattle.std.proofs.Common.{◌≡◌, ⊎_elim, ◌+◌, ◌<◌, ◌≤◌, ◌∙◌, max, ℕ, zero, suc, pos, List, [], ◌∷◌, ◌++◌, Bool, true, false, length, map, replicate, refl, sym, ap, subst, arith}
+use Rattle.std.specs.Prelude.{if◌then◌else◌}
+use Rattle.std.specs.List.{All, sum_by}
+use Rattle.std.proofs.lemmas.Bool.{cases_lt}
+use Rattle.std.proofs.lemmas.List.Elements.{All-append, All-head, All-nil, All-tail}
+use Rattle.std.proofs.lemmas.List.Sums.{sum_by-append}
+use lib.ListN.{get_elem?}
+use mathlib.Core.Option.{some, some-injective, some-ne-none}
+use Rattle.frame_words.specs.declared.geometry.Geometry.{Geometry}
+use Rattle.frame_model.specs.declared.block.FrameBlock.{FrameBlock}
+use Rattle.frame_model.specs.declared.key.Key.{Key}
+use Rattle.frame_model.specs.declared.view.Eye.{Eye}
+use Rattle.frame_model.specs.declared.view.View.{View}
+use Rattle.frame_core.specs.Block.{IsBlock, covers, small_at, smalls, whole_at, wholes}
+use Rattle.frame_core.specs.Events.{views_of}
+use Rattle.frame_core.specs.Fit.{Fit}
+use Rattle.frame_core.specs.Holding.{holders, IsHolding}
+use Rattle.frame_core.specs.Image.{Contents}
+use Rattle.frame_core.specs.Key.{child_of, frame_count, is_boot_frame, sealed_key}
+use Rattle.frame_core.specs.Laws.{HoldsJust}
+use Rattle.frame_core.specs.Moves.{HasSizes}
+use Rattle.frame_core.specs.Mover.{IsApart}
+use Rattle.frame_core.specs.Report.{held_at}
+use Rattle.frame_core.specs.View.{boot_blocks}
+use Rattle.frame_core.specs.Words.{bit_of, huge_of}
+use Rattle.frame_core.proofs.Apart.{apart_of}
+use Rattle.frame_model.proofs.Safe.{holders_are}
+use Rattle.frame_model.proofs.Steps.Shared.{view_of as view_at}
+use Rattle.frame_table.specs.Closing.{IsClosed, IsClosingOf, kept_through, lent_through}
+use Rattle.frame_table.specs.Seats.{view_of}
+use Rattle.frame_table.specs.declared.seats.CoreSeat.{CoreSeat}
+use Rattle.held_blocks.specs.Desk.{blocks_of, MayRefuse}
+use Rattle.core_frames.specs.Cores.{memory_of, seat_of}
+use Rattle.core_frames.specs.Desks.{core_of, IsDeskOf, list_of as list_in}
+use Rattle.core_frames.specs.declared.allocator.Allocator.{Allocator}
+use Rattle.core_frames.specs.declared.desk.Desk.{Desk}
+use Rattle.core_frames.proofs.PlainCalls.{same_geometry}
+use Rattle.llfree_trace.specs.Outcome.{all_blocks, HoldsFrames, IsAnsweredBy, key_under, Runs}
+use Rattle.llfree_trace.specs.Rounds.{GoesOn, lent_by_desks, lists_at}
+use Rattle.llfree_trace.specs.Trace.{ranges_in}
+use Rattle.llfree_trace.specs.declared.line.Line.{Line}
+use Rattle.llfree_trace.specs.declared.progress.Progress.{Progress}
+use Rattle.llfree_trace.specs.declared.reply.Answer.{Answer}
+use Rattle.llfree_trace.proofs.Boot.{boot_are}
+
+-- sizes make a geometry
+same_sizes : (g h : Geometry) → g.children ≡ h.children → g.cores ≡ h.cores → g.frames ≡ h.frames → g ≡ h
+same_sizes g h p q r =
+    same_geometry g h true true (λ i. record { children = p i; cores = q i; frames = r i; ranges = []; sealed = true })
+
+-- the seats of the desks' cores
+abbrev pub seats_at : List Desk → List CoreSeat
+seats_at ds = map seat_of (map core_of ds)
+
+lent_same : (ds : List Desk) → lent_through (seats_at ds) ≡ lent_by_desks ds
+lent_same ds = ap lent_through (seats_are ds)
+  where
+    seats_are : (ds : List Desk) → seats_at ds ≡ map (λ d. seat_of (core_of d)) ds
+    seats_are [] = refl
+    seats_are (d ∷ ds) = ap (λ (l : List CoreSeat). seat_of (core_of d) ∷ l) (seats_are ds)
+
+kept_none : kept_through [] ≡ []
+unfolding kept_through
+kept_none = refl
+
+kept_cons : (s : CoreSeat) (seats : List CoreSeat) → kept_through (s ∷ seats) ≡ (view_of s).kept ++ kept_through seats
+unfolding kept_through
+kept_cons s seats = refl
+
+-- the lists have just the blocks that the cores keep
+kept_same : (a : Allocator) (f : FrameBlock → ℕ) (ds : List Desk) → All (IsDeskOf a) ds
+    → sum_by f (all_blocks (lists_at ds)) ≡ sum_by f (kept_through (seats_at ds))
+kept_same a f [] all = ap (sum_by f) (sym kept_none)
+kept_same a f (d ∷ ds) all =
+    omega (
+      arith,
+      sum_by-append f (blocks_of (list_in d)) (all_blocks (lists_at ds)),
+      ap (sum_by f) (kept_cons (seat_of (core_of d)) (seats_at ds)),
+      sum_by-append f (view_of (seat_of (core_of d))).kept (kept_through (seats_at ds)),
+      (All-head (IsDeskOf a) d ds all).keeps f,
+      kept_same a f ds (All-tail (IsDeskOf a) d ds all),
+    )
+
+lists_lawful : (a : Allocator) (ds : List Desk) → All (IsDeskOf a) ds → All (IsBlock (memory_of a)) (all_blocks (lists_at ds))
+lists_lawful a [] all = All-nil (IsBlock (memory_of a))
+lists_lawful a (d ∷ ds) all =
+    All-append (IsBlock (memory_of a)) (blocks_of (list_in d)) (all_blocks (lists_at ds)) (All-head (IsDeskOf a) d ds all).apart.blocks
+    (lists_lawful a ds (All-tail (IsDeskOf a) d ds all))
+
+at_view : (es : List Eye) (i : ℕ) (e : Eye) → get_elem? es i ≡ some e → get_elem? (map (λ (x : Eye). x.view) es) i ≡ some e.view
+at_view [] i e at = absurd (some-ne-none e (sym at))
+at_view (x ∷ es) zero e at = ap (λ (y : Eye). some y.view) (some-injective x e at)
+at_view (x ∷ es) (suc i) e at = at_view es i e at
+
+-- what one view had at the closing
+module _ (key : Key) (seats : List CoreSeat) (ws : List ℕ) (closed : IsClosed key seats ws) where
+  last_at : get_elem? (views_of closed.state) closed.id ≡ some closed.eye.view
+  last_at = at_view closed.state.eyes closed.id closed.eye closed.at
+
+  last_apart : IsApart key closed.eye.view
+  last_apart = apart_of key key.cores closed.state.words (views_of closed.state) closed.id closed.eye.view closed.fits last_at
+
+  -- as many of its blocks hold a frame as the seats' blocks do
+  kept_holders : (x : ℕ) → holders x (closed.eye.view.own ++ closed.eye.view.kept)
+      ≡ smalls x (kept_through seats) + wholes (child_of x) (kept_through seats)
+  kept_holders x =
+      let is = view_at key key.cores closed.state.words (views_of closed.state) closed.id closed.eye.view closed.fits last_at in
+      let bare : holders x (closed.eye.view.own ++ closed.eye.view.kept) ≡ holders x closed.eye.view.kept =
+      ap (λ (own : List FrameBlock). holders x (own ++ closed.eye.view.kept)) closed.gathered.idle.own in
+      omega (
+        arith,
+        bare,
+        holders_are key x closed.eye.view.kept is.kept,
+        closed.gathered.smalls x,
+        closed.gathered.wholes (child_of x),
+      )
+
+held_max : (key : Key) (ws : List ℕ) (x : ℕ) → held_at key ws x ≡ max (bit_of key ws x) (huge_of ws (child_of x))
+unfolding held_at
+held_max key ws x = refl
+
+holders_both : (x : ℕ) (bs cs : List FrameBlock) → holders x (bs ++ cs) ≡ holders x bs + holders x cs
+unfolding holders
+holders_both x bs cs = sum_by-append (λ b. covers b x) bs cs
+
+smalls_same : (a : Allocator) (x : ℕ) (ds : List Desk) → All (IsDeskOf a) ds
+    → smalls x (all_blocks (lists_at ds)) ≡ smalls x (kept_through (seats_at ds))
+unfolding smalls
+smalls_same a x ds all = kept_same a (small_at x) ds all
+
+wholes_same : (a : Allocator) (c : ℕ) (ds : List Desk) → All (IsDeskOf a) ds
+    → wholes c (all_blocks (lists_at ds)) ≡ wholes c (kept_through (seats_at ds))
+unfolding wholes
+wholes_same a c ds all = kept_same a (whole_at c) ds all
+
+-- The memory was closed with the cores of desks that lend nothing together.
+module _ (a : Allocator) (ds : List Desk) (image : Contents) (sealed : (memory_of a).sealed ≡ true) (all : All (IsDeskOf a) ds)
+    (closing : IsClosingOf (memory_of a) (seats_at ds) image) (none : lent_by_desks ds ≡ pos 0) where
+  just : HoldsJust (memory_of a) image.words (kept_through (seats_at ds))
+  just = closing.tells.just_kept sealed (lent_same ds ∙ none)
+
+  lists_hold : (x : ℕ) → holders x (all_blocks (lists_at ds))
+      ≡ smalls x (kept_through (seats_at ds)) + wholes (child_of x) (kept_through (seats_at ds))
+  lists_hold x =
+      omega (arith, holders_are (memory_of a) x (all_blocks (lists_at ds)) (lists_lawful a ds all), smalls_same a x ds all, wholes_same a (child_of x) ds all)
+
+  pub lists_apart : IsHolding (memory_of a) (all_blocks (lists_at ds))
+  lists_apart = record {
+    blocks = lists_lawful a ds all;
+    disjoint = λ x. omega (
+      arith,
+      lists_hold x,
+      kept_holders (memory_of a) (seats_at ds) image.words closing.closed x,
+      (last_apart (memory_of a) (seats_at ds) image.words closing.closed).disjoint x,
+    );
+  }
+
+  pub holds_lists : HoldsFrames (memory_of a) image.words (all_blocks (lists_at ds) ++ boot_blocks (memory_of a))
+  holds_lists x within = by (is_boot_frame (memory_of a) x) refl
+    where
+      by : (t : Bool) → is_boot_frame (memory_of a) x ≡ t
+          → held_at (memory_of a) image.words x ≡ holders x (all_blocks (lists_at ds) ++ boot_blocks (memory_of a))
+      by true e =
+          let key : Key = memory_of a in
+          let boot : holders x (boot_blocks key) ≡ 1 = rw e at (boot_are key x within) in
+          let bit : bit_of key image.words x ≡ smalls x (kept_through (seats_at ds)) + 1 = rw e at (just.bits x within) in
+          omega (
+            arith,
+            boot,
+            bit,
+            held_max key image.words x,
+            just.huge (child_of x) (omega (arith, within)),
+            holders_both x (all_blocks (lists_at ds)) (boot_blocks key),
+            lists_hold x,
+            kept_holders key (seats_at ds) image.words closing.closed x,
+            (last_apart key (seats_at ds) image.words closing.closed).no_boot_frame x sealed e,
+          )
+      by false e =
+          let key : Key = memory_of a in
+          let boot : holders x (boot_blocks key) ≡ 0 = rw e at (boot_are key x within) in
+          let bit : bit_of key image.words x ≡ smalls x (kept_through (seats_at ds)) + 0 = rw e at (just.bits x within) in
+          omega (
+            arith,
+            boot,
+            bit,
+            held_max key image.words x,
+            just.huge (child_of x) (omega (arith, within)),
+            holders_both x (all_blocks (lists_at ds)) (boot_blocks key),
+            lists_hold x,
+            kept_holders key (seats_at ds) image.words closing.closed x,
+            (last_apart key (seats_at ds) image.words closing.closed).disjoint x,
+          )
+
+  -- the image has the sizes of the memory
+  pub image_is : (geometry : Geometry) (ranges : List (ℕ × ℕ)) → memory_of a ≡ sealed_key geometry ranges → image.geometry ≡ geometry
+  image_is geometry ranges is =
+      let sizes : HasSizes (sealed_key geometry ranges) image.geometry = subst (λ (k : Key). HasSizes k image.geometry) is closing.sizes in
+      same_sizes image.geometry geometry sizes.0 sizes.1 sizes.2
+
+  -- so the answers are those of a run of the records
+  pub is_answered : (geometry : Geometry) (lines : List Line) (old new : Progress) → memory_of a ≡ sealed_key geometry (ranges_in lines)
+      → GoesOn a 1 lines old new → new.desks.items ≡ ds → old.answers.items ≡ [] → lists_at old.desks.items ≡ replicate geometry.cores []
+      → IsAnsweredBy MayRefuse lines new.answers.items image
+  is_answered geometry lines old new is goes end empty begins =
+      let same : image.geometry ≡ geometry = image_is geometry (ranges_in lines) is in
+      let under : memory_of a ≡ key_under lines image = is ∙ ap (λ (g : Geometry). sealed_key g (ranges_in lines)) (sym same) in
+      let answers : new.answers.items ≡ goes.answers = goes.grows ∙ ap (λ (l : List Answer). l ++ goes.answers) empty in
+      record {
+        lists = lists_at ds;
+        runs = subst (λ (k : Key). Runs MayRefuse k 1 (replicate image.geometry.cores []) lines new.answers.items (lists_at ds)) under
+            (rw (answers, same, ← begins, ← end) goes.runs);
+        disjoint = subst (λ (k : Key). IsHolding k (all_blocks (lists_at ds))) under lists_apart;
+        holds = subst (λ (k : Key). HoldsFrames k image.words (all_blocks (lists_at ds) ++ boot_blocks k)) under holds_lists;
+      }

@@ -1,0 +1,168 @@
+-- What each core answers in a round, as one run of the lines in their order.
+use Rattle.std.proofs.Common.{◌≡◌, ◌≢◌, ◌==◌, ◌+◌, ◌<◌, ◌≤◌, ◌∙◌, ℕ, List, [], ◌∷◌, zero, suc, true, false, length, get_or, set, map, refl, sym, ap, ap₂, subst, arith, inl, inr}
+use Rattle.std.specs.List.{All}
+use Rattle.std.proofs.Math.ListN.{length-set}
+use Rattle.std.proofs.lemmas.Bool.Decides.{nat_tests, eqb_tells}
+use Rattle.std.proofs.lemmas.Grind.{get_or-set_at}
+use Rattle.std.proofs.lemmas.List.{get_or-set_other, length-map}
+use Rattle.std.proofs.lemmas.List.Elements.{All-head, All-tail}
+use Rattle.core_frames.specs.Cores.{memory_of}
+use Rattle.core_frames.specs.Desks.{IsDeskOf, list_of as list_in}
+use Rattle.core_frames.specs.declared.allocator.Allocator.{Allocator}
+use Rattle.core_frames.specs.declared.desk.Desk.{Desk}
+use Rattle.held_blocks.specs.declared.labelled_block.LabelledBlock.{LabelledBlock}
+use Rattle.held_blocks.specs.Desk.{MayRefuse, blocks_of}
+use Rattle.frame_core.specs.Holding.{IsHolding}
+use Rattle.frame_model.specs.declared.key.Key.{Key}
+use Rattle.llfree_trace.proofs.Running.{step_lawful}
+use Rattle.llfree_trace.specs.Outcome.{Runs, list_of}
+use Rattle.llfree_trace.specs.Rounds.{Ask, DeskRun, IsAsk, answers_of, asks_from, asks_of, place, spot, RoundRan}
+use Rattle.llfree_trace.specs.Trace.{cores_in}
+use Rattle.llfree_trace.specs.declared.line.Line.{Line}
+use Rattle.llfree_trace.specs.declared.line.Line.TheVariants as line
+use Rattle.llfree_trace.specs.declared.line.Request.{Request}
+use Rattle.llfree_trace.specs.declared.reply.Answer.{Answer}
+
+-- what the lists of all cores do, each by its own requests and answers
+pub record Apart (key : Key) (old : List (List LabelledBlock)) (asks : List Ask) (answers : List Answer)
+    (new : List (List LabelledBlock)) : Type 0 where
+  pub spots : map spot answers ≡ map place asks
+  pub width : length new ≡ length old
+  pub lawful : (k : ℕ) → k < length old → IsHolding key (blocks_of (list_of old k))
+  pub runs : (k : ℕ) → k < length old
+      → DeskRun key (list_of old k) (asks_of k asks) (answers_of k answers) (list_of new k)
+
+-- lists with the same elements are one
+same_lists : (xs ys : List (List LabelledBlock)) → length ys ≡ length xs
+    → ((k : ℕ) → k < length xs → list_of xs k ≡ list_of ys k) → xs ≡ ys
+same_lists [] [] size all = refl
+same_lists [] (y ∷ ys) size all = absurd (omega arith)
+same_lists (x ∷ xs) [] size all = absurd (omega arith)
+same_lists (x ∷ xs) (y ∷ ys) size all =
+    ap₂ (λ (z : List LabelledBlock) (zs : List (List LabelledBlock)). z ∷ zs) (all 0 (omega arith))
+    (same_lists xs ys (omega arith) (λ k lt. all (suc k) (omega arith)))
+
+test_same : (m k : ℕ) → m ≡ k → (m == k) ≡ true
+test_same m k e = grind (arith, nat_tests)
+
+test_other : (m k : ℕ) → m ≢ k → (m == k) ≡ false
+test_other m k e = grind (arith, nat_tests)
+
+head_line : (a b : Answer) (c : Ask) (rest : List Answer) (cs : List Ask) → map spot (a ∷ rest) ≡ map place (c ∷ cs)
+    → (a.line ≡ c.number) × (a.core ≡ c.core) × (map spot rest ≡ map place cs)
+head_line a b c rest cs e =
+    (ap (λ (p : ℕ × ℕ). p.0) (ap (first_of (spot a)) e), ap (λ (p : ℕ × ℕ). p.1) (ap (first_of (spot a)) e), ap rest_of e)
+  where
+    first_of : ℕ × ℕ → List (ℕ × ℕ) → ℕ × ℕ
+    first_of d [] = d
+    first_of d (x ∷ xs) = x
+
+    rest_of : List (ℕ × ℕ) → List (ℕ × ℕ)
+    rest_of [] = []
+    rest_of (x ∷ xs) = xs
+
+-- the rest of a round, behind its first request
+rest_apart : (key : Key) (old : List (List LabelledBlock)) (ask : Ask) (asks : List Ask) (a : Answer) (answers : List Answer)
+    (new : List (List LabelledBlock)) (mid : List LabelledBlock) → Apart key old (ask ∷ asks) (a ∷ answers) new
+    → ask.core < length old → IsHolding key (blocks_of mid)
+    → DeskRun key mid (asks_of ask.core asks) (answers_of ask.core answers) (list_of new ask.core)
+    → Apart key (set old ask.core mid) asks answers new
+rest_apart key old ask asks a answers new mid apart inside holds run =
+    let core : ℕ = ask.core in
+    let heads = head_line a a ask answers asks apart.spots in
+    let width : length (set old core mid) ≡ length old = length-set old core mid in
+    let own : get_or (set old core mid) core [] ≡ mid = get_or-set_at old core core mid [] refl inside in
+    record {
+      spots = heads.2;
+      width = apart.width ∙ sym width;
+      lawful = λ k lt.
+          let P : ℕ → Type 0 = λ h. IsHolding key (blocks_of (list_of (set old core mid) h)) in
+          elim (eqb_tells core k) [
+            | inl s ↦ subst P s.1 (rw own holds)
+            | inr s ↦ rw (get_or-set_other old core k mid [] (λ q. s.1 (sym q))) (apart.lawful k (omega (arith, lt, width)))
+          ];
+      runs = λ k lt.
+          let P : ℕ → Type 0 = λ h. DeskRun key (list_of (set old core mid) h) (asks_of h asks) (answers_of h answers) (list_of new h) in
+          elim (eqb_tells core k) [
+            | inl s ↦ subst P s.1 (rw own run)
+            | inr s ↦
+                let skip_ask : (core == k) ≡ false = test_other core k s.1 in
+                let skip_answer : (a.core == k) ≡ false = test_other a.core k (λ q. s.1 (sym heads.1 ∙ q)) in
+                rw (get_or-set_other old core k mid [] (λ q. s.1 (sym q)))
+                (rw (skip_ask, skip_answer) at (apart.runs k (omega (arith, lt, width))))
+          ];
+    }
+
+-- each core's run by itself makes one run of the lines
+pub interleaved : (key : Key) (number : ℕ) (old : List (List LabelledBlock)) (lines : List Line) (answers : List Answer)
+    (new : List (List LabelledBlock)) → All IsAsk lines → All (λ l. cores_in l ≤ length old) lines
+    → Apart key old (asks_from number lines) answers new → Runs MayRefuse key number old lines answers new
+unfolding Runs asks_from DeskRun
+interleaved key number old [] [] new all inside apart =
+    same_lists old new apart.width (λ k lt. apart.runs k lt)
+interleaved key number old [] (a ∷ answers) new all inside apart = absurd (no_spots a answers apart.spots)
+  where
+    no_spots : (a : Answer) (answers : List Answer) → map spot (a ∷ answers) ≡ map place [] → ⊥
+    no_spots a answers e = let z = ap length e in absurd (omega (arith, z))
+interleaved key number old (line.Ask core request ∷ lines) [] new all inside apart =
+    absurd (no_places core request lines apart.spots)
+  where
+    no_places : (core : ℕ) (request : Request) (lines : List Line)
+        → map spot [] ≡ map place (asks_from number (line.Ask core request ∷ lines)) → ⊥
+    no_places core request lines e = let z = ap length e in absurd (omega (arith, z))
+interleaved key number old (line.Ask core request ∷ lines) (a ∷ answers) new all inside apart =
+    let ask : Ask = record { number = number; core = core; request = request } in
+    let asks = asks_from (number + 1) lines in
+    let low : core < length old =
+    let one : core + 1 ≤ length old = All-head (λ l. cores_in l ≤ length old) (line.Ask core request) lines inside in omega arith in
+    let heads = head_line a a ask answers asks apart.spots in
+    let keep_ask : (core == core) ≡ true = test_same core core refl in
+    let keep_answer : (a.core == core) ≡ true = test_same a.core core heads.1 in
+    let run : DeskRun key (list_of old core) (ask ∷ asks_of core asks) (a ∷ answers_of core answers) (list_of new core) =
+    rw (keep_ask, keep_answer) at (apart.runs core low) in
+    let mid : List LabelledBlock = run.2 in
+    let holds = step_lawful MayRefuse key (list_of old core) request a.reply mid (apart.lawful core low) run.3 in
+    let wide : length old ≡ length (set old core mid) = sym (length-set old core mid) in
+    let after : All (λ l. cores_in l ≤ length (set old core mid)) lines =
+    rw (← wide) (All-tail (λ l. cores_in l ≤ length old) (line.Ask core request) lines inside) in (
+      heads.0,
+      heads.1,
+      mid,
+      run.3,
+      holds,
+      interleaved key (number + 1) (set old core mid) lines answers new (All-tail IsAsk (line.Ask core request) lines all) after
+          (rest_apart key old ask asks a answers new mid apart low holds run.4),
+    )
+interleaved key number old (l ∷ lines) answers new all inside apart = absurd (All-head IsAsk l lines all)
+
+-- the list at a place is that of the desk there
+pub list_there : (ds : List Desk) (k : ℕ) (d : Desk) → k < length ds → get_or (map list_in ds) k [] ≡ list_in (get_or ds k d)
+list_there [] k d lt = absurd (omega arith)
+list_there (x ∷ ds) zero d lt = refl
+list_there (x ∷ ds) (suc k) d lt = list_there ds k d (omega arith)
+
+some_desk : (ds : List Desk) (k : ℕ) → k < length ds → Desk
+some_desk [] k lt = absurd (omega arith)
+some_desk (x ∷ ds) k lt = x
+
+-- a round is a run of its lines
+pub round_runs : (al : Allocator) (old : List Desk) (number : ℕ) (lines : List Line) (answers : List Answer) (new : List Desk)
+    → All (IsDeskOf al) old → All IsAsk lines → All (λ l. cores_in l ≤ length old) lines
+    → RoundRan al old (asks_from number lines) answers new
+    → Runs MayRefuse (memory_of al) number (map list_in old) lines answers (map list_in new)
+round_runs al old number lines answers new desks all inside ran =
+    let size : length (map list_in old) ≡ length old = length-map old list_in in
+    interleaved (memory_of al) number (map list_in old) lines answers (map list_in new) all (rw size inside)
+    (record {
+      spots = ran.spots;
+      width = length-map new list_in ∙ (ran.width ∙ sym size);
+      lawful = λ k lt.
+          let low : k < length old = omega (arith, lt, size) in
+          let d = some_desk old k low in
+          rw (list_there old k d low) ((desks k d low).apart);
+      runs = λ k lt.
+          let low : k < length old = omega (arith, lt, size) in
+          let high : k < length new = omega (arith, low, ran.width) in
+          let d = some_desk old k low in
+          rw (list_there old k d low, list_there new k d high) (ran.runs k d low);
+    })

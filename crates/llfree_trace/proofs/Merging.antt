@@ -1,0 +1,290 @@
+-- How the answers of a round are put into the order of its lines.
+use Rattle.std.specs.List.{All}
+use Rattle.std.proofs.Common.{◌≡◌, ◌≢◌, ◌==◌, ◌+◌, ◌<◌, ◌∙◌, ℕ, zero, suc, List, [], ◌∷◌, ◌++◌, true, false, length, take, drop, set, get_or, map, refl, sym, ap, ap₂, subst, arith, length-append, zero-add, add-zero, inl, inr, ◌+ℤ◌}
+use Rattle.std.proofs.Math.ListN.{get_or-map, length-set}
+use Rattle.std.proofs.Math.Seq.{get_or-append_seam}
+use Rattle.std.proofs.lemmas.Bool.Decides.{nat_tests, eqb_tells}
+use Rattle.std.proofs.lemmas.Grind.{get_or-set_at, common_steps}
+use Rattle.std.proofs.lemmas.List.{append-nil, append_assoc, get_or_default, get_or-set_other, length-map, map-append, take_more, take-append-drop}
+use Rattle.std.proofs.lemmas.List.Elements.{filter_more, filter-append}
+use Rattle.held_blocks.specs.declared.labelled_block.LabelledBlock.{LabelledBlock}
+use Rattle.core_frames.specs.Desks.{list_of}
+use Rattle.frame_table.specs.Closing.{lent_through}
+use Rattle.core_frames.specs.Cores.{memory_of}
+use Rattle.core_frames.specs.declared.allocator.Allocator.{Allocator}
+use Rattle.core_frames.specs.declared.desk.Desk.{Desk}
+use Rattle.frame_model.specs.declared.key.Key.{Key}
+use Rattle.llfree_trace.specs.declared.reply.Answer.{Answer}
+use Rattle.llfree_trace.specs.declared.lines.Done.{Done}
+use Rattle.llfree_trace.proofs.Workers.{ask_core_is, ask_count}
+use Rattle.llfree_trace.specs.declared.line.Line.{Line}
+use Rattle.llfree_trace.specs.declared.line.Request.TheVariants as request
+use Rattle.llfree_trace.specs.Rounds.{IsAsk, ask_core, asks_from, Ask, DeskRun, Fitting, Merged, Ran, RanAll, RoundRan, answers_of, asks_of, lent_by_desks, place, spot}
+
+-- the answers to the first i lines stand in order, and of each core as many are used as it has lines among them
+pub record Merging (lines : List Ask) (done : List Done) (i : ℕ) (next : List ℕ) (all : List Answer) : Type 0 where
+  pub width : length next ≡ length done
+  pub used : (k : ℕ) → k < length done → get_or next k 0 ≡ length (asks_of k (take i lines))
+  pub spots : map spot all ≡ map place (take i lines)
+  pub each : (k : ℕ) (d : Done) → k < length done → answers_of k all ≡ take (length (asks_of k (take i lines))) (get_or done k d).answers.items
+
+-- the lines of a core among the first i + 1, and its answers among those with one more
+own_lines : (k : ℕ) (lines : List Ask) (i : ℕ) (d : Ask) → i < length lines → (get_or lines i d).core ≡ k
+    → asks_of k (take (i + 1) lines) ≡ asks_of k (take i lines) ++ get_or lines i d ∷ []
+own_lines k lines i d lt own =
+    let test : ((get_or lines i d).core == k) ≡ true = grind (arith, nat_tests) in
+    rw (filter_more (λ (l : Ask). l.core == k) lines i d lt, test) refl
+
+other_lines : (k : ℕ) (lines : List Ask) (i : ℕ) (d : Ask) → i < length lines → (get_or lines i d).core ≢ k
+    → asks_of k (take (i + 1) lines) ≡ asks_of k (take i lines)
+other_lines k lines i d lt other =
+    let test : ((get_or lines i d).core == k) ≡ false = grind (arith, nat_tests) in
+    rw (filter_more (λ (l : Ask). l.core == k) lines i d lt, test) (append-nil (asks_of k (take i lines)))
+
+own_answer : (k : ℕ) (all : List Answer) (a : Answer) → a.core ≡ k → answers_of k (all ++ a ∷ []) ≡ answers_of k all ++ a ∷ []
+own_answer k all a own =
+    let test : (a.core == k) ≡ true = grind (arith, nat_tests) in
+    rw (filter-append (λ (b : Answer). b.core == k) all (a ∷ []), test) refl
+
+other_answer : (k : ℕ) (all : List Answer) (a : Answer) → a.core ≢ k → answers_of k (all ++ a ∷ []) ≡ answers_of k all
+other_answer k all a other =
+    let test : (a.core == k) ≡ false = grind (arith, nat_tests) in
+    rw (filter-append (λ (b : Answer). b.core == k) all (a ∷ []), test) (append-nil (answers_of k all))
+
+-- a core's lines, where line i is one of them
+own_split : (k : ℕ) (lines : List Ask) (i : ℕ) (d : Ask) → i < length lines → (get_or lines i d).core ≡ k
+    → asks_of k lines ≡ asks_of k (take i lines) ++ get_or lines i d ∷ asks_of k (drop (i + 1) lines)
+own_split k lines i d lt own =
+    let rest = asks_of k (drop (i + 1) lines) in
+    ap (asks_of k) (sym (take-append-drop (i + 1) lines))
+    ∙ (filter-append (λ (l : Ask). l.core == k) (take (i + 1) lines) (drop (i + 1) lines)
+    ∙ (ap (λ (xs : List Ask). xs ++ rest) (own_lines k lines i d lt own) ∙ append_assoc (asks_of k (take i lines)) (get_or lines i d ∷ []) rest))
+
+-- a core has as many answers as lines
+same_count : (lines : List Ask) (done : List Done) (k : ℕ) (e : Done) → Fitting lines done → k < length done
+    → length (get_or done k e).answers.items ≡ length (asks_of k lines)
+same_count lines done k e fit lt =
+    sym (length-map (get_or done k e).answers.items spot) ∙ (ap length (fit.fits k e lt) ∙ length-map (asks_of k lines) place)
+
+-- the next answer of the core of line i
+pub room : (lines : List Ask) (done : List Done) (i : ℕ) (next : List ℕ) (all : List Answer) (d : Ask) (e : Done)
+    → Fitting lines done → Merging lines done i next all → i < length lines
+    → get_or next (get_or lines i d).core 0 < length (get_or done (get_or lines i d).core e).answers.items
+room lines done i next all d e fit m lt =
+    let k = (get_or lines i d).core in
+    let inside = fit.inside i d lt in
+    let rest = asks_of k (drop (i + 1) lines) in
+    omega (arith, m.used k inside, same_count lines done k e fit inside, ap length (own_split k lines i d lt refl), length-append (asks_of k (take i lines)) (get_or lines i d ∷ rest))
+
+pub spot_is : (lines : List Ask) (done : List Done) (i : ℕ) (next : List ℕ) (all : List Answer) (d : Ask) (e : Done) (b : Answer)
+    → Fitting lines done → Merging lines done i next all → i < length lines
+    → spot (get_or (get_or done (get_or lines i d).core e).answers.items (get_or next (get_or lines i d).core 0) b) ≡ place (get_or lines i d)
+spot_is lines done i next all d e b fit m lt =
+    let l = get_or lines i d in
+    let k = l.core in
+    let inside = fit.inside i d lt in
+    let answers = (get_or done k e).answers.items in
+    let n = get_or next k 0 in
+    let front = map place (asks_of k (take i lines)) in
+    let back = map place (asks_of k (drop (i + 1) lines)) in
+    let all_spots : map spot answers ≡ front ++ place l ∷ back =
+    fit.fits k e inside ∙ (ap (map place) (own_split k lines i d lt refl) ∙ map-append place (asks_of k (take i lines)) (l ∷ asks_of k (drop (i + 1) lines))) in
+    let at : length front ≡ n = length-map (asks_of k (take i lines)) place ∙ sym (m.used k inside) in
+    let P : ℕ → Type 0 = λ j. get_or (front ++ place l ∷ back) j (spot b) ≡ place l in
+    sym (get_or-map spot answers n b) ∙ (ap (λ (xs : List (ℕ × ℕ)). get_or xs n (spot b)) all_spots ∙ subst P at (get_or-append_seam front (place l) back (spot b)))
+
+pub at_zero : (lines : List Ask) (done : List Done) (i : ℕ) (next : List ℕ) (all : List Answer) (d : Ask) (at : ℕ)
+    → Fitting lines done → Merging lines done i next all → i < length lines → at ≡ get_or next (get_or lines i d).core at → at ≡ get_or next (get_or lines i d).core 0
+at_zero lines done i next all d at fit m lt is =
+    let inside = fit.inside i d lt in
+    let wide : (get_or lines i d).core < length next = omega (arith, m.width, inside) in
+    is ∙ get_or_default next (get_or lines i d).core at 0 wide
+
+pub starts : (lines : List Ask) (done : List Done) (next : List ℕ) → length next ≡ length done → ((k : ℕ) → k < length done → get_or next k 0 ≡ 0)
+    → Merging lines done 0 next []
+starts lines done next width zeros = record { width = width; used = λ k lt. zeros k lt; spots = refl; each = λ k d lt. refl }
+
+pub ends : (lines : List Ask) (done : List Done) (next : List ℕ) (all : List Answer) → Fitting lines done → Merging lines done (length lines) next all
+    → Merged lines done all
+ends lines done next all fit m =
+    let whole : take (length lines) lines ≡ lines = grind (arith, common_steps) in
+    record {
+      spots = rw whole at m.spots;
+      each = λ k d lt.
+          let answers = (get_or done k d).answers.items in
+          let count : length (asks_of k lines) ≡ length answers = sym (same_count lines done k d fit lt) in
+          let every : take (length answers) answers ≡ answers = grind (arith, common_steps) in
+          let P : ℕ → Type 0 = λ j. take j answers ≡ answers in
+          let Q : List Ask → Type 0 = λ ls. answers_of k all ≡ take (length (asks_of k ls)) answers in
+          subst Q whole (m.each k d lt) ∙ subst P (sym count) every;
+    }
+
+pub goes_on : (lines : List Ask) (done : List Done) (i : ℕ) (next : List ℕ) (all : List Answer) (d : Ask) (e : Done) (b : Answer)
+    → Fitting lines done → Merging lines done i next all → i < length lines
+    → Merging lines done (i + 1) (set next (get_or lines i d).core (get_or next (get_or lines i d).core 0 + 1))
+    (all ++ get_or (get_or done (get_or lines i d).core e).answers.items (get_or next (get_or lines i d).core 0) b ∷ [])
+goes_on lines done i next all d e b fit m lt =
+    let l = get_or lines i d in
+    let k = l.core in
+    let inside = fit.inside i d lt in
+    let n = get_or next k 0 in
+    let a = get_or (get_or done k e).answers.items n b in
+    let is = spot_is lines done i next all d e b fit m lt in
+    let core : a.core ≡ k = ap (λ (p : ℕ × ℕ). p.1) is in
+    let own = own_lines k lines i d lt refl in
+    let count : length (asks_of k (take (i + 1) lines)) ≡ n + 1 =
+    ap length own ∙ omega (arith, length-append (asks_of k (take i lines)) (l ∷ []), m.used k inside) in
+    let wide : k < length next = omega (arith, m.width, inside) in
+    let used_own : get_or (set next k (n + 1)) k 0 ≡ length (asks_of k (take (i + 1) lines)) = get_or-set_at next k k (n + 1) 0 refl wide ∙ sym count in
+    let each_own : (f : Done) → answers_of k (all ++ a ∷ []) ≡ take (length (asks_of k (take (i + 1) lines))) (get_or done k f).answers.items =
+    λ f.
+    let ans = (get_or done k f).answers.items in
+    let same : get_or done k e ≡ get_or done k f = get_or_default done k e f inside in
+    let next_one : a ≡ get_or ans n b = ap (λ (x : Done). get_or x.answers.items n b) same in
+    let more : take (n + 1) ans ≡ take n ans ++ get_or ans n b ∷ [] = take_more ans n b (room lines done i next all d f fit m lt) in
+    let before : answers_of k all ≡ take n ans = m.each k f inside ∙ ap (λ (j : ℕ). take j ans) (sym (m.used k inside)) in
+    own_answer k all a core
+    ∙ (ap (λ (xs : List Answer). xs ++ a ∷ []) before
+    ∙ (ap (λ (y : Answer). take n ans ++ y ∷ []) next_one ∙ (sym more ∙ ap (λ (j : ℕ). take j ans) (sym count)))) in
+    record {
+      width = length-set next k (n + 1) ∙ m.width;
+      used = λ j small.
+          let P : ℕ → Type 0 = λ h. get_or (set next k (n + 1)) h 0 ≡ length (asks_of h (take (i + 1) lines)) in
+          elim (eqb_tells k j) [
+            | inl s ↦ subst P s.1 used_own
+            | inr s ↦
+                get_or-set_other next k j (n + 1) 0 (λ q. s.1 (sym q))
+                ∙ (m.used j small ∙ ap length (sym (other_lines j lines i d lt s.1)))
+          ];
+      spots = map-append spot all (a ∷ []) ∙ (ap₂ ◌++◌ m.spots (ap (λ (x : ℕ × ℕ). x ∷ []) is)
+          ∙ (sym (map-append place (take i lines) (l ∷ [])) ∙ ap (map place) (sym (take_more lines i d lt))));
+      each = λ j f small.
+          let P : ℕ → Type 0 = λ h. answers_of h (all ++ a ∷ []) ≡ take (length (asks_of h (take (i + 1) lines))) (get_or done h f).answers.items in
+          elim (eqb_tells k j) [
+            | inl s ↦ subst P s.1 (each_own f)
+            | inr s ↦
+                other_answer j all a (λ q. s.1 (sym core ∙ q))
+                ∙ (m.each j f small ∙ ap (λ (ls : List Ask). take (length ls) (get_or done j f).answers.items) (sym (other_lines j lines i d lt s.1)))
+          ];
+    }
+
+-- a run answers each request
+run_spots : (key : Key) (old : List LabelledBlock) (lines : List Ask) (answers : List Answer) (new : List LabelledBlock)
+    → DeskRun key old lines answers new → map spot answers ≡ map place lines
+unfolding DeskRun
+run_spots key old [] [] new run = refl
+run_spots key old [] (a ∷ answers) new run = absurd run
+run_spots key old (l ∷ lines) [] new run = absurd run
+run_spots key old (l ∷ lines) (a ∷ answers) new run =
+    ap₂ (λ (p : ℕ × ℕ) (ps : List (ℕ × ℕ)). p ∷ ps) (ap₂ (λ (x y : ℕ). (x, y)) run.0 run.1) (run_spots key run.2 lines answers new run.4)
+
+-- what ran at one core
+ran_at : (al : Allocator) (core : ℕ) (desks : List Desk) (lines : List Ask) (done : List Done) (k : ℕ) (d : Desk) (e : Done)
+    → RanAll al core desks lines done → k < length done → Ran al (core + k) (get_or desks k d) lines (get_or done k e)
+ran_at al core [] lines [] k d e all lt = absurd (omega arith)
+ran_at al core [] lines (f ∷ done) k d e all lt = absurd all
+ran_at al core (b ∷ desks) lines [] k d e all lt = absurd all
+ran_at al core (b ∷ desks) lines (f ∷ done) zero d e all lt = rw add-zero all.0
+ran_at al core (b ∷ desks) lines (f ∷ done) (suc k) d e all lt =
+    let same : core + 1 + k ≡ core + suc k = omega arith in
+    let less : k < length done = omega arith in
+    rw same at (ran_at al (core + 1) desks lines done k d e all.1 less)
+
+pub same_width : (al : Allocator) (core : ℕ) (desks : List Desk) (lines : List Ask) (done : List Done) → RanAll al core desks lines done → length done ≡ length desks
+same_width al core [] lines [] all = refl
+same_width al core [] lines (f ∷ done) all = absurd all
+same_width al core (b ∷ desks) lines [] all = absurd all
+same_width al core (b ∷ desks) lines (f ∷ done) all = ap suc (same_width al (core + 1) desks lines done all.1)
+
+-- what all cores ran fits the requests
+pub fitting : (al : Allocator) (desks : List Desk) (lines : List Ask) (done : List Done) → RanAll al 0 desks lines done
+    → ((i : ℕ) (d : Ask) → i < length lines → (get_or lines i d).core < length desks) → Fitting lines done
+fitting al desks lines done all inside = record {
+  inside = λ i d lt. omega (arith, inside i d lt, same_width al 0 desks lines done all);
+  fits = λ k e lt.
+      let ran = rw zero-add at (ran_at al 0 desks lines done k e.desk e all lt) in
+      run_spots (memory_of al) (list_of (get_or desks k e.desk)) (asks_of k lines) (get_or done k e).answers.items (list_of (get_or done k e).desk) ran.run;
+}
+
+-- what stands at one place of the list
+at_mapped : (done : List Done) (k : ℕ) (d : Desk) → k < length done
+    → (e : Done) × (get_or done k e ≡ e) × (get_or (map (λ (x : Done). x.desk) done) k d ≡ e.desk)
+at_mapped [] k d lt = absurd (omega arith)
+at_mapped (f ∷ done) zero d lt = (f, refl, refl)
+at_mapped (f ∷ done) (suc k) d lt = let less : k < length done = omega arith in at_mapped done k d less
+
+-- the desks lend together as many blocks as before
+same_lents : (al : Allocator) (core : ℕ) (desks : List Desk) (lines : List Ask) (done : List Done) → RanAll al core desks lines done
+    → lent_by_desks (map (λ (x : Done). x.desk) done) ≡ lent_by_desks desks
+unfolding lent_through
+same_lents al core [] lines [] all = refl
+same_lents al core [] lines (f ∷ done) all = absurd all
+same_lents al core (b ∷ desks) lines [] all = absurd all
+same_lents al core (b ∷ desks) lines (f ∷ done) all =
+    ap₂ ◌+ℤ◌ all.0.lent (same_lents al (core + 1) desks lines done all.1)
+
+pub round_ran : (al : Allocator) (old : List Desk) (lines : List Ask) (done : List Done) (answers : List Answer) (new : List Desk)
+    → RanAll al 0 old lines done → Merged lines done answers → new ≡ map (λ (d : Done). d.desk) done → RoundRan al old lines answers new
+round_ran al old lines done answers new all m is =
+    let width = same_width al 0 old lines done all in
+    record {
+      spots = m.spots;
+      width = ap length is ∙ (length-map done (λ (d : Done). d.desk) ∙ width);
+      desks = λ k d lt.
+          let low : k < length done = omega (arith, ap length is, length-map done (λ (d : Done). d.desk)) in
+          let x = at_mapped done k d low in
+          let ran = rw (zero-add, x.1) at (ran_at al 0 old lines done k d x.0 all low) in
+          let here : get_or new k d ≡ x.0.desk = ap (λ (ds : List Desk). get_or ds k d) is ∙ x.2 in
+          rw here ran.desk;
+      lent = rw is (same_lents al 0 old lines done all);
+      runs = λ k d lt.
+          let low : k < length done = omega (arith, width) in
+          let x = at_mapped done k d low in
+          let ran = rw (zero-add, x.1) at (ran_at al 0 old lines done k d x.0 all low) in
+          let own : answers_of k answers ≡ x.0.answers.items = m.each k x.0 low ∙ ap (λ (e : Done). e.answers.items) x.1 in
+          let here : get_or new k d ≡ x.0.desk = ap (λ (ds : List Desk). get_or ds k d) is ∙ x.2 in
+          rw (own, here) ran.run;
+    }
+
+-- the next answer is put last
+pub merge_on : (lines : List Ask) (done : List Done) (i : ℕ) (next : List ℕ) (all : List Answer) (d : Ask) (e : Done)
+    (k n : ℕ) (answer : Answer) → Fitting lines done → Merging lines done i next all → i < length lines
+    → k ≡ (get_or lines i d).core → n ≡ get_or next k 0 → answer ≡ get_or (get_or done k e).answers.items n answer
+    → Merging lines done (i + 1) (set next k (n + 1)) (all ++ answer ∷ [])
+merge_on lines done i next all d e k n answer fit m lt is here found =
+    let c : ℕ = (get_or lines i d).core in
+    let more = goes_on lines done i next all d e answer fit m lt in
+    let count : n ≡ get_or next c 0 = here ∙ ap (λ (j : ℕ). get_or next j 0) is in
+    let found_c : answer ≡ get_or (get_or done c e).answers.items (get_or next c 0) answer =
+    found ∙ ap₂ (λ (j h : ℕ). get_or (get_or done j e).answers.items h answer) is count in
+    let P : Answer → Type 0 = λ x. Merging lines done (i + 1) (set next c (get_or next c 0 + 1)) (all ++ x ∷ []) in
+    let Q : ℕ → Type 0 = λ h. Merging lines done (i + 1) (set next c (h + 1)) (all ++ answer ∷ []) in
+    let R : ℕ → Type 0 = λ j. Merging lines done (i + 1) (set next j (n + 1)) (all ++ answer ∷ []) in
+    subst R (sym is) (subst Q (sym count) (subst P (sym found_c) more))
+
+pub room_at : (lines : List Ask) (done : List Done) (i : ℕ) (next : List ℕ) (all : List Answer) (d : Ask) (e : Done) (k : ℕ)
+    → Fitting lines done → Merging lines done i next all → i < length lines → k ≡ (get_or lines i d).core
+    → get_or next k 0 < length (get_or done k e).answers.items
+room_at lines done i next all d e k fit m lt is =
+    let R : ℕ → Type 0 = λ j. get_or next j 0 < length (get_or done j e).answers.items in
+    subst R (sym is) (room lines done i next all d e fit m lt)
+
+-- what a request is by itself
+pub blank : Ask
+blank = record { number = 0; core = 0; request = request.GiveAt 0 0 }
+
+-- the core of a line is that of its request, and has a place
+pub core_is : (first : ℕ) (lines : List Line) (i : ℕ) (item : Line) (core : ℕ) → All IsAsk lines → i < length lines
+    → item ≡ get_or lines i item → core ≡ ask_core item → core ≡ (get_or (asks_from first lines) i blank).core
+core_is first lines i item core all lt is named =
+    named ∙ (ap ask_core is ∙ sym (ask_core_is first lines i item blank all lt))
+
+pub core_low : (first : ℕ) (lines : List Line) (i : ℕ) (item : Line) (core : ℕ) (done : List Done) → All IsAsk lines
+    → i < length lines → item ≡ get_or lines i item → core ≡ ask_core item → Fitting (asks_from first lines) done
+    → core < length done
+core_low first lines i item core done all lt is named fit =
+    let within : i < length (asks_from first lines) = omega (arith, ask_count first lines all, lt) in
+    omega (arith, core_is first lines i item core all lt is named, fit.inside i blank within)
+
+pub used_is : (next : List ℕ) (core n : ℕ) → core < length next → n ≡ get_or next core n → n ≡ get_or next core 0
+used_is next core n low is = is ∙ get_or_default next core n 0 low

@@ -1,0 +1,14 @@
+-- The ranges that records hold back.
+use Rattle.std.proofs.Common.{◌≡◌, ◌∙◌, ℕ, List, [], ◌∷◌, ◌++◌, ap}
+use Rattle.std.proofs.lemmas.Grind.{flat_map-append}
+use Rattle.std.proofs.lemmas.List.{append-nil}
+use Rattle.llfree_trace.specs.declared.line.Line.{Line}
+use Rattle.llfree_trace.specs.Trace.{range_in, ranges_in}
+
+-- one more record
+pub ranges_in_more : (lines : List Line) (line : Line)
+    → ranges_in (lines ++ line ∷ []) ≡ ranges_in lines ++ range_in line
+unfolding ranges_in
+ranges_in_more lines line =
+    flat_map-append range_in lines (line ∷ [])
+    ∙ ap (λ (t : List (ℕ × ℕ)). ranges_in lines ++ t) (append-nil (range_in line))

@@ -1,0 +1,48 @@
+use Rattle.std.proofs.Common.{◌≡◌, ◌∙◌, ◌≤◌, [], length, map, refl, true, replicate, vec_len, ap, arith}
+use Rattle.std.proofs.lemmas.List.{length-map}
+use Rattle.frame_core.specs.Key.{sealed_key}
+use Rattle.frame_model.specs.declared.key.Key.{Key}
+use Rattle.core_frames.specs.Cores.{memory_of}
+use Rattle.core_frames.specs.Desks.{core_of}
+use Rattle.llfree_trace.specs.Rounds.{lists_at}
+use Rattle.llfree_trace.specs.Trace.{ranges_in}
+use Rattle.llfree_trace.proofs.Cores.{cores_in_at}
+use Rattle.llfree_trace.proofs.Ended.{image_is, is_answered}
+use Rattle.llfree_trace.proofs.NewDesks.{all_cores, none_lent}
+use Rattle.llfree_trace.proofs.many_cores.run_trace.Goals as goal
+
+pub run_all-requires-clause-inside : goal.run_all-requires-clause-inside
+run_all-requires-clause-inside g c κs within =
+    let desks = c.in_ok-desks.desks in
+    let wide : length desks.items ≡ c.args.geometry.cores =
+    omega (arith, ap length c.in_ok-desks.ensures.cores, length-map desks.items core_of, c.in_ok-allocator.ensures.opened.count) in
+    rw c.lines.ensures.value (λ k d lt. omega (arith, cores_in_at c.args.trace.now k d lt, c.requires, wide, desks.ok))
+
+pub close-requires : goal.close-requires
+close-requires g c =
+    all_cores c.in_ok-allocator.allocator c.in_ok-end.end.desks.items c.in_ok-cores.cores.items c.in_ok-cores.ensures.cores
+    c.in_ok-end.ensures.goes.desks
+
+pub returns-in-Ok-clause-fits : goal.returns-in-Ok-clause-fits
+returns-in-Ok-clause-fits g c =
+    let a = c.in_ok-allocator.allocator in
+    let opened = c.in_ok-allocator.ensures.opened in
+    let goes = rw c.lines.ensures.value at c.in_ok-end.ensures.goes in
+    let closing = rw c.in_ok-cores.ensures.cores at c.in-Ok.ensures.ok in
+    let start = c.in_ok-desks.desks in
+    let count : vec_len c.in_ok-allocator.cores ≡ c.args.geometry.cores = omega (arith, opened.count, c.in_ok-allocator.cores.ok) in
+    let begins = rw count at c.in_ok-desks.ensures.lists in
+    is_answered a c.in_ok-end.end.desks.items c.in-Ok.image (ap (λ (k : Key). k.sealed) opened.memory) goes.desks closing
+    (goes.lent ∙ none_lent a start.items c.in_ok-allocator.cores.items c.in_ok-desks.ensures.cores opened.each)
+    c.args.geometry c.args.trace.now _ c.in_ok-end.end (opened.memory ∙ ap (sealed_key c.args.geometry) c.ranges-2.ensures)
+    goes refl c.new-answers.ensures.items begins
+
+pub returns-in-Ok-clause-geometry : goal.returns-in-Ok-clause-geometry
+returns-in-Ok-clause-geometry g c =
+    let a = c.in_ok-allocator.allocator in
+    let opened = c.in_ok-allocator.ensures.opened in
+    let goes = c.in_ok-end.ensures.goes in
+    let closing = rw c.in_ok-cores.ensures.cores at c.in-Ok.ensures.ok in
+    image_is a c.in_ok-end.end.desks.items c.in-Ok.image (ap (λ (k : Key). k.sealed) opened.memory) goes.desks closing
+    (goes.lent ∙ none_lent a c.in_ok-desks.desks.items c.in_ok-allocator.cores.items c.in_ok-desks.ensures.cores opened.each)
+    c.args.geometry (ranges_in c.args.trace.now) (opened.memory ∙ ap (sealed_key c.args.geometry) c.ranges-2.ensures)

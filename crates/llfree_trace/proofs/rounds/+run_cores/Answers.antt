@@ -1,0 +1,31 @@
+use Rattle.std.proofs.Common.{rules, ◌≡◌, length, refl}
+use Rattle.llfree_trace.specs.Rounds.{asks_from}
+use Rattle.llfree_trace.proofs.Workers.{front_desks, last_ran, none_ran}
+use Rattle.llfree_trace.proofs.rounds.+run_cores.Goals as goal
+
+pub start-requires-clause-desk : goal.start-requires-clause-desk
+start-requires-clause-desk g t c κs within =
+    (front_desks _ _ _ _ c.in-Some.ensures.items c.requires.desks).1
+
+pub run_cores-others-requires-clause-desks : goal.run_cores-others-requires-clause-desks
+run_cores-others-requires-clause-desks g t c κs within =
+    (front_desks _ _ _ _ c.in-Some.ensures.items c.requires.desks).0
+
+pub returns-then-not-has_lines-clause-ran : goal.returns-then-not-has_lines-clause-ran
+returns-then-not-has_lines-clause-ran g t c =
+    let asks = asks_from c.args.first c.args.lines.now in
+    let core = c.len-core.result in
+    let place : core ≡ length c.pop.new.self.items = search rules in
+    let desk = (front_desks _ _ _ _ c.in-Some.ensures.items c.requires.desks).1 in
+    let one = none_ran c.args.allocator.now core c.args.first c.args.lines.now c.in-Some.desk _ desk c.if-not-has_lines.ensures refl
+    c.new-answers.ensures.items in
+    last_ran _ _ _ asks _ _ core _ _ c.in-Some.ensures.items place c.in_ok-push.ensures.items c.in_ok-all.ensures.ran one
+
+pub returns-clause-ran : goal.returns-clause-ran
+returns-clause-ran g t c =
+    let asks = asks_from c.args.first c.args.lines.now in
+    let core = c.len-core.result in
+    let place : core ≡ length c.pop.new.self.items = search rules in
+    let is = c.in_ok-child.ensures in
+    let one = rw (is.allocator, is.core, is.was, is.first, is.lines) at c.in_ok-done.ensures.0 in
+    last_ran _ _ _ asks _ _ core _ _ c.in-Some.ensures.items place c.in_ok-push-2.ensures.items c.in_ok-all-2.ensures.ran one

@@ -1,0 +1,50 @@
+//! A run of a trace on several cores, each on a thread of its own.
+
+ghost use Rattle.std.specs.Prelude.{◌≡◌, ◌≤◌, IfErr, IfOk};
+ghost use Rattle.core_frames.specs.Ranges.{IsUnopenedFor, MayHoldBack};
+ghost use Rattle.held_blocks.specs.Desk.{MayRefuse};
+ghost use Rattle.llfree_trace.specs.Outcome.{IsAnsweredBy};
+ghost use Rattle.llfree_trace.specs.Trace.{core_count, ranges_in};
+
+use crate::gate::Gate;
+use crate::line::Trace;
+use crate::progress::{Progress, run_all};
+use crate::reply::Outcome;
+use crate::seating::{finish_all, open_desks};
+use core_frames::Allocator;
+use frame_words::{Fault, Geometry};
+use std::alloc::Global;
+use std::sync::Wait;
+use std::thread::Threads;
+
+/// Runs a trace. In each round, every core that has requests answers them on a thread of its own;
+/// all threads are started before the first is joined. Moves and ends of rounds stand between.
+///
+/// Answers may differ from run to run; each fits the trace. `BadRange` where the ranges of its
+/// records may not be held back, before anything is run; else refused only for want of memory or of
+/// a thread.
+pub fn run_trace<G: Gate, R: Threads + Wait>(
+    rt: &R,
+    alloc: Global,
+    geometry: Geometry,
+    trace: &Trace,
+    gate: &G,
+) -> Result<Outcome, Fault>
+    requires { core_count trace.now ≤ geometry.cores }
+    ensures fits { IfOk result (λ o. IsAnsweredBy MayRefuse trace.now o.answers.items o.image) }
+    ensures geometry { IfOk result (λ o. o.image.geometry ≡ geometry) }
+    ensures lawful { IfOk result (λ o. MayHoldBack geometry (ranges_in trace.now)) }
+    ensures refused { IfErr result (IsUnopenedFor geometry (ranges_in trace.now)) }
+{
+    let (allocator, cores) = Allocator::open_with(alloc, geometry, trace.ranges())?;
+    let desks = open_desks(alloc, &allocator, cores)?;
+    let answers = Vec::new(alloc);
+    let start = Progress { desks, answers };
+    let end = run_all(rt, alloc, &allocator, gate, start, trace.lines())?;
+    let Progress { desks, answers } = end;
+    let cores = finish_all(alloc, desks)?;
+    match allocator.close(alloc, cores) {
+        Ok(image) => Ok(Outcome { answers, image }),
+        Err(_) => Err(Fault::NoMemory),
+    }
+}

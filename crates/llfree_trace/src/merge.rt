@@ -1,0 +1,85 @@
+//! The answers of a round, in the order of its records.
+
+ghost use Rattle.std.specs.Prelude.{◌≡◌, ◌+◌, ◌≤◌, true, length, map, vec_len, IfOk, IfErr};
+ghost use Rattle.std.specs.List.{All};
+ghost use Rattle.core_frames.specs.Cores.{memory_of};
+ghost use Rattle.core_frames.specs.Desks.{IsDeskOf};
+ghost use Rattle.llfree_trace.specs.Rounds.{IsAsk, ask_core, asks_from, Fitting, Merged, RoundRan};
+ghost use Rattle.llfree_trace.specs.Trace.{cores_in};
+
+use crate::gate::Gate;
+use crate::line::Line;
+use crate::lines::Done;
+use crate::reply::Answer;
+use crate::rounds::run_round;
+use core_frames::{Allocator, Desk};
+use frame_words::Fault;
+use std::alloc::Global;
+use std::sync::Wait;
+use std::thread::Threads;
+
+// Puts the answers of all cores into the order of the records.
+fn merge(alloc: Global, first: u32, lines: &[Line], done: &[Done]) -> Result<Vec<Answer>, Fault>
+    requires asks { All IsAsk lines.now }
+    requires fit { Fitting (asks_from first lines.now) done.now }
+    ensures merged { IfOk result (λ all. Merged (asks_from first lines.now) done.now all.items) }
+    ensures fault { IfErr result (λ e. e ≡ Fault.NoMemory) }
+{
+    let mut next = vec![in alloc; 0usize; done.len()]?;
+    let mut all = Vec::new(alloc);
+    for line in lines {
+        let core = core_of(line) as usize;
+        let at = next[core];
+        let own = &done[core];
+        let answer = own.answers[at];
+        next[core] = at + 1;
+        all.push(answer)?;
+    }
+    Ok(all)
+}
+
+// The core of a request.
+fn core_of(line: &Line) -> u32
+    requires { IsAsk line.now }
+    ensures { result ≡ ask_core line.now }
+{
+    match line {
+        Line::Ask { core, .. } => *core,
+        _ => unreachable!(),
+    }
+}
+
+// The desks.
+fn desks_of(alloc: Global, done: Vec<Done>) -> Result<Vec<Desk>, Fault>
+    ensures desks { IfOk result (λ v. v.items ≡ map (λ d. d.desk) done.items) }
+    ensures fault { IfErr result (λ e. e ≡ Fault.NoMemory) }
+{
+    let desks = done.into_iter().map(|one| one.desk).collect(alloc)?;
+    Ok(desks)
+}
+
+/// Runs a round, and puts its answers into the order of its records.
+pub(crate) fn answer_round<G: Gate, R: Threads + Wait>(
+    rt: &R,
+    alloc: Global,
+    allocator: &Allocator,
+    gate: &G,
+    desks: Vec<Desk>,
+    first: u32,
+    lines: &[Line],
+) -> Result<(Vec<Desk>, Vec<Answer>), Fault>
+    requires few { vec_len desks ≤ 64 }
+    requires desks { All (IsDeskOf allocator.now) desks.items }
+    requires sealed { (memory_of allocator.now).sealed ≡ true }
+    requires asks { All IsAsk lines.now }
+    requires inside { All (λ l. cores_in l ≤ vec_len desks) lines.now }
+    requires end { first + length lines.now ≤ 2_000_000 }
+    ensures round { IfOk result (λ r. RoundRan allocator.now desks.items
+        (asks_from first lines.now) r.1.items r.0.items) }
+    ensures fault { IfErr result (λ e. e ≡ Fault.NoMemory) }
+{
+    let done = run_round(rt, alloc, allocator, gate, desks, first, lines)?;
+    let answers = merge(alloc, first, lines, done.as_slice())?;
+    let desks = desks_of(alloc, done)?;
+    Ok((desks, answers))
+}

@@ -1,0 +1,158 @@
+//! A round: the requests of each core on a thread of their own.
+
+ghost use Rattle.std.specs.Prelude.{◌≡◌, ◌+◌, ◌≤◌, true, length, vec_len, IfOk, IfErr};
+ghost use Rattle.std.specs.List.{All};
+ghost use Rattle.core_frames.specs.Cores.{memory_of};
+ghost use Rattle.core_frames.specs.Desks.{IsDeskOf};
+ghost use Rattle.llfree_trace.specs.Rounds.{IsAsk, asks_from, Ran, RanAll};
+
+use crate::gate::Gate;
+use crate::line::Line;
+use crate::lines::{Done, has_lines, run_lines};
+use core_frames::{Allocator, Desk};
+use frame_words::Fault;
+use std::alloc::Global;
+use std::snapshot::Snapshot;
+use std::sync::Wait;
+use std::thread;
+use std::thread::{Promise, PromisedHandle, Scope, Threads};
+
+/// What a core's thread promises: that the core's requests ran, from the desk that it was given.
+#[derive(Drop)]
+pub(crate) struct Running<'a> {
+    allocator: &'a Allocator,
+    core: u32,
+    was: Snapshot<Desk>,
+    first: u32,
+    lines: &'a [Line],
+}
+
+impl<'a> Promise<Result<Done, Fault>> for Running<'a> {
+    ghost use Rattle.std.specs.Prelude.{◌≡◌, IfOk, IfErr};
+    ghost use Rattle.frame_words.specs.declared.fault.Fault.TheVariants.{NoMemory};
+    ghost use Rattle.llfree_trace.specs.Rounds.{asks_from, Ran};
+
+    ghost kept_by = { λ p r.
+        IfOk r (λ d. Ran p.allocator.now p.core p.was.value (asks_from p.first p.lines.now) d)
+        × IfErr r (λ e. e ≡ NoMemory) };
+}
+
+// Starts the thread of a core.
+fn start<'s, E, G: Gate>(
+    scope: &Scope<'s, E>,
+    alloc: Global,
+    allocator: &'s Allocator,
+    gate: &'s G,
+    core: u32,
+    desk: Desk,
+    first: u32,
+    lines: &'s [Line],
+) -> Result<PromisedHandle<Result<Done, Fault>, Running<'s>>, Fault>
+    requires desk { IsDeskOf allocator.now desk }
+    requires sealed { (memory_of allocator.now).sealed ≡ true }
+    requires asks { All IsAsk lines.now }
+    requires few { first + length lines.now ≤ 2_000_000 }
+    ensures allocator { IfOk result (λ h. h.promise.allocator.now ≡ allocator.now) }
+    ensures core { IfOk result (λ h. h.promise.core ≡ core) }
+    ensures was { IfOk result (λ h. h.promise.was.value ≡ desk) }
+    ensures first { IfOk result (λ h. h.promise.first ≡ first) }
+    ensures lines { IfOk result (λ h. h.promise.lines.now ≡ lines.now) }
+    ensures fault { IfErr result (λ e. e ≡ Fault.NoMemory) }
+{
+    let promise = Running {
+        allocator,
+        core,
+        was: Snapshot::of(&desk),
+        first,
+        lines,
+    };
+    let run = move || -> Result<Done, Fault>
+        requires desk { IsDeskOf allocator.now desk }
+        requires sealed { (memory_of allocator.now).sealed ≡ true }
+        requires asks { All IsAsk lines.now }
+        requires few { first + length lines.now ≤ 2_000_000 }
+        ensures ran { IfOk result (λ d.
+            Ran allocator.entry.now core desk (asks_from first lines.entry.now) d) }
+        ensures fault { IfErr result (λ e. e ≡ Fault.NoMemory) }
+    { run_lines(alloc, allocator, gate, core, desk, first, lines) };
+    match scope.spawn_with(promise, run) {
+        Ok(child) => Ok(child),
+        Err(_) => Err(Fault::NoMemory),
+    }
+}
+
+// Runs the requests of each core: starts the thread of the last core that has any, does the same
+// for the cores below it, and then joins that thread.
+fn run_cores<'s, E, G: Gate, R: Threads>(
+    scope: &Scope<'s, E>,
+    rt: &R,
+    alloc: Global,
+    allocator: &'s Allocator,
+    gate: &'s G,
+    mut desks: Vec<Desk>,
+    first: u32,
+    lines: &'s [Line],
+) -> Result<Vec<Done>, Fault>
+    requires few { vec_len desks ≤ 64 }
+    requires desks { All (IsDeskOf allocator.now) desks.items }
+    requires sealed { (memory_of allocator.now).sealed ≡ true }
+    requires asks { All IsAsk lines.now }
+    requires end { first + length lines.now ≤ 2_000_000 }
+    ensures ran { IfOk result (λ all.
+        RanAll allocator.now 0 desks.items (asks_from first lines.now) all.items) }
+    ensures fault { IfErr result (λ e. e ≡ Fault.NoMemory) }
+{
+    let Some(desk) = desks.pop() else {
+        return Ok(Vec::new(alloc));
+    };
+    let core = desks.len() as u32;
+    if !has_lines(core, lines) {
+        let mut all = run_cores(scope, rt, alloc, allocator, gate, desks, first, lines)?;
+        let answers = Vec::new(alloc);
+        all.push(Done { desk, answers })?;
+        return Ok(all);
+    }
+    let child = start(scope, alloc, allocator, gate, core, desk, first, lines)?;
+    // No `?` here: the thread is joined first.
+    let others = run_cores(scope, rt, alloc, allocator, gate, desks, first, lines);
+    let done = child.join(rt);
+    let mut all = others?;
+    all.push(done?)?;
+    Ok(all)
+}
+
+/// Runs a round: the requests of each core that has any on a thread of their own. All threads are
+/// started before the first is joined. Refused only for want of memory or of a thread.
+pub(crate) fn run_round<G: Gate, R: Threads + Wait>(
+    rt: &R,
+    alloc: Global,
+    allocator: &Allocator,
+    gate: &G,
+    desks: Vec<Desk>,
+    first: u32,
+    lines: &[Line],
+) -> Result<Vec<Done>, Fault>
+    requires few { vec_len desks ≤ 64 }
+    requires desks { All (IsDeskOf allocator.now) desks.items }
+    requires sealed { (memory_of allocator.now).sealed ≡ true }
+    requires asks { All IsAsk lines.now }
+    requires end { first + length lines.now ≤ 2_000_000 }
+    ensures ran { IfOk result (λ all.
+        RanAll allocator.now 0 desks.items (asks_from first lines.now) all.items) }
+    ensures fault { IfErr result (λ e. e ≡ Fault.NoMemory) }
+{
+    thread::scope(
+        thread::scope_env(),
+        rt,
+        |scope| -> Result<Vec<Done>, Fault>
+            requires few { vec_len desks ≤ 64 }
+            requires desks { All (IsDeskOf allocator.now) desks.items }
+            requires sealed { (memory_of allocator.now).sealed ≡ true }
+            requires asks { All IsAsk lines.now }
+            requires end { first + length lines.now ≤ 2_000_000 }
+            ensures ran { IfOk result (λ all. RanAll allocator.entry.now 0 desks.items
+                (asks_from first lines.entry.now) all.items) }
+            ensures fault { IfErr result (λ e. e ≡ Fault.NoMemory) }
+        { run_cores(scope, rt, alloc, allocator, gate, desks, first, lines) },
+    )
+}

@@ -1,0 +1,737 @@
+#!/usr/bin/env python3
+"""Tries the built program on hurt texts, and judges each answer by a plain checker of its own.
+
+Traces and images are made, hurt byte by byte, cut, repeated, quoted and stretched, and run through
+`run`, `image`, `rebuild` and `report`. Status, output and errors have to be just what docs/USAGE.md
+and docs/FORMATS.md say of that text: the checker reads it again, finds the record that is refused,
+and follows the answers of what is accepted frame by frame. One seed tries the same cases each time;
+each case that fails is kept as a file.
+
+    tools/fuzz.py [--cases N] [--seed N] [--jobs N] [--seconds N] [--program FILE]
+"""
+import argparse
+import collections
+import multiprocessing
+import os
+import random
+import subprocess
+import sys
+import tempfile
+
+CHILD_FRAMES = 512
+TREE_CHILDREN = 8
+HUGE_ORDER = 9
+MOST_BYTES = 16_777_216
+MOST_RECORDS = 1_000_000
+MOST_RANGES = 1_024
+LABEL_BYTES = frozenset(b'ABCDEFGHIJKLMNOPQRSTUVWXYZabcdefghijklmnopqrstuvwxyz0123456789_-')
+USAGE = (b'usage: llfree run CHILDREN CORES [FRAMES] | llfree image CHILDREN CORES [FRAMES]'
+         b' | llfree rebuild | llfree report\n')
+MARK = b'\xef\xbb\xbf'
+
+
+class Refused(Exception):
+    """What the program has to refuse: its status, and the fault that it names."""
+
+    def __init__(self, status, fault):
+        super().__init__(fault)
+        self.status = status
+        self.fault = fault
+
+
+class Wrong(Exception):
+    """An answer that is not what the pages say."""
+
+
+def expect(condition, text):
+    if not condition:
+        raise Wrong(text)
+
+
+# Texts
+
+
+def records_of(data):
+    """The records of a CSV text, each a list of fields."""
+    if data.startswith(MARK):
+        data = data[len(MARK):]
+    if b'"' in data:
+        return quoted_records_of(data)
+    return [line.split(b',') for line in data.replace(b'\r', b'\n').split(b'\n') if line]
+
+
+def quoted_records_of(data):
+    records, fields, field = [], [], bytearray()
+    # between: at the start of a record; start: of a field; closed: behind a quote inside quotes
+    state = 'between'
+    for byte in data:
+        if state == 'quoted':
+            if byte == 0x22:
+                state = 'closed'
+            else:
+                field.append(byte)
+        elif state == 'closed' and byte == 0x22:
+            field.append(byte)
+            state = 'quoted'
+        elif byte in (0x0a, 0x0d):
+            if state != 'between':
+                records.append(fields + [bytes(field)])
+            fields, field, state = [], bytearray(), 'between'
+        elif byte == 0x2c:
+            fields.append(bytes(field))
+            field, state = bytearray(), 'start'
+        elif byte == 0x22 and state in ('between', 'start'):
+            state = 'quoted'
+        else:
+            field.append(byte)
+            state = 'field'
+    if state != 'between':
+        records.append(fields + [bytes(field)])
+    return records
+
+
+def number(field, most):
+    """The number of a field, or None."""
+    if not 1 <= len(field) <= 20 or not all(0x30 <= byte <= 0x39 for byte in field):
+        return None
+    value = int(field)
+    return value if value <= most else None
+
+
+def is_label(field):
+    return 1 <= len(field) <= 16 and all(byte in LABEL_BYTES for byte in field)
+
+
+# Traces
+
+
+class Line:
+    def __init__(self, kind, core=None, label=None, frame=None, order=None, to=None, count=None):
+        self.kind, self.core, self.label = kind, core, label
+        self.frame, self.order, self.to, self.count = frame, order, to, count
+
+
+def line_of(fields, cores, before):
+    """The line of a record, or None where it is refused; before is the kind of the one before it."""
+    if len(fields) != 4:
+        return None
+    first, kind, third, fourth = fields
+    if kind == b'round':
+        return Line('round') if not first and not third and not fourth else None
+    if kind == b'reserve':
+        start, count = number(third, 2**32 - 1), number(fourth, 2**32 - 1)
+        if first or start is None or count is None or before not in (None, 'reserve'):
+            return None
+        return Line('reserve', frame=start, count=count)
+    core = number(first, cores - 1)
+    if core is None:
+        return None
+    if kind == b'take':
+        order = number(fourth, 255)
+        return Line('take', core, third, order=order) if is_label(third) and order is not None else None
+    if kind == b'give':
+        return Line('give', core, third) if is_label(third) and not fourth else None
+    if kind == b'giveat':
+        frame, order = number(third, 2**32 - 1), number(fourth, 255)
+        if frame is None or order is None:
+            return None
+        return Line('giveat', core, frame=frame, order=order)
+    if kind == b'move':
+        to = number(fourth, cores - 1)
+        if not is_label(third) or to is None or before not in ('round', 'move'):
+            return None
+        return Line('move', core, third, to=to)
+    return None
+
+
+def trace_of(data, cores):
+    lines, before = [], None
+    for place, fields in enumerate(records_of(data), 1):
+        line = line_of(fields, cores, before) if place <= MOST_RECORDS else None
+        if line is None:
+            raise Refused(1, f'bad trace at record {place}')
+        lines.append(line)
+        before = line.kind
+    return lines
+
+
+# Sizes
+
+
+def is_sizes(words):
+    return len(words) in (2, 3) and all(1 <= len(word) <= 9 and word.isascii() and word.isdigit() for word in words)
+
+
+def sizes_of(words):
+    """Children, cores and frames of a command line."""
+    children, cores = int(words[0]), int(words[1])
+    if not 1 <= children <= 4096 or not 1 <= cores <= 64:
+        raise Refused(1, 'bad geometry')
+    frames = int(words[2]) if len(words) == 3 else CHILD_FRAMES * children
+    if not CHILD_FRAMES * (children - 1) < frames <= CHILD_FRAMES * children:
+        raise Refused(1, 'bad range')
+    return children, cores, frames
+
+
+def tree_children(children, tree):
+    return min(TREE_CHILDREN, children - TREE_CHILDREN * tree)
+
+
+# Memories
+
+
+class Desk:
+    """The blocks of a core: by label, the oldest first, and the label of each."""
+
+    def __init__(self):
+        self.blocks, self.labels = {}, {}
+
+    def add(self, label, block):
+        self.blocks.setdefault(label, collections.OrderedDict())[block] = None
+        self.labels[block] = label
+
+    def oldest(self, label):
+        return next(iter(self.blocks.get(label, ())), None)
+
+    def remove(self, block):
+        del self.blocks[self.labels.pop(block)][block]
+
+
+class Memory:
+    """Which frames are held, and what each core holds, in the order in which it came."""
+
+    def __init__(self, children, cores, frames, ranges):
+        self.children, self.cores, self.frames = children, cores, frames
+        self.fixed = bytearray(frames) + b'\1' * (CHILD_FRAMES * children - frames)
+        for start, count in ranges:
+            self.fixed[start:start + count] = b'\1' * count
+        self.held = bytearray(self.fixed)
+        self.desks = [Desk() for _ in range(cores)]
+
+    def is_free(self, frame, order):
+        size = 1 << order
+        part = self.held[frame:frame + size]
+        return frame % size == 0 and len(part) == size and not any(part)
+
+    def has_free(self, order):
+        size = 1 << order
+        frame = self.held.find(bytes(size))
+        while frame > 0 and frame % size:
+            frame = self.held.find(bytes(size), frame + size - frame % size)
+        return frame >= 0
+
+    def hold(self, frame, order):
+        expect(self.is_free(frame, order), 'a block that is not free')
+        self.held[frame:frame + (1 << order)] = b'\1' * (1 << order)
+
+    def leave(self, frame, order):
+        self.held[frame:frame + (1 << order)] = bytes(1 << order)
+
+
+def ranges_of(lines, frames):
+    """The ranges that a trace holds back."""
+    ranges = [(line.frame, line.count) for line in lines if line.kind == 'reserve']
+    end = 0
+    for start, count in ranges:
+        if len(ranges) > MOST_RANGES or count < 1 or start < end or start + count > frames:
+            raise Refused(1, 'bad range')
+        end = start + count
+    return ranges
+
+
+def take(memory, line, word, block):
+    if line.order > HUGE_ORDER:
+        expect(word == 'BadOrder', 'a bad order that is taken')
+    elif word == 'Taken':
+        expect(block[1] == line.order, 'a block of another order')
+        memory.hold(*block)
+        memory.desks[line.core].add(line.label, block)
+    else:
+        expect(word == 'NoBlock' or (word == 'Contended' and memory.cores > 1), f'{word} for a take')
+        expect(memory.cores > 1 or not memory.has_free(line.order), 'no block, where one is free')
+
+
+def leave(memory, line, word, block):
+    """A give, or a move to another core."""
+    desk = memory.desks[line.core]
+    if line.kind == 'giveat' and line.order > HUGE_ORDER:
+        expect(word == 'BadOrder', 'a bad order that is given')
+        return
+    asked = (line.frame, line.order)
+    left = (asked if asked in desk.labels else None) if line.kind == 'giveat' else desk.oldest(line.label)
+    if left is None:
+        expect(word == 'NotHeld', f'{word} of what is not held')
+        return
+    expect(word == ('Moved' if line.kind == 'move' else 'Given') and block == left, 'another block')
+    desk.remove(left)
+    if line.kind == 'move':
+        memory.desks[line.to].add(line.label, left)
+    else:
+        memory.leave(*left)
+
+
+def follow(memory, line, word, block):
+    (take if line.kind == 'take' else leave)(memory, line, word, block)
+
+
+def follow_round(memory, pairs):
+    """The answers of one round. Its cores run side by side: a block may be given by one and taken by
+    another in either order of the answers, so each core is followed by itself, and what all of them
+    hold in the end has to be apart."""
+    if memory.cores == 1:
+        for line, answer in pairs:
+            follow(memory, line, *answer)
+        return
+    for core in {line.core for line, _ in pairs}:
+        memory.held = bytearray(memory.fixed)
+        for block in memory.desks[core].labels:
+            memory.hold(*block)
+        for line, answer in pairs:
+            if line.core == core:
+                follow(memory, line, *answer)
+    memory.held = bytearray(memory.fixed)
+    for desk in memory.desks:
+        for block in desk.labels:
+            memory.hold(*block)
+
+
+def answers_of(output):
+    rows = output.decode('ascii').split('\n')
+    expect(rows.pop() == '', 'no line feed at the end')
+    return [row.split(',') for row in rows]
+
+
+def check_answers(memory, lines, output):
+    rows = answers_of(output)
+    last = rows.pop()
+    asked = [(place, line) for place, line in enumerate(lines, 1) if line.kind not in ('round', 'reserve')]
+    expect(len(rows) == len(asked), 'an answer for each record')
+    answers = {}
+    for (place, line), row in zip(asked, rows):
+        expect(len(row) == 5 and row[:2] == [str(place), str(line.core)], 'an answer of another record')
+        block = (int(row[3]), int(row[4])) if row[2] in ('Taken', 'Given', 'Moved') else None
+        expect(block is not None or row[3:] == ['', ''], 'a refusal with a block')
+        expect(block is None or row[3:] == [str(part) for part in block], 'a number in another form')
+        answers[place] = (row[2], block)
+    pairs = []
+    for place, line in enumerate(lines, 1):
+        if line.kind in ('round', 'move'):
+            follow_round(memory, pairs)
+            pairs = []
+        if line.kind == 'move':
+            follow(memory, line, *answers[place])
+        elif place in answers:
+            pairs.append((line, answers[place]))
+    follow_round(memory, pairs)
+    held = sum(memory.held)
+    expect(last == ['end', '', 'Closed', str(held), str(len(memory.held) - held)], 'another end')
+
+
+# Images
+
+
+def bits_in(number):
+    return bin(number).count('1')
+
+
+class Image:
+    def __init__(self, children, cores, frames):
+        self.children, self.cores, self.frames = children, cores, frames
+        self.trees = -(-children // TREE_CHILDREN)
+        self.free, self.huge, self.words = [], [], []
+        self.tree, self.local = [], []
+
+    def tree_size(self, tree):
+        return CHILD_FRAMES * tree_children(self.children, tree)
+
+    def clear(self, child):
+        """The frames of a child that are not held, by its bits and its flag, a bit for each."""
+        return 0 if self.huge[child] else ~self.words[child] & (1 << CHILD_FRAMES) - 1
+
+    def rebuilt(self):
+        new = Image(self.children, self.cores, self.frames)
+        new.huge = self.huge
+        new.words = [0 if huge else words for huge, words in zip(self.huge, self.words)]
+        new.free = [bits_in(self.clear(child)) for child in range(self.children)]
+        new.tree = [(sum(new.free[TREE_CHILDREN * t:TREE_CHILDREN * (t + 1)]), 0) for t in range(self.trees)]
+        new.local = [None] * self.cores
+        return new
+
+    def text(self):
+        whole = self.frames == CHILD_FRAMES * self.children
+        rows = [f'llfree,1,{self.children},{self.cores},' if whole
+                else f'llfree,2,{self.children},{self.cores},{self.frames}']
+        for child in range(self.children):
+            words = ''.join(f'{self.words[child] >> 64 * w & 2**64 - 1:016x}' for w in range(8))
+            rows.append(f'child,{child},{self.free[child]},{self.huge[child]},{words}')
+        for tree, (free, reserved) in enumerate(self.tree):
+            rows.append(f'tree,{tree},{free},{reserved},')
+        for core, rest in enumerate(self.local):
+            rows.append(f'core,{core},,,' if rest is None else f'core,{core},{rest[0]},{rest[1]},')
+        return ('\n'.join(rows) + '\n').encode()
+
+    def report(self):
+        rows = []
+        for tree in range(self.trees):
+            clears = [self.clear(child) for child in range(
+                TREE_CHILDREN * tree, TREE_CHILDREN * tree + tree_children(self.children, tree))]
+            free = sum(bits_in(clear) for clear in clears)
+            blocks = []
+            for order in range(HUGE_ORDER + 1):
+                size = 1 << order
+                run = (1 << size) - 1
+                blocks.append(sum((clear >> place) & run == run
+                                  for clear in clears for place in range(0, CHILD_FRAMES, size)))
+            rows.append([self.tree_size(tree) - free, free, *blocks])
+        total = [sum(column) for column in zip(*rows)]
+        named = [f'tree,{tree}' for tree in range(self.trees)] + ['all,']
+        return ''.join(f'{name},{",".join(map(str, row))}\n' for name, row in zip(named, rows + [total])).encode()
+
+
+def words_of(field):
+    if len(field) != 128 or not all(byte in b'0123456789abcdefABCDEF' for byte in field):
+        return None
+    return sum(int(field[16 * w:16 * (w + 1)], 16) << 64 * w for w in range(8))
+
+
+def first_of_image(fields):
+    if len(fields) != 5 or fields[0] != b'llfree':
+        return None
+    version, children, cores = number(fields[1], 2), number(fields[2], 4096), number(fields[3], 64)
+    if not version or not children or not cores:
+        return None
+    if version == 1:
+        return Image(children, cores, CHILD_FRAMES * children) if not fields[4] else None
+    frames = number(fields[4], CHILD_FRAMES * children)
+    if frames is None or frames <= CHILD_FRAMES * (children - 1):
+        return None
+    return Image(children, cores, frames)
+
+
+def add_child(image, child, fields):
+    free, huge, words = number(fields[2], CHILD_FRAMES), number(fields[3], 1), words_of(fields[4])
+    past = max(0, CHILD_FRAMES * (child + 1) - image.frames)
+    if free is None or huge is None or words is None:
+        return False
+    if past and (huge or words >> (CHILD_FRAMES - past) != (1 << past) - 1):
+        return False
+    image.free.append(free)
+    image.huge.append(huge)
+    image.words.append(words)
+    return True
+
+
+def add_tree(image, tree, fields):
+    free, reserved = number(fields[2], image.tree_size(tree)), number(fields[3], 1)
+    if free is None or reserved is None or fields[4]:
+        return False
+    image.tree.append((free, reserved))
+    return True
+
+
+def add_core(image, fields):
+    if fields[2:] == [b'', b'', b'']:
+        image.local.append(None)
+        return True
+    tree = number(fields[2], image.trees - 1)
+    free = None if tree is None else number(fields[3], image.tree_size(tree))
+    if free is None or fields[4]:
+        return False
+    image.local.append((tree, free))
+    return True
+
+
+def image_of(data):
+    image = None
+    place = 0
+    for place, fields in enumerate(records_of(data), 1):
+        if image is None:
+            image = first_of_image(fields)
+            lawful = image is not None
+        elif len(fields) != 5:
+            lawful = False
+        elif len(image.free) < image.children:
+            child = len(image.free)
+            lawful = fields[0] == b'child' and number(fields[1], 2**32) == child and add_child(image, child, fields)
+        elif len(image.tree) < image.trees:
+            tree = len(image.tree)
+            lawful = fields[0] == b'tree' and number(fields[1], 2**32) == tree and add_tree(image, tree, fields)
+        else:
+            core = len(image.local)
+            lawful = (core < image.cores and fields[0] == b'core' and number(fields[1], 2**32) == core
+                      and add_core(image, fields))
+        if not lawful:
+            raise Refused(1, f'bad image at record {place}')
+    if image is None or len(image.local) < image.cores:
+        raise Refused(1, f'bad image at record {place + 1}')
+    return image
+
+
+def check_image(memory, output, is_same_run):
+    """The image of a run: its counters add up, and its bits and flags are what that run holds."""
+    image = image_of(output)
+    expect(image.text() == output, 'an image in another form')
+    expect((image.children, image.cores, image.frames) == (memory.children, memory.cores, memory.frames), 'sizes')
+    rebuilt = image.rebuilt()
+    expect(rebuilt.free == image.free, 'a counter of a child')
+    for child in range(image.children if is_same_run else 0):
+        held = memory.held[CHILD_FRAMES * child:CHILD_FRAMES * (child + 1)]
+        clear = image.clear(child)
+        expect(all(held[i] == 1 - (clear >> i & 1) for i in range(CHILD_FRAMES)), 'what is held')
+    for tree, (free, _) in enumerate(rebuilt.tree):
+        resting = sum(rest[1] for rest in image.local if rest is not None and rest[0] == tree)
+        expect(image.tree[tree][0] + resting == free, 'counters of a tree')
+        named = sum(rest is not None and rest[0] == tree for rest in image.local)
+        expect(named == image.tree[tree][1], 'who has reserved a tree')
+
+
+# What the program has to do
+
+
+class Answer:
+    """What the program did: its status, its output and its errors."""
+
+    seconds = 1.0
+
+    def __init__(self, program, words, data):
+        seconds = self.seconds * (1 + len(data) / 1e6)
+        try:
+            done = subprocess.run([program, *words], input=data, capture_output=True, timeout=seconds, check=False)
+        except subprocess.TimeoutExpired as error:
+            raise Wrong(f'no answer after {seconds:.1f} s') from error
+        self.status, self.output, self.errors = done.returncode, done.stdout, done.stderr
+
+    def is_refusal(self, refused):
+        self.same((refused.status, b'', f'llfree: {refused.fault}\n'.encode()))
+
+    def same(self, wanted):
+        got = (self.status, self.output, self.errors)
+        expect(got == wanted, f'status {got[0]}, errors {got[2][:80]}, for {str(wanted)[:120]}')
+
+    def done(self):
+        expect(self.status == 0 and self.errors == b'', f'status {self.status}, errors {self.errors[:80]}')
+        return self.output
+
+
+def try_trace(program, sizes, data):
+    """A trace is run twice, for its answers and for its image; on one core both are of the same run."""
+    answers, picture = Answer(program, ['run', *sizes], data), Answer(program, ['image', *sizes], data)
+    try:
+        children, cores, frames = sizes_of(sizes)
+        if len(data) > MOST_BYTES:
+            raise Refused(3, 'read failed')
+        lines = trace_of(data, cores)
+        memory = Memory(children, cores, frames, ranges_of(lines, frames))
+    except Refused as refused:
+        answers.is_refusal(refused)
+        picture.is_refusal(refused)
+        return f'refused: {refused.fault.rstrip("0123456789 ")}'
+    check_answers(memory, lines, answers.done())
+    check_image(memory, picture.done(), cores == 1)
+    return f'traces on {"one core" if cores == 1 else "several cores"}'
+
+
+def try_image(program, data):
+    rebuilt, report = Answer(program, ['rebuild'], data), Answer(program, ['report'], data)
+    try:
+        if len(data) > MOST_BYTES:
+            raise Refused(3, 'read failed')
+        image = image_of(data)
+    except Refused as refused:
+        rebuilt.is_refusal(refused)
+        report.is_refusal(refused)
+        return f'refused: {refused.fault.rstrip("0123456789 ")}'
+    expect(rebuilt.done() == image.rebuilt().text(), 'another rebuilt image')
+    expect(report.done() == image.report(), 'another report')
+    return 'images'
+
+
+def try_words(program, words, data):
+    usage = (2, b'', USAGE)
+    if words[:1] in (['run'], ['image']) and is_sizes(words[1:]):
+        return try_trace(program, words[1:], data)
+    if words in (['rebuild'], ['report']):
+        return try_image(program, data)
+    Answer(program, words, data).same(usage)
+    return 'command lines'
+
+
+# Cases
+
+
+def a_trace(chance):
+    children = chance.choice([1, 1, 1, 2, 3, 8, 9, 16, 17])
+    cores = chance.choice([1, 1, 1, 2, 3, 4])
+    sizes = [str(children), str(cores)]
+    frames = CHILD_FRAMES * children
+    if chance.random() < 0.2:
+        frames -= chance.randrange(CHILD_FRAMES)
+        sizes.append(str(frames))
+    rows, last = [], ''
+    if chance.random() < 0.2:
+        start = 0
+        for _ in range(chance.randrange(1, 4)):
+            start += chance.randrange(max(1, frames // 3))
+            count = chance.randrange(1, 40)
+            rows.append(f',reserve,{start},{count}')
+            start += count
+    for _ in range(chance.choice([0, 1, 3, 10, 30, 100])):
+        core, label = chance.randrange(cores), chance.choice('abcde')
+        kind = chance.choice(['take'] * 6 + ['give'] * 3 + ['giveat'] * 2 + ['round', 'move'])
+        if kind == 'take':
+            rows.append(f'{core},take,{label},{chance.choice([0, 0, 0, 1, 2, 3, 5, 6, 7, 8, 9, 10])}')
+        elif kind == 'give':
+            rows.append(f'{core},give,{label},')
+        elif kind == 'giveat':
+            order = chance.choice([0, 0, 1, 3, 9])
+            rows.append(f'{core},giveat,{chance.randrange(max(1, frames >> order)) << order},{order}')
+        elif kind == 'round' or last not in ('round', 'move'):
+            kind = 'round'
+            rows.append(',round,,')
+        else:
+            rows.append(f'{core},move,{label},{chance.randrange(cores)}')
+        last = kind
+    return [chance.choice(['run', 'image']), *sizes], ''.join(row + '\n' for row in rows).encode()
+
+
+def an_image(chance):
+    children = chance.choice([1, 1, 2, 7, 8, 9])
+    frames = CHILD_FRAMES * children - (chance.randrange(CHILD_FRAMES) if chance.random() < 0.3 else 0)
+    image = Image(children, chance.choice([1, 2, 64]), frames)
+    for child in range(children):
+        past = max(0, CHILD_FRAMES * (child + 1) - frames)
+        words = chance.choice([0, 2**512 - 1, chance.getrandbits(512), 1 << chance.randrange(512)])
+        image.words.append(words | ((1 << past) - 1) << (CHILD_FRAMES - past))
+        image.huge.append(int(not past and chance.random() < 0.2))
+        image.free.append(chance.randrange(CHILD_FRAMES + 1))
+    for tree in range(image.trees):
+        image.tree.append((chance.randrange(image.tree_size(tree) + 1), chance.randrange(2)))
+    for _ in range(image.cores):
+        tree = chance.randrange(image.trees)
+        image.local.append(None if chance.random() < 0.5 else (tree, chance.randrange(image.tree_size(tree) + 1)))
+    return [chance.choice(['rebuild', 'report'])], image.text()
+
+
+PIECES = [b'', b'"', b'""', b'\0', b'\xff', b',', b'\n', b'\r', b'\r\n', b'\n\n', b' ', b'-', b'+', MARK, b'9' * 20, b'0' * 20 + b'1',
+          b'18446744073709551616', b'4294967296', b'1' * 19, b'a' * 17, b'a' * 400, b'F' * 128, b'x', b'round', b',round,,\n',
+          b',reserve,0,1\n', b'0,take,a,0\n', b'0,move,a,0\n', b'513', b'256', b'2']
+
+
+def hurt(chance, data):
+    data = bytearray(data)
+    for _ in range(chance.choice([1, 1, 1, 2, 5])):
+        place = chance.randrange(len(data) + 1)
+        end = min(len(data), place + chance.choice([1, 1, 2, 8, 60]))
+        way = chance.randrange(7)
+        if way == 0 and place < len(data):
+            data[place] = chance.randrange(256)
+        elif way == 1 and place < len(data):
+            data[place] ^= 1 << chance.randrange(8)
+        elif way == 2:
+            data[place:place] = chance.choice(PIECES)
+        elif way == 3:
+            data[place:end] = chance.choice(PIECES)
+        elif way == 4:
+            del data[place:end]
+        elif way == 5:
+            del data[place:]
+        else:
+            data[place:place] = data[place:end] * chance.choice([1, 2, 50])
+    return bytes(data)
+
+
+def hurt_words(chance, words):
+    words = list(words)
+    place = chance.randrange(len(words) + 1)
+    way = chance.randrange(3)
+    if way == 0:
+        words.insert(place, chance.choice(['', '0', '1', '1 ', '-1', '4096', '4097', '64', '65', '9' * 10, 'run', 'x', '\u0661']))
+    elif place < len(words) and way == 1:
+        del words[place]
+    elif place < len(words):
+        words[place] = chance.choice(['', '0', '01', '1', '+1', '4097', '65', '000000001', '0000000001', 'images', 'report'])
+    return words
+
+
+def a_case(seed, place):
+    chance = random.Random(seed * 1_000_003 + place)
+    words, data = chance.choice([a_trace, a_trace, an_image])(chance)
+    if chance.random() < 0.75:
+        data = hurt(chance, data)
+    if chance.random() < 0.1:
+        words = hurt_words(chance, words)
+    return words, data
+
+
+def great_cases():
+    """Texts at the limits of length and of records."""
+    one = ['run', '1', '1']
+    yield one, b'\n' * MOST_BYTES
+    yield one, b'\n' * (MOST_BYTES + 1)
+    yield one, b'"' * MOST_BYTES
+    yield one, b'"' * (MOST_BYTES + 1)
+    yield one, bytes(MOST_BYTES)
+    yield one, b'0,take,' + b'a' * (MOST_BYTES - 10)
+    yield one, b',' * MOST_BYTES
+    yield one, b',round,,\n' * MOST_RECORDS
+    yield one, b',round,,\n' * (MOST_RECORDS + 1)
+    yield ['run', '1', '1'], b'0,take,a,0\n' * MOST_RECORDS
+    yield ['run', '4096', '1'], b'0,take,a,0\n' * 500_000 + b'0,give,a,\n' * 500_000
+    yield ['run', '16', '1'], b'0,take,a,9\n0,give,a,\n' * (MOST_RECORDS // 2)
+    yield ['rebuild'], b'\xff' * MOST_BYTES
+    yield ['report'], b'"\n' * (MOST_BYTES // 2)
+    yield ['rebuild'], an_image_of(4096).text()
+
+
+def an_image_of(children):
+    image = Image(children, 64, CHILD_FRAMES * children)
+    image.words, image.huge = [2**512 // 3] * children, [0] * children
+    image.free, image.local = [0] * children, [None] * 64
+    image.tree = [(0, 0)] * image.trees
+    return image
+
+
+def try_case(case):
+    program, name, words, data = case
+    try:
+        return name, words, data, try_words(program, words, data), ''
+    except (Wrong, ValueError, IndexError) as wrong:
+        return name, words, data, 'wrong', str(wrong)
+
+
+def all_cases(arguments):
+    for place, (words, data) in enumerate(great_cases()):
+        yield arguments.program, f'great-{place}', words, data
+    for place in range(arguments.cases):
+        yield arguments.program, f'{arguments.seed}-{place}', *a_case(arguments.seed, place)
+
+
+def main():
+    parser = argparse.ArgumentParser(description=__doc__.split('\n', maxsplit=1)[0])
+    parser.add_argument('--cases', type=int, default=100_000)
+    parser.add_argument('--seed', type=int, default=1)
+    parser.add_argument('--jobs', type=int, default=os.cpu_count())
+    parser.add_argument('--seconds', type=float, default=1.0, help='for an answer, and as many for each million bytes')
+    parser.add_argument('--program', default='crates/llfree/out/llfree')
+    arguments = parser.parse_args()
+    Answer.seconds = arguments.seconds
+    counts, failed, kept = {}, 0, tempfile.mkdtemp(prefix='hurt-texts-')
+    with multiprocessing.Pool(arguments.jobs) as pool:
+        for name, words, data, kind, why in pool.imap_unordered(try_case, all_cases(arguments), chunksize=16):
+            counts[kind] = counts.get(kind, 0) + 1
+            if why:
+                failed += 1
+                file = os.path.join(kept, name)
+                with open(file, 'wb') as out:
+                    out.write(data)
+                print(f'{file}: {" ".join(words)}: {why}', flush=True)
+    for kind, count in sorted(counts.items()):
+        print(f'{count:8} {kind}')
+    if not failed:
+        os.rmdir(kept)
+    print(f'{sum(counts.values()) - failed} passed, {failed} failed')
+    return 1 if failed else 0
+
+
+if __name__ == '__main__':
+    sys.exit(main())

@@ -1,0 +1,140 @@
+#!/usr/bin/env python3
+"""Refuses the built program each of its calls for memory, a thread, a read and a write, one at a time.
+
+Each text is run once with nothing refused, and then once for each call that it made, with that call
+refused (tools/refusing.c stands between the program and the C library). Status, output and errors
+have to be those of docs/USAGE.md each time; a device that has failed is not asked again. The last
+line counts the runs. Where there is no C compiler nothing is tried, and that is said.
+
+    tools/refusals.py [PROGRAM..]
+"""
+import os
+import shutil
+import subprocess
+import sys
+import tempfile
+
+HERE = os.path.dirname(os.path.abspath(__file__))
+TOP = os.path.dirname(HERE)
+KINDS = ('MEMORY', 'THREAD', 'READ', 'WRITE')
+NO_MEMORY = (3, b'', b'llfree: no memory\n')
+READ_FAILED = (3, b'', b'llfree: read failed\n')
+# bytes that a read gives, and that a write takes
+READ_BYTES, WRITTEN_BYTES = 1, 3
+
+IMAGE = b'llfree,1,1,1,\nchild,0,0,0,' + b'0' * 15 + b'7' + b'0' * 112 + b'\ntree,0,0,0,\ncore,0,,,\n'
+
+
+def example(name):
+    with open(os.path.join(TOP, 'examples', f'{name}.csv'), 'rb') as file:
+        return file.read()
+
+
+def texts():
+    """Words and a text; the small ones are also read byte by byte."""
+    yield 'run 1 1', b'0,take,a,0\n0,take,b,3\n0,take,c,0\n'
+    yield 'run 2 1 700', b'0,take,a,9\n0,take,b,7\n0,give,a,\n0,giveat,512,7\n'
+    yield 'run 1 1', b',reserve,0,8\n,reserve,16,1\n0,take,a,3\n0,giveat,0,3\n'
+    yield 'run 8 2', b'0,take,a,0\n,round,,\n0,move,a,1\n1,give,a,\n0,take,b,5\n'
+    yield 'run 24 3', b'0,take,a,9\n1,take,b,0\n2,take,c,8\n,round,,\n1,move,b,2\n2,give,b,\n'
+    yield 'run 1 1', b'0,take,a,0\n0,take,a,x\n'
+    yield 'run 1 1', b',reserve,8,4\n,reserve,11,1\n'
+    yield 'image 1 1', b'0,take,a,0\n'
+    yield 'image 16 2', b'0,take,a,9\n1,take,b,0\n'
+    yield 'rebuild', IMAGE
+    yield 'report', IMAGE
+    yield 'report', IMAGE[:-1] + b'core,1,,,\n'
+    yield 'run 1 1', example('every-order')
+    yield 'run 16 1', example('huge-frames')
+    yield 'rebuild', example('stopped')
+    yield 'report', example('stopped')
+
+
+def is_alone(words):
+    """Is there one core, so that each run does the same?"""
+    return words.split()[2:3] in ([], ['1'])
+
+
+class Refusals:
+    def __init__(self, program, between, work):
+        self.program, self.between, self.counts = program, between, os.path.join(work, 'counts')
+        self.runs = self.failed = 0
+
+    def run(self, words, text, **limits):
+        """Status, output and errors, and how many calls of each kind there were."""
+        surroundings = {'LD_PRELOAD': self.between, 'REFUSE_COUNTS': self.counts}
+        surroundings.update({name: str(limit) for name, limit in limits.items()})
+        done = subprocess.run([self.program, *words.split()], input=text, capture_output=True,
+                              env=surroundings, timeout=60, check=False)
+        self.runs += 1
+        with open(self.counts, encoding='ascii') as file:
+            counts = dict(zip(KINDS, map(int, file.read().split())))
+        os.remove(self.counts)
+        return (done.returncode, done.stdout, done.stderr), counts
+
+    def want(self, condition, words, limits, got):
+        if not condition:
+            self.failed += 1
+            print(f'refusals: {self.program} {words}, {limits}: status {got[0]}, {got[1][:60]}, {got[2][:60]}')
+
+    def refuse(self, words, text, kind, calls, wanted, **limits):
+        """Each call of a kind in turn; wanted judges what the program did and which calls it made."""
+        for place in range(1, calls + 1):
+            limits[f'REFUSE_{kind}'] = place
+            got, counts = self.run(words, text, **limits)
+            self.want(wanted(place, got, counts), words, limits, got)
+
+    def try_text(self, words, text):
+        alone, counts = self.run(words, text)
+        self.want(alone[0] in (0, 1), words, 'nothing refused', alone)
+        is_accepted, is_single = alone[0] == 0, is_alone(words)
+
+        def is_memory_told(place, got, seen):
+            if got == NO_MEMORY:
+                return True
+            # the bad record was reached first, or threads made fewer calls this time
+            return got == alone if not is_accepted else not is_single and seen['MEMORY'] < place
+
+        self.refuse(words, text, 'MEMORY', counts['MEMORY'], is_memory_told)
+        self.refuse(words, text, 'THREAD', counts['THREAD'], lambda place, got, seen: got == NO_MEMORY)
+        if len(text) < 500:
+            self.try_devices(words, text, alone)
+
+    def try_devices(self, words, text, alone):
+        reads = self.run(words, text, MOST_READ=READ_BYTES)[1]['READ']
+        self.refuse(words, text, 'READ', reads,
+                    lambda place, got, seen: got == READ_FAILED and seen['READ'] == place, MOST_READ=READ_BYTES)
+        if alone[0] != 0 or not is_alone(words):
+            return
+        writes = self.run(words, text, MOST_WRITTEN=WRITTEN_BYTES)[1]['WRITE']
+
+        def is_prefix(place, got, seen):
+            prefix = alone[1][:WRITTEN_BYTES * (place - 1)]
+            return got == (3, prefix, b'llfree: write failed\n') and seen['WRITE'] == place
+
+        self.refuse(words, text, 'WRITE', writes, is_prefix, MOST_WRITTEN=WRITTEN_BYTES)
+        self.refuse(words, text, 'WRITE', writes, is_prefix, MOST_WRITTEN=WRITTEN_BYTES, REFUSE_WITH=0)
+
+
+def main():
+    programs = sys.argv[1:] or [os.path.join(TOP, 'crates/llfree/out/llfree')]
+    compiler = shutil.which('cc')
+    if not compiler:
+        print('refusals: no C compiler, so nothing is tried\n0 passed, 0 failed')
+        return 0
+    runs = failed = 0
+    with tempfile.TemporaryDirectory() as work:
+        between = os.path.join(work, 'refusing.so')
+        subprocess.run([compiler, '-O2', '-Wall', '-Wextra', '-shared', '-fPIC', '-o', between,
+                        os.path.join(HERE, 'refusing.c'), '-ldl'], check=True)
+        for program in programs:
+            refusals = Refusals(os.path.abspath(program), between, work)
+            for words, text in texts():
+                refusals.try_text(words, text)
+            runs, failed = runs + refusals.runs, failed + refusals.failed
+    print(f'{runs - failed} passed, {failed} failed')
+    return 1 if failed else 0
+
+
+if __name__ == '__main__':
+    sys.exit(main())

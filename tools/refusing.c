@@ -1,0 +1,129 @@
+/* Stands between a program and its C library (LD_PRELOAD), and refuses one call of a kind.
+
+   REFUSE_MEMORY=N     the Nth allocation or growth answers no memory
+   REFUSE_THREAD=N     the Nth thread is not started
+   REFUSE_READ=N       the Nth read of standard input fails
+   REFUSE_WRITE=N      the Nth write to standard output fails, or answers 0 where REFUSE_WITH=0
+   MOST_READ=N, MOST_WRITTEN=N     so many bytes a call at most
+   REFUSE_COUNTS=FILE  how many calls of each kind there were, in this order, at the end */
+#define _GNU_SOURCE
+#include <dlfcn.h>
+#include <errno.h>
+#include <pthread.h>
+#include <stdatomic.h>
+#include <stdio.h>
+#include <stdlib.h>
+#include <unistd.h>
+
+enum { MEMORY, THREADS, READS, WRITES, KINDS };
+
+static atomic_long counts[KINDS];
+static long refused[KINDS], most_read, most_written, answer_zero;
+
+static long number(const char *name)
+{
+    const char *text = getenv(name);
+    return text ? atol(text) : 0;
+}
+
+static void *real(const char *name)
+{
+    return dlsym(RTLD_NEXT, name);
+}
+
+__attribute__((constructor)) static void begin(void)
+{
+    refused[MEMORY] = number("REFUSE_MEMORY");
+    refused[THREADS] = number("REFUSE_THREAD");
+    refused[READS] = number("REFUSE_READ");
+    refused[WRITES] = number("REFUSE_WRITE");
+    most_read = number("MOST_READ");
+    most_written = number("MOST_WRITTEN");
+    answer_zero = getenv("REFUSE_WITH") != NULL;
+    for (int kind = 0; kind < KINDS; kind++)
+        counts[kind] = 0;
+}
+
+__attribute__((destructor)) static void end(void)
+{
+    long seen[KINDS];
+    for (int kind = 0; kind < KINDS; kind++)
+        seen[kind] = counts[kind];
+    const char *name = getenv("REFUSE_COUNTS");
+    FILE *file = name ? fopen(name, "w") : NULL;
+    if (!file)
+        return;
+    fprintf(file, "%ld %ld %ld %ld\n", seen[MEMORY], seen[THREADS], seen[READS], seen[WRITES]);
+    fclose(file);
+}
+
+/* Is this the call that is refused? */
+static int is_refused(int kind)
+{
+    return ++counts[kind] == refused[kind];
+}
+
+void *malloc(size_t size)
+{
+    static void *(*next)(size_t);
+    if (!next)
+        next = real("malloc");
+    if (is_refused(MEMORY)) {
+        errno = ENOMEM;
+        return NULL;
+    }
+    return next(size);
+}
+
+void *realloc(void *old, size_t size)
+{
+    static void *(*next)(void *, size_t);
+    if (!next)
+        next = real("realloc");
+    if (is_refused(MEMORY)) {
+        errno = ENOMEM;
+        return NULL;
+    }
+    return next(old, size);
+}
+
+int pthread_create(pthread_t *thread, const pthread_attr_t *attributes, void *(*run)(void *), void *with)
+{
+    static int (*next)(pthread_t *, const pthread_attr_t *, void *(*)(void *), void *);
+    if (!next)
+        next = real("pthread_create");
+    return is_refused(THREADS) ? EAGAIN : next(thread, attributes, run, with);
+}
+
+ssize_t read(int file, void *bytes, size_t size)
+{
+    static ssize_t (*next)(int, void *, size_t);
+    if (!next)
+        next = real("read");
+    if (file != STDIN_FILENO)
+        return next(file, bytes, size);
+    if (is_refused(READS)) {
+        errno = EIO;
+        return -1;
+    }
+    return next(file, bytes, most_read && (size_t)most_read < size ? (size_t)most_read : size);
+}
+
+ssize_t write(int file, const void *bytes, size_t size)
+{
+    static ssize_t (*next)(int, const void *, size_t);
+    if (!next)
+        next = real("write");
+    if (file != STDOUT_FILENO)
+        return next(file, bytes, size);
+    if (is_refused(WRITES)) {
+        errno = EIO;
+        return answer_zero ? 0 : -1;
+    }
+    return next(file, bytes, most_written && (size_t)most_written < size ? (size_t)most_written : size);
+}
+
+ssize_t __write(int file, const void *bytes, size_t size)
+{
+    return write(file, bytes, size);
+}
