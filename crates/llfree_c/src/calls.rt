@@ -1,8 +1,8 @@
 //! What C calls of an allocator for one thread.
 
-ghost use Rattle.std.specs.Prelude.{◌≡◌, ◌≢◌, false};
-ghost use Rattle.llfree_c.specs.Status.{ok, no_block, bad_order, not_held, closed};
-ghost use Rattle.llfree_c.specs.Seen.{Both, IsFresh, Takes, Finds, Gives, Splits, IsWhole, Refuses};
+ghost use Rattle.std.specs.Prelude.{◌≡◌, ◌≢◌, ◌⊎◌, ◌≤◌, true, false};
+ghost use Rattle.llfree_c.specs.Status.{ok, no_block, bad_order, not_held, closed, not_closed};
+ghost use Rattle.llfree_c.specs.Seen.{Both, OpensFresh, IsUnopenedAt, BlockTaken, NoneWasFree, HasNoOrder, BlockGiven, BlockSplit, HasNoHalves, WasNotOut};
 
 use crate::crossing::may_cross;
 use crate::handle::PlainHandle;
@@ -13,8 +13,10 @@ use std::alloc::Global;
 /// Opens an allocator of so many children, all frames free, behind a closed handle.
 #[unsafe(no_mangle)]
 pub extern "C" fn llfree_plain_open(handle: &mut PlainHandle, heap: Global, children: u32) -> u32
-    ensures open { result ≡ ok → IsFresh children handle.new.state.value }
+    ensures open { result ≡ ok → (handle.old.live ≡ false) × OpensFresh children handle.new.state.value }
     ensures refused { result ≢ ok → handle.new ≡ handle.old }
+    ensures why { result ≢ ok → ((result ≡ not_closed) × (handle.old.live ≡ true))
+        ⊎ IsUnopenedAt children result }
 {
     if handle.live {
         return NOT_CLOSED;
@@ -31,7 +33,7 @@ pub extern "C" fn llfree_plain_open(handle: &mut PlainHandle, heap: Global, chil
     OK
 }
 
-/// Takes a block of the order, and writes its first frame.
+/// BlockTaken a block of the order, and writes its first frame.
 #[unsafe(no_mangle)]
 pub extern "C" fn llfree_plain_take(
     handle: &mut PlainHandle,
@@ -40,11 +42,14 @@ pub extern "C" fn llfree_plain_take(
     frame: &mut u32,
 ) -> u32
     ensures taken { result ≡ ok
-        → Both (Takes order frame.new) handle.old.state.value handle.new.state.value }
+        → Both (BlockTaken order frame.new) handle.old.state.value handle.new.state.value }
     ensures none { result ≡ no_block
-        → Both (Finds order) handle.old.state.value handle.new.state.value }
+        → Both (NoneWasFree order) handle.old.state.value handle.new.state.value }
+    ensures order { result ≡ bad_order
+        → Both (HasNoOrder order) handle.old.state.value handle.new.state.value }
     ensures closed { result ≡ closed → (handle.old.live ≡ false) × (handle.new ≡ handle.old) }
     ensures refused { result ≢ ok → frame.new ≡ frame.old }
+    ensures known { (result ≤ bad_order) ⊎ (result ≡ closed) }
 {
     let Some(mut state) = handle.take_out(heap) else {
         return CLOSED;
@@ -54,7 +59,7 @@ pub extern "C" fn llfree_plain_take(
     status
 }
 
-/// Gives exactly this block, where it is held.
+/// BlockGiven exactly this block, where it is held.
 #[unsafe(no_mangle)]
 pub extern "C" fn llfree_plain_give(
     handle: &mut PlainHandle,
@@ -63,10 +68,11 @@ pub extern "C" fn llfree_plain_give(
     order: u8,
 ) -> u32
     ensures given { result ≡ ok
-        → Both (Gives order frame) handle.old.state.value handle.new.state.value }
+        → Both (BlockGiven order frame) handle.old.state.value handle.new.state.value }
     ensures closed { result ≡ closed → (handle.old.live ≡ false) × (handle.new ≡ handle.old) }
-    ensures refused { result ≢ ok → result ≢ closed
-        → Both (Refuses order frame) handle.old.state.value handle.new.state.value }
+    ensures refused { result ≡ not_held
+        → Both (WasNotOut order frame) handle.old.state.value handle.new.state.value }
+    ensures known { (result ≡ ok) ⊎ (result ≡ not_held) ⊎ (result ≡ closed) }
 {
     let Some(mut state) = handle.take_out(heap) else {
         return CLOSED;
@@ -76,7 +82,7 @@ pub extern "C" fn llfree_plain_give(
     status
 }
 
-/// Splits exactly this block into its halves, where it is held; each is given by itself then.
+/// BlockSplit exactly this block into its halves, where it is held; each is given by itself then.
 #[unsafe(no_mangle)]
 pub extern "C" fn llfree_plain_split(
     handle: &mut PlainHandle,
@@ -85,12 +91,13 @@ pub extern "C" fn llfree_plain_split(
     order: u8,
 ) -> u32
     ensures split { result ≡ ok
-        → Both (Splits order frame) handle.old.state.value handle.new.state.value }
+        → Both (BlockSplit order frame) handle.old.state.value handle.new.state.value }
     ensures whole { result ≡ bad_order
-        → Both (IsWhole order) handle.old.state.value handle.new.state.value }
+        → Both (HasNoHalves order) handle.old.state.value handle.new.state.value }
     ensures closed { result ≡ closed → (handle.old.live ≡ false) × (handle.new ≡ handle.old) }
     ensures refused { result ≡ not_held
-        → Both (Refuses order frame) handle.old.state.value handle.new.state.value }
+        → Both (WasNotOut order frame) handle.old.state.value handle.new.state.value }
+    ensures known { (result ≡ ok) ⊎ (result ≡ bad_order) ⊎ (result ≡ not_held) ⊎ (result ≡ closed) }
 {
     let Some(mut state) = handle.take_out(heap) else {
         return CLOSED;
