@@ -32,7 +32,7 @@ use Rattle.frame_table.specs.Seats.{view_of}
 use Rattle.frame_table.specs.declared.seats.CoreSeat.{CoreSeat}
 use Rattle.held_blocks.specs.Desk.{blocks_of, MayRefuse}
 use Rattle.core_frames.specs.Cores.{memory_of, seat_of}
-use Rattle.core_frames.specs.Desks.{core_of, IsDeskOf, list_of as list_in}
+use Rattle.core_frames.specs.Desks.{core_of, IsDeskOf, list_of}
 use Rattle.core_frames.specs.declared.allocator.Allocator.{Allocator}
 use Rattle.core_frames.specs.declared.desk.Desk.{Desk}
 use Rattle.core_frames.proofs.PlainCalls.{same_geometry}
@@ -75,7 +75,7 @@ kept_same a f [] all = ap (sum_by f) (sym kept_none)
 kept_same a f (d ∷ ds) all =
     omega (
       arith,
-      sum_by-append f (blocks_of (list_in d)) (all_blocks (lists_at ds)),
+      sum_by-append f (blocks_of (list_of d)) (all_blocks (lists_at ds)),
       ap (sum_by f) (kept_cons (seat_of (core_of d)) (seats_at ds)),
       sum_by-append f (view_of (seat_of (core_of d))).kept (kept_through (seats_at ds)),
       (All-head (IsDeskOf a) d ds all).keeps f,
@@ -85,7 +85,7 @@ kept_same a f (d ∷ ds) all =
 lists_lawful : (a : Allocator) (ds : List Desk) → All (IsDeskOf a) ds → All (IsBlock (memory_of a)) (all_blocks (lists_at ds))
 lists_lawful a [] all = All-nil (IsBlock (memory_of a))
 lists_lawful a (d ∷ ds) all =
-    All-append (IsBlock (memory_of a)) (blocks_of (list_in d)) (all_blocks (lists_at ds)) (All-head (IsDeskOf a) d ds all).apart.blocks
+    All-append (IsBlock (memory_of a)) (blocks_of (list_of d)) (all_blocks (lists_at ds)) (All-head (IsDeskOf a) d ds all).apart.blocks
     (lists_lawful a ds (All-tail (IsDeskOf a) d ds all))
 
 at_view : (es : List Eye) (i : ℕ) (e : Eye) → get_elem? es i ≡ some e → get_elem? (map (λ (x : Eye). x.view) es) i ≡ some e.view
