@@ -11,13 +11,12 @@ use Rattle.frame_words.proofs.WordLemmas.{free_in-entry_word, flag_in-entry_word
 use Rattle.frame_model.specs.declared.key.Key.{Key}
 use Rattle.frame_core.specs.Key.{tree_count, children_in}
 use Rattle.frame_core.specs.Block.{block, IsBlock, covers, whole_at}
-use Rattle.frame_core.specs.Words.{bit_of, tree_place, local_place, bits_place, word_count, bit_word_of, set_of, free_of, huge_of}
-use Rattle.frame_core.specs.Words.{tree_word_of, tree_free_of, reserved_of, local_word_of, rest_of, with_entry, with_tree, with_bits}
+use Rattle.frame_core.specs.Words.{bit_of, bit_word_of, set_of, free_of, huge_of}
+use Rattle.frame_core.specs.Words.{tree_free_of, reserved_of, with_entry, with_tree, with_bits}
 use Rattle.frame_core.specs.Words.{AreInRange}
 use Rattle.frame_core.specs.Image.{Contents, key_in, IsImage, IsAllFree}
 use Rattle.frame_core.specs.Rebuilt.{rebuilt_free, rebuilt_in_tree, rebuilt_bits, IsRebuilt}
 use Rattle.frame_core.specs.Openings.{held_blocks}
-use Rattle.frame_core.specs.Stops.{unsealed}
 use Rattle.frame_core.specs.Without.{without, HasFrames}
 use Rattle.frame_core.proofs.Counters.{all_free_exact}
 use Rattle.frame_model.proofs.Bits.{ones_zero, ones_run, bit_at_run_inside}
