@@ -332,17 +332,25 @@ fn the_fourth_give_reserves_its_tree(rt: HostRuntime) -> Result<(), Fail> {
 // more: only the next one reserves the tree.
 #[test]
 fn only_gives_in_a_row_reserve_a_tree(rt: HostRuntime) -> Result<(), Fail> {
-    let mut asks = Vec::new(rt.alloc());
-    for child in 0..9u32 {
-        asks.push(Ask::Take(0, 9, Ok(512 * child)))?;
-    }
-    for _i in 0..3u32 {
-        asks.push(Ask::Give(0, 0))?;
-    }
-    asks.push(Ask::Give(0, 5))?;
-    for _i in 0..4u32 {
-        asks.push(Ask::Give(0, 0))?;
-    }
+    let asks = [
+        Ask::Take(0, 9, Ok(0)),
+        Ask::Take(0, 9, Ok(512)),
+        Ask::Take(0, 9, Ok(1024)),
+        Ask::Take(0, 9, Ok(1536)),
+        Ask::Take(0, 9, Ok(2048)),
+        Ask::Take(0, 9, Ok(2560)),
+        Ask::Take(0, 9, Ok(3072)),
+        Ask::Take(0, 9, Ok(3584)),
+        Ask::Take(0, 9, Ok(4096)),
+        Ask::Give(0, 0),
+        Ask::Give(0, 0),
+        Ask::Give(0, 0),
+        Ask::Give(0, 5),
+        Ask::Give(0, 0),
+        Ask::Give(0, 0),
+        Ask::Give(0, 0),
+        Ask::Give(0, 0),
+    ];
     let before = image_of(rt.alloc(), (16, 1), &asks[..16])?;
     assert_eq!(rt;
         (tree_at(&before, 0), rest_at(&before, 0)),

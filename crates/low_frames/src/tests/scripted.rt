@@ -278,7 +278,8 @@ fn takes_go_on_after_lost_exchanges(rt: HostRuntime) -> Result<(), Fail> {
     Ok(())
 }
 
-// The words before a move: the order, whether a stranger claims, the move, the entry and the bits.
+// The words before a move: the order, whether a stranger claims, the move, the entry and the bits. A
+// stop before does not stay.
 #[test]
 fn a_stop_shows_each_step(rt: HostRuntime) -> Result<(), Fail> {
     let rows = [
@@ -312,6 +313,7 @@ fn a_stop_shows_each_step(rt: HostRuntime) -> Result<(), Fail> {
         if let Some((word, claimed)) = claim {
             cues = claims(0, word, claimed).to_vec(rt.alloc())?;
         }
+        cues.push(stop(0))?;
         cues.push(stop(at))?;
         let outcome = run(rt.alloc(), order, &cues)?;
         let found = outcome.stop.ok_or("no stop")?;
