@@ -5,6 +5,7 @@ pub mod Outcome
 pub mod Rounds
 pub mod Desk
 pub mod Streams
+pub mod ManyStreams
 pub mod Program
 pub mod Command
 pub mod ImageStreams

@@ -88,8 +88,8 @@ fn run_text(alloc: Global, geometry: Geometry, show: Show, text: &[u8]) -> Resul
     shown_text(alloc, show, &outcome)
 }
 
-// What is shown of an outcome.
-fn shown_text(alloc: Global, show: Show, outcome: &Outcome) -> Result<Vec<u8>, Fault>
+/// What is shown of an outcome.
+pub(crate) fn shown_text(alloc: Global, show: Show, outcome: &Outcome) -> Result<Vec<u8>, Fault>
     ensures text { IfOk result (λ text. text.items ≡ shown_of show outcome.now.answers.items
         outcome.now.image) }
     ensures fault { IfErr result (λ e. e ≡ Fault.NoMemory) }

@@ -1,5 +1,6 @@
 mod images;
 mod records;
+mod threads;
 
 use super::*;
 use crate::answers::answers_text;

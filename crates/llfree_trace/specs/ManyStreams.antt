@@ -1,0 +1,38 @@
+-- What a run on several cores from a reader to a writer writes.
+use Rattle.std.specs.Prelude.{ℕ, ◌≡◌, List, Option, Ok}
+use Rattle.std.specs.Io.KnownBytes.{Appends}
+use Rattle.core_frames.specs.Ranges.{MayHoldBack}
+use Rattle.frame_core.specs.Image.{Contents}
+use Rattle.frame_image.specs.Devices.{WritesFront}
+use Rattle.frame_words.specs.declared.geometry.Geometry.{Geometry}
+use Rattle.held_blocks.specs.Desk.{MayRefuse}
+use Rattle.llfree_trace.specs.Outcome.{IsAnsweredBy}
+use Rattle.llfree_trace.specs.Streams.{shown_of}
+use Rattle.llfree_trace.specs.Trace.{ranges_in}
+use Rattle.llfree_trace.specs.TraceText.{trace_of}
+use Rattle.llfree_trace.specs.declared.line.Line.{Line}
+use Rattle.llfree_trace.specs.declared.reply.Answer.{Answer}
+use Rattle.llfree_trace.specs.declared.streams.Show.{Show}
+
+-- the bytes show an outcome that fits what the text says as a trace, whose ranges may be held back
+pub record IsManyRunOf (geometry : Geometry) (show : Show) (text out : List ℕ) : Type 0 where
+  pub lines : List Line
+  pub answers : List Answer
+  pub image : Contents
+  pub says : trace_of geometry.cores text ≡ Ok lines
+  pub of : image.geometry ≡ geometry
+  pub ranges : MayHoldBack geometry (ranges_in lines)
+  pub fits : IsAnsweredBy MayRefuse lines answers image
+  pub spells : out ≡ shown_of show answers image
+
+-- the known bytes grow by such bytes
+abbrev pub WritesManyRun :
+    Geometry → Show → List ℕ → Option (List ℕ) → Option (List ℕ) → Type 0
+WritesManyRun geometry show text old new =
+    (out : List ℕ) × IsManyRunOf geometry show text out × Appends old new out
+
+-- the known bytes grow by a front of such bytes
+abbrev pub WritesFrontOfManyRun :
+    Geometry → Show → List ℕ → Option (List ℕ) → Option (List ℕ) → Type 0
+WritesFrontOfManyRun geometry show text old new =
+    (out : List ℕ) × IsManyRunOf geometry show text out × WritesFront old new out

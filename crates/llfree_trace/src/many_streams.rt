@@ -1,0 +1,87 @@
+//! Runs on several cores from a reader to a writer.
+
+ghost use Rattle.std.specs.Prelude.{◌≡◌, ◌≢◌, ◌<◌, ◌⊎◌, true, false, length, ℕ, Err};
+ghost use Rattle.std.specs.Prelude.{IfErr, IfOk, IfSome, IsErrOf, OnOk};
+ghost use Rattle.frame_image.specs.Devices.{device_of, has_failed};
+ghost use Rattle.llfree_trace.specs.ManyStreams.{IsManyRunOf, WritesFrontOfManyRun, WritesManyRun};
+ghost use Rattle.llfree_trace.specs.Streams.{ExplainsRun, HasBadRanges, IsRunFault, IsTooLong};
+ghost use Rattle.llfree_trace.specs.TraceText.{trace_of};
+
+use crate::gate::Gate;
+use crate::many_cores::run_trace;
+use crate::parser::parse_trace;
+use crate::streams::{Show, shown_text};
+use frame_image::{MOST_BYTES, Watched, read_all, write_out};
+use frame_words::{Fault, Geometry};
+use std::alloc::Global;
+use std::io::{Read, Write};
+use std::sync::Wait;
+use std::thread::Threads;
+
+/// Runs the trace that the reader has left, each core on a thread of its own in each round, and
+/// writes what is to be shown.
+///
+/// All text is made before the first byte is written.
+pub fn run_many_over<Rt: Threads + Wait, G: Gate, R: Read, W: Write>(
+    rt: &Rt,
+    alloc: Global,
+    geometry: Geometry,
+    show: Show,
+    gate: &G,
+    input: &mut Watched<R>,
+    output: &mut Watched<W>,
+) -> Result<(), Fault>
+    // What is written shows an outcome that fits the trace, and nothing else.
+    ensures written { OnOk result (IfSome (R.remaining (device_of input.old)) (λ text.
+        WritesManyRun geometry show text (W.contents (device_of output.old))
+        (W.contents (device_of output.new)))) }
+    ensures sound { OnOk result ((has_failed input.new ≡ false) × (has_failed output.new ≡ false)) }
+
+    // The reader failed, or its text is too long.
+    ensures read_failed { has_failed input.new ≡ true → IsErrOf result Fault.ReadFailed }
+    ensures too_long { IsErrOf result Fault.ReadFailed → (has_failed input.new ≡ true)
+        ⊎ IfSome (R.remaining (device_of input.old)) (λ text. MOST_BYTES < length text) }
+
+    ensures limit { IsTooLong (R.remaining (device_of input.old))
+        → IsErrOf result Fault.ReadFailed ⊎ IsErrOf result Fault.NoMemory }
+
+    // A record is refused, the lowest of all that the reader had left.
+    ensures bad_trace { (line : ℕ) → IsErrOf result (Fault.BadTrace line)
+        → IfSome (R.remaining (device_of input.old)) (λ text.
+        trace_of geometry.cores text ≡ Err line) }
+
+    // The text is a trace, and its ranges may not be held back.
+    ensures bad_range { IsErrOf result Fault.BadRange
+        → IfSome (R.remaining (device_of input.old)) (HasBadRanges geometry) }
+
+    // A write failed, and a front of that was written.
+    ensures write_failed { IsErrOf result Fault.WriteFailed → (has_failed output.new ≡ true)
+        × IfSome (R.remaining (device_of input.old)) (λ text.
+        WritesFrontOfManyRun geometry show text (W.contents (device_of output.old))
+        (W.contents (device_of output.new))) }
+
+    // Any other refusal has written nothing.
+    ensures others { IfErr result (λ e. IsRunFault e) }
+    ensures untouched { IfErr result (λ e. e ≢ Fault.WriteFailed → output.new ≡ output.old) }
+{
+    let text = read_all(alloc, input)?;
+    let shown = run_many_text(rt, alloc, geometry, show, gate, text.as_slice())?;
+    write_out(output, shown.as_slice())
+}
+
+// What a run of the trace that the text spells shows.
+fn run_many_text<Rt: Threads + Wait, G: Gate>(
+    rt: &Rt,
+    alloc: Global,
+    geometry: Geometry,
+    show: Show,
+    gate: &G,
+    text: &[u8],
+) -> Result<Vec<u8>, Fault>
+    ensures ok { IfOk result (λ out. IsManyRunOf geometry show text.now out.items) }
+    ensures err { IfErr result (ExplainsRun geometry text.now) }
+{
+    let trace = parse_trace(alloc, &geometry, text)?;
+    let outcome = run_trace(rt, alloc, geometry, &trace, gate)?;
+    shown_text(alloc, show, &outcome)
+}
