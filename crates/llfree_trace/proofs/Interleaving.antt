@@ -15,8 +15,8 @@ use Rattle.held_blocks.specs.Desk.{MayRefuse, blocks_of}
 use Rattle.frame_core.specs.Holding.{IsHolding}
 use Rattle.frame_model.specs.declared.key.Key.{Key}
 use Rattle.llfree_trace.proofs.Running.{step_lawful}
-use Rattle.llfree_trace.specs.Outcome.{Runs, list_of}
-use Rattle.llfree_trace.specs.Rounds.{Ask, DeskRun, IsAsk, answers_of, asks_from, asks_of, place, spot, RoundRan}
+use Rattle.llfree_trace.specs.Outcome.{Runs, core_list}
+use Rattle.llfree_trace.specs.Rounds.{Ask, DeskRun, IsAsk, answers_by, asks_from, asks_by, ask_spot, spot, RoundRan}
 use Rattle.llfree_trace.specs.Trace.{cores_in}
 use Rattle.llfree_trace.specs.declared.line.Line.{Line}
 use Rattle.llfree_trace.specs.declared.line.Line.TheVariants as line
@@ -26,15 +26,15 @@ use Rattle.llfree_trace.specs.declared.reply.Answer.{Answer}
 -- what the lists of all cores do, each by its own requests and answers
 pub record Apart (key : Key) (old : List (List LabelledBlock)) (asks : List Ask) (answers : List Answer)
     (new : List (List LabelledBlock)) : Type 0 where
-  pub spots : map spot answers ≡ map place asks
+  pub spots : map spot answers ≡ map ask_spot asks
   pub width : length new ≡ length old
-  pub lawful : (k : ℕ) → k < length old → IsHolding key (blocks_of (list_of old k))
+  pub lawful : (k : ℕ) → k < length old → IsHolding key (blocks_of (core_list old k))
   pub runs : (k : ℕ) → k < length old
-      → DeskRun key (list_of old k) (asks_of k asks) (answers_of k answers) (list_of new k)
+      → DeskRun key (core_list old k) (asks_by k asks) (answers_by k answers) (core_list new k)
 
 -- lists with the same elements are one
 same_lists : (xs ys : List (List LabelledBlock)) → length ys ≡ length xs
-    → ((k : ℕ) → k < length xs → list_of xs k ≡ list_of ys k) → xs ≡ ys
+    → ((k : ℕ) → k < length xs → core_list xs k ≡ core_list ys k) → xs ≡ ys
 same_lists [] [] size all = refl
 same_lists [] (y ∷ ys) size all = absurd (omega arith)
 same_lists (x ∷ xs) [] size all = absurd (omega arith)
@@ -48,8 +48,8 @@ test_same m k e = grind (arith, nat_tests)
 test_other : (m k : ℕ) → m ≢ k → (m == k) ≡ false
 test_other m k e = grind (arith, nat_tests)
 
-head_line : (a b : Answer) (c : Ask) (rest : List Answer) (cs : List Ask) → map spot (a ∷ rest) ≡ map place (c ∷ cs)
-    → (a.line ≡ c.number) × (a.core ≡ c.core) × (map spot rest ≡ map place cs)
+head_line : (a b : Answer) (c : Ask) (rest : List Answer) (cs : List Ask) → map spot (a ∷ rest) ≡ map ask_spot (c ∷ cs)
+    → (a.line ≡ c.number) × (a.core ≡ c.core) × (map spot rest ≡ map ask_spot cs)
 head_line a b c rest cs e =
     (ap (λ (p : ℕ × ℕ). p.0) (ap (first_of (spot a)) e), ap (λ (p : ℕ × ℕ). p.1) (ap (first_of (spot a)) e), ap rest_of e)
   where
@@ -65,7 +65,7 @@ head_line a b c rest cs e =
 rest_apart : (key : Key) (old : List (List LabelledBlock)) (ask : Ask) (asks : List Ask) (a : Answer) (answers : List Answer)
     (new : List (List LabelledBlock)) (mid : List LabelledBlock) → Apart key old (ask ∷ asks) (a ∷ answers) new
     → ask.core < length old → IsHolding key (blocks_of mid)
-    → DeskRun key mid (asks_of ask.core asks) (answers_of ask.core answers) (list_of new ask.core)
+    → DeskRun key mid (asks_by ask.core asks) (answers_by ask.core answers) (core_list new ask.core)
     → Apart key (set old ask.core mid) asks answers new
 rest_apart key old ask asks a answers new mid apart inside holds run =
     let core : ℕ = ask.core in
@@ -76,13 +76,13 @@ rest_apart key old ask asks a answers new mid apart inside holds run =
       spots = heads.2;
       width = apart.width ∙ sym width;
       lawful = λ k lt.
-          let P : ℕ → Type 0 = λ h. IsHolding key (blocks_of (list_of (set old core mid) h)) in
+          let P : ℕ → Type 0 = λ h. IsHolding key (blocks_of (core_list (set old core mid) h)) in
           elim (eqb_tells core k) [
             | inl s ↦ subst P s.1 (rw own holds)
             | inr s ↦ rw (get_or-set_other old core k mid [] (λ q. s.1 (sym q))) (apart.lawful k (omega (arith, lt, width)))
           ];
       runs = λ k lt.
-          let P : ℕ → Type 0 = λ h. DeskRun key (list_of (set old core mid) h) (asks_of h asks) (answers_of h answers) (list_of new h) in
+          let P : ℕ → Type 0 = λ h. DeskRun key (core_list (set old core mid) h) (asks_by h asks) (answers_by h answers) (core_list new h) in
           elim (eqb_tells core k) [
             | inl s ↦ subst P s.1 (rw own run)
             | inr s ↦
@@ -102,13 +102,13 @@ interleaved key number old [] [] new all inside apart =
     same_lists old new apart.width (λ k lt. apart.runs k lt)
 interleaved key number old [] (a ∷ answers) new all inside apart = absurd (no_spots a answers apart.spots)
   where
-    no_spots : (a : Answer) (answers : List Answer) → map spot (a ∷ answers) ≡ map place [] → ⊥
+    no_spots : (a : Answer) (answers : List Answer) → map spot (a ∷ answers) ≡ map ask_spot [] → ⊥
     no_spots a answers e = let z = ap length e in absurd (omega (arith, z))
 interleaved key number old (line.Ask core request ∷ lines) [] new all inside apart =
     absurd (no_places core request lines apart.spots)
   where
     no_places : (core : ℕ) (request : Request) (lines : List Line)
-        → map spot [] ≡ map place (asks_from number (line.Ask core request ∷ lines)) → ⊥
+        → map spot [] ≡ map ask_spot (asks_from number (line.Ask core request ∷ lines)) → ⊥
     no_places core request lines e = let z = ap length e in absurd (omega (arith, z))
 interleaved key number old (line.Ask core request ∷ lines) (a ∷ answers) new all inside apart =
     let ask : Ask = record { number = number; core = core; request = request } in
@@ -118,10 +118,10 @@ interleaved key number old (line.Ask core request ∷ lines) (a ∷ answers) new
     let heads = head_line a a ask answers asks apart.spots in
     let keep_ask : (core == core) ≡ true = test_same core core refl in
     let keep_answer : (a.core == core) ≡ true = test_same a.core core heads.1 in
-    let run : DeskRun key (list_of old core) (ask ∷ asks_of core asks) (a ∷ answers_of core answers) (list_of new core) =
+    let run : DeskRun key (core_list old core) (ask ∷ asks_by core asks) (a ∷ answers_by core answers) (core_list new core) =
     rw (keep_ask, keep_answer) at (apart.runs core low) in
     let mid : List LabelledBlock = run.2 in
-    let holds = step_lawful MayRefuse key (list_of old core) request a.reply mid (apart.lawful core low) run.3 in
+    let holds = step_lawful MayRefuse key (core_list old core) request a.reply mid (apart.lawful core low) run.3 in
     let wide : length old ≡ length (set old core mid) = sym (length-set old core mid) in
     let after : All (λ l. cores_in l ≤ length (set old core mid)) lines =
     rw (← wide) (All-tail (λ l. cores_in l ≤ length old) (line.Ask core request) lines inside) in (

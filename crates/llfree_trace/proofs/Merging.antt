@@ -19,52 +19,52 @@ use Rattle.llfree_trace.specs.declared.lines.Done.{Done}
 use Rattle.llfree_trace.proofs.Workers.{ask_core_is, ask_count}
 use Rattle.llfree_trace.specs.declared.line.Line.{Line}
 use Rattle.llfree_trace.specs.declared.line.Request.TheVariants as request
-use Rattle.llfree_trace.specs.Rounds.{IsAsk, ask_core, asks_from, Ask, DeskRun, Fitting, Merged, Ran, RanAll, RoundRan, answers_of, asks_of, lent_by_desks, place, spot}
+use Rattle.llfree_trace.specs.Rounds.{IsAsk, ask_core, asks_from, Ask, DeskRun, Fitting, Merged, Ran, RanAll, RoundRan, answers_by, asks_by, lent_by_desks, ask_spot, spot}
 
 -- the answers to the first i lines stand in order, and of each core as many are used as it has lines among them
 pub record Merging (lines : List Ask) (done : List Done) (i : ℕ) (next : List ℕ) (all : List Answer) : Type 0 where
   pub width : length next ≡ length done
-  pub used : (k : ℕ) → k < length done → get_or next k 0 ≡ length (asks_of k (take i lines))
-  pub spots : map spot all ≡ map place (take i lines)
-  pub each : (k : ℕ) (d : Done) → k < length done → answers_of k all ≡ take (length (asks_of k (take i lines))) (get_or done k d).answers.items
+  pub used : (k : ℕ) → k < length done → get_or next k 0 ≡ length (asks_by k (take i lines))
+  pub spots : map spot all ≡ map ask_spot (take i lines)
+  pub each : (k : ℕ) (d : Done) → k < length done → answers_by k all ≡ take (length (asks_by k (take i lines))) (get_or done k d).answers.items
 
 -- the lines of a core among the first i + 1, and its answers among those with one more
 own_lines : (k : ℕ) (lines : List Ask) (i : ℕ) (d : Ask) → i < length lines → (get_or lines i d).core ≡ k
-    → asks_of k (take (i + 1) lines) ≡ asks_of k (take i lines) ++ get_or lines i d ∷ []
+    → asks_by k (take (i + 1) lines) ≡ asks_by k (take i lines) ++ get_or lines i d ∷ []
 own_lines k lines i d lt own =
     let test : ((get_or lines i d).core == k) ≡ true = grind (arith, nat_tests) in
     rw (filter_more (λ (l : Ask). l.core == k) lines i d lt, test) refl
 
 other_lines : (k : ℕ) (lines : List Ask) (i : ℕ) (d : Ask) → i < length lines → (get_or lines i d).core ≢ k
-    → asks_of k (take (i + 1) lines) ≡ asks_of k (take i lines)
+    → asks_by k (take (i + 1) lines) ≡ asks_by k (take i lines)
 other_lines k lines i d lt other =
     let test : ((get_or lines i d).core == k) ≡ false = grind (arith, nat_tests) in
-    rw (filter_more (λ (l : Ask). l.core == k) lines i d lt, test) (append-nil (asks_of k (take i lines)))
+    rw (filter_more (λ (l : Ask). l.core == k) lines i d lt, test) (append-nil (asks_by k (take i lines)))
 
-own_answer : (k : ℕ) (all : List Answer) (a : Answer) → a.core ≡ k → answers_of k (all ++ a ∷ []) ≡ answers_of k all ++ a ∷ []
+own_answer : (k : ℕ) (all : List Answer) (a : Answer) → a.core ≡ k → answers_by k (all ++ a ∷ []) ≡ answers_by k all ++ a ∷ []
 own_answer k all a own =
     let test : (a.core == k) ≡ true = grind (arith, nat_tests) in
     rw (filter-append (λ (b : Answer). b.core == k) all (a ∷ []), test) refl
 
-other_answer : (k : ℕ) (all : List Answer) (a : Answer) → a.core ≢ k → answers_of k (all ++ a ∷ []) ≡ answers_of k all
+other_answer : (k : ℕ) (all : List Answer) (a : Answer) → a.core ≢ k → answers_by k (all ++ a ∷ []) ≡ answers_by k all
 other_answer k all a other =
     let test : (a.core == k) ≡ false = grind (arith, nat_tests) in
-    rw (filter-append (λ (b : Answer). b.core == k) all (a ∷ []), test) (append-nil (answers_of k all))
+    rw (filter-append (λ (b : Answer). b.core == k) all (a ∷ []), test) (append-nil (answers_by k all))
 
 -- a core's lines, where line i is one of them
 own_split : (k : ℕ) (lines : List Ask) (i : ℕ) (d : Ask) → i < length lines → (get_or lines i d).core ≡ k
-    → asks_of k lines ≡ asks_of k (take i lines) ++ get_or lines i d ∷ asks_of k (drop (i + 1) lines)
+    → asks_by k lines ≡ asks_by k (take i lines) ++ get_or lines i d ∷ asks_by k (drop (i + 1) lines)
 own_split k lines i d lt own =
-    let rest = asks_of k (drop (i + 1) lines) in
-    ap (asks_of k) (sym (take-append-drop (i + 1) lines))
+    let rest = asks_by k (drop (i + 1) lines) in
+    ap (asks_by k) (sym (take-append-drop (i + 1) lines))
     ∙ (filter-append (λ (l : Ask). l.core == k) (take (i + 1) lines) (drop (i + 1) lines)
-    ∙ (ap (λ (xs : List Ask). xs ++ rest) (own_lines k lines i d lt own) ∙ append_assoc (asks_of k (take i lines)) (get_or lines i d ∷ []) rest))
+    ∙ (ap (λ (xs : List Ask). xs ++ rest) (own_lines k lines i d lt own) ∙ append_assoc (asks_by k (take i lines)) (get_or lines i d ∷ []) rest))
 
 -- a core has as many answers as lines
 same_count : (lines : List Ask) (done : List Done) (k : ℕ) (e : Done) → Fitting lines done → k < length done
-    → length (get_or done k e).answers.items ≡ length (asks_of k lines)
+    → length (get_or done k e).answers.items ≡ length (asks_by k lines)
 same_count lines done k e fit lt =
-    sym (length-map (get_or done k e).answers.items spot) ∙ (ap length (fit.fits k e lt) ∙ length-map (asks_of k lines) place)
+    sym (length-map (get_or done k e).answers.items spot) ∙ (ap length (fit.fits k e lt) ∙ length-map (asks_by k lines) ask_spot)
 
 -- the next answer of the core of line i
 pub room : (lines : List Ask) (done : List Done) (i : ℕ) (next : List ℕ) (all : List Answer) (d : Ask) (e : Done)
@@ -73,25 +73,25 @@ pub room : (lines : List Ask) (done : List Done) (i : ℕ) (next : List ℕ) (al
 room lines done i next all d e fit m lt =
     let k = (get_or lines i d).core in
     let inside = fit.inside i d lt in
-    let rest = asks_of k (drop (i + 1) lines) in
-    omega (arith, m.used k inside, same_count lines done k e fit inside, ap length (own_split k lines i d lt refl), length-append (asks_of k (take i lines)) (get_or lines i d ∷ rest))
+    let rest = asks_by k (drop (i + 1) lines) in
+    omega (arith, m.used k inside, same_count lines done k e fit inside, ap length (own_split k lines i d lt refl), length-append (asks_by k (take i lines)) (get_or lines i d ∷ rest))
 
 pub spot_is : (lines : List Ask) (done : List Done) (i : ℕ) (next : List ℕ) (all : List Answer) (d : Ask) (e : Done) (b : Answer)
     → Fitting lines done → Merging lines done i next all → i < length lines
-    → spot (get_or (get_or done (get_or lines i d).core e).answers.items (get_or next (get_or lines i d).core 0) b) ≡ place (get_or lines i d)
+    → spot (get_or (get_or done (get_or lines i d).core e).answers.items (get_or next (get_or lines i d).core 0) b) ≡ ask_spot (get_or lines i d)
 spot_is lines done i next all d e b fit m lt =
     let l = get_or lines i d in
     let k = l.core in
     let inside = fit.inside i d lt in
     let answers = (get_or done k e).answers.items in
     let n = get_or next k 0 in
-    let front = map place (asks_of k (take i lines)) in
-    let back = map place (asks_of k (drop (i + 1) lines)) in
-    let all_spots : map spot answers ≡ front ++ place l ∷ back =
-    fit.fits k e inside ∙ (ap (map place) (own_split k lines i d lt refl) ∙ map-append place (asks_of k (take i lines)) (l ∷ asks_of k (drop (i + 1) lines))) in
-    let at : length front ≡ n = length-map (asks_of k (take i lines)) place ∙ sym (m.used k inside) in
-    let P : ℕ → Type 0 = λ j. get_or (front ++ place l ∷ back) j (spot b) ≡ place l in
-    sym (get_or-map spot answers n b) ∙ (ap (λ (xs : List (ℕ × ℕ)). get_or xs n (spot b)) all_spots ∙ subst P at (get_or-append_seam front (place l) back (spot b)))
+    let front = map ask_spot (asks_by k (take i lines)) in
+    let back = map ask_spot (asks_by k (drop (i + 1) lines)) in
+    let all_spots : map spot answers ≡ front ++ ask_spot l ∷ back =
+    fit.fits k e inside ∙ (ap (map ask_spot) (own_split k lines i d lt refl) ∙ map-append ask_spot (asks_by k (take i lines)) (l ∷ asks_by k (drop (i + 1) lines))) in
+    let at : length front ≡ n = length-map (asks_by k (take i lines)) ask_spot ∙ sym (m.used k inside) in
+    let P : ℕ → Type 0 = λ j. get_or (front ++ ask_spot l ∷ back) j (spot b) ≡ ask_spot l in
+    sym (get_or-map spot answers n b) ∙ (ap (λ (xs : List (ℕ × ℕ)). get_or xs n (spot b)) all_spots ∙ subst P at (get_or-append_seam front (ask_spot l) back (spot b)))
 
 pub at_zero : (lines : List Ask) (done : List Done) (i : ℕ) (next : List ℕ) (all : List Answer) (d : Ask) (at : ℕ)
     → Fitting lines done → Merging lines done i next all → i < length lines → at ≡ get_or next (get_or lines i d).core at → at ≡ get_or next (get_or lines i d).core 0
@@ -112,10 +112,10 @@ ends lines done next all fit m =
       spots = rw whole at m.spots;
       each = λ k d lt.
           let answers = (get_or done k d).answers.items in
-          let count : length (asks_of k lines) ≡ length answers = sym (same_count lines done k d fit lt) in
+          let count : length (asks_by k lines) ≡ length answers = sym (same_count lines done k d fit lt) in
           let every : take (length answers) answers ≡ answers = grind (arith, common_steps) in
           let P : ℕ → Type 0 = λ j. take j answers ≡ answers in
-          let Q : List Ask → Type 0 = λ ls. answers_of k all ≡ take (length (asks_of k ls)) answers in
+          let Q : List Ask → Type 0 = λ ls. answers_by k all ≡ take (length (asks_by k ls)) answers in
           subst Q whole (m.each k d lt) ∙ subst P (sym count) every;
     }
 
@@ -132,24 +132,24 @@ goes_on lines done i next all d e b fit m lt =
     let is = spot_is lines done i next all d e b fit m lt in
     let core : a.core ≡ k = ap (λ (p : ℕ × ℕ). p.1) is in
     let own = own_lines k lines i d lt refl in
-    let count : length (asks_of k (take (i + 1) lines)) ≡ n + 1 =
-    ap length own ∙ omega (arith, length-append (asks_of k (take i lines)) (l ∷ []), m.used k inside) in
+    let count : length (asks_by k (take (i + 1) lines)) ≡ n + 1 =
+    ap length own ∙ omega (arith, length-append (asks_by k (take i lines)) (l ∷ []), m.used k inside) in
     let wide : k < length next = omega (arith, m.width, inside) in
-    let used_own : get_or (set next k (n + 1)) k 0 ≡ length (asks_of k (take (i + 1) lines)) = get_or-set_at next k k (n + 1) 0 refl wide ∙ sym count in
-    let each_own : (f : Done) → answers_of k (all ++ a ∷ []) ≡ take (length (asks_of k (take (i + 1) lines))) (get_or done k f).answers.items =
+    let used_own : get_or (set next k (n + 1)) k 0 ≡ length (asks_by k (take (i + 1) lines)) = get_or-set_at next k k (n + 1) 0 refl wide ∙ sym count in
+    let each_own : (f : Done) → answers_by k (all ++ a ∷ []) ≡ take (length (asks_by k (take (i + 1) lines))) (get_or done k f).answers.items =
     λ f.
     let ans = (get_or done k f).answers.items in
     let same : get_or done k e ≡ get_or done k f = get_or_default done k e f inside in
     let next_one : a ≡ get_or ans n b = ap (λ (x : Done). get_or x.answers.items n b) same in
     let more : take (n + 1) ans ≡ take n ans ++ get_or ans n b ∷ [] = take_more ans n b (room lines done i next all d f fit m lt) in
-    let before : answers_of k all ≡ take n ans = m.each k f inside ∙ ap (λ (j : ℕ). take j ans) (sym (m.used k inside)) in
+    let before : answers_by k all ≡ take n ans = m.each k f inside ∙ ap (λ (j : ℕ). take j ans) (sym (m.used k inside)) in
     own_answer k all a core
     ∙ (ap (λ (xs : List Answer). xs ++ a ∷ []) before
     ∙ (ap (λ (y : Answer). take n ans ++ y ∷ []) next_one ∙ (sym more ∙ ap (λ (j : ℕ). take j ans) (sym count)))) in
     record {
       width = length-set next k (n + 1) ∙ m.width;
       used = λ j small.
-          let P : ℕ → Type 0 = λ h. get_or (set next k (n + 1)) h 0 ≡ length (asks_of h (take (i + 1) lines)) in
+          let P : ℕ → Type 0 = λ h. get_or (set next k (n + 1)) h 0 ≡ length (asks_by h (take (i + 1) lines)) in
           elim (eqb_tells k j) [
             | inl s ↦ subst P s.1 used_own
             | inr s ↦
@@ -157,9 +157,9 @@ goes_on lines done i next all d e b fit m lt =
                 ∙ (m.used j small ∙ ap length (sym (other_lines j lines i d lt s.1)))
           ];
       spots = map-append spot all (a ∷ []) ∙ (ap₂ ◌++◌ m.spots (ap (λ (x : ℕ × ℕ). x ∷ []) is)
-          ∙ (sym (map-append place (take i lines) (l ∷ [])) ∙ ap (map place) (sym (take_more lines i d lt))));
+          ∙ (sym (map-append ask_spot (take i lines) (l ∷ [])) ∙ ap (map ask_spot) (sym (take_more lines i d lt))));
       each = λ j f small.
-          let P : ℕ → Type 0 = λ h. answers_of h (all ++ a ∷ []) ≡ take (length (asks_of h (take (i + 1) lines))) (get_or done h f).answers.items in
+          let P : ℕ → Type 0 = λ h. answers_by h (all ++ a ∷ []) ≡ take (length (asks_by h (take (i + 1) lines))) (get_or done h f).answers.items in
           elim (eqb_tells k j) [
             | inl s ↦ subst P s.1 (each_own f)
             | inr s ↦
@@ -170,7 +170,7 @@ goes_on lines done i next all d e b fit m lt =
 
 -- a run answers each request
 run_spots : (key : Key) (old : List LabelledBlock) (lines : List Ask) (answers : List Answer) (new : List LabelledBlock)
-    → DeskRun key old lines answers new → map spot answers ≡ map place lines
+    → DeskRun key old lines answers new → map spot answers ≡ map ask_spot lines
 unfolding DeskRun
 run_spots key old [] [] new run = refl
 run_spots key old [] (a ∷ answers) new run = absurd run
@@ -203,7 +203,7 @@ fitting al desks lines done all inside = record {
   inside = λ i d lt. omega (arith, inside i d lt, same_width al 0 desks lines done all);
   fits = λ k e lt.
       let ran = rw zero-add at (ran_at al 0 desks lines done k e.desk e all lt) in
-      run_spots (memory_of al) (list_of (get_or desks k e.desk)) (asks_of k lines) (get_or done k e).answers.items (list_of (get_or done k e).desk) ran.run;
+      run_spots (memory_of al) (list_of (get_or desks k e.desk)) (asks_by k lines) (get_or done k e).answers.items (list_of (get_or done k e).desk) ran.run;
 }
 
 -- what stands at one place of the list
@@ -241,7 +241,7 @@ round_ran al old lines done answers new all m is =
           let low : k < length done = omega (arith, width) in
           let x = at_mapped done k d low in
           let ran = rw (zero-add, x.1) at (ran_at al 0 old lines done k d x.0 all low) in
-          let own : answers_of k answers ≡ x.0.answers.items = m.each k x.0 low ∙ ap (λ (e : Done). e.answers.items) x.1 in
+          let own : answers_by k answers ≡ x.0.answers.items = m.each k x.0 low ∙ ap (λ (e : Done). e.answers.items) x.1 in
           let here : get_or new k d ≡ x.0.desk = ap (λ (ds : List Desk). get_or ds k d) is ∙ x.2 in
           rw (own, here) ran.run;
     }

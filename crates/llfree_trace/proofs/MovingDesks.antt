@@ -22,7 +22,7 @@ use Rattle.core_frames.specs.Desks.{core_of, list_of as list_in, IsDeskOf, IsLef
 use Rattle.core_frames.specs.declared.allocator.Allocator.{Allocator}
 use Rattle.core_frames.specs.declared.allocator.Core.{Core}
 use Rattle.core_frames.specs.declared.desk.Desk.{Desk}
-use Rattle.llfree_trace.specs.Outcome.{list_of, Moves}
+use Rattle.llfree_trace.specs.Outcome.{core_list, Moves}
 use Rattle.llfree_trace.specs.Rounds.{lent_by_desks, lists_at, MovesAt}
 use Rattle.llfree_trace.specs.declared.reply.Reply.TheVariants as reply
 use Rattle.llfree_trace.proofs.Interleaving.{list_there}
@@ -33,7 +33,7 @@ pub desk_there : (a : Allocator) (ds : List Desk) (k : ℕ) (d : Desk) → All (
 desk_there a ds k d all lt is = subst (IsDeskOf a) (sym is) (all k d lt)
 
 -- its list
-list_is : (ds : List Desk) (k : ℕ) (d : Desk) → k < length ds → d ≡ get_or ds k d → list_of (lists_at ds) k ≡ list_in d
+list_is : (ds : List Desk) (k : ℕ) (d : Desk) → k < length ds → d ≡ get_or ds k d → core_list (lists_at ds) k ≡ list_in d
 list_is ds k d lt is = list_there ds k d lt ∙ ap list_in (sym is)
 
 -- another desk in its place lends so many more blocks
@@ -87,8 +87,8 @@ block_moves a ds core label to d e b g h frame order lt lt-to all is stays gives
     let whole : entry ≡ record { label = label; block = block_in b } =
     ap₂ {C = LabelledBlock} (λ (l : List ℕ) (c : FrameBlock). record { label = l; block = c }) takes.holds gives.1 in
     let lists_mid : lists_at mid ≡ set (lists_at ds) core (list_in e) = map-set list_in ds core e in
-    let there : list_of (set (lists_at ds) core (list_in e)) to ≡ list_in g =
-    ap (λ (l : List (List LabelledBlock)). list_of l to) (sym lists_mid) ∙ list_is mid to g wide at-to in
+    let there : core_list (set (lists_at ds) core (list_in e)) to ≡ list_in g =
+    ap (λ (l : List (List LabelledBlock)). core_list l to) (sym lists_mid) ∙ list_is mid to g wide at-to in
     record {
       moves = record {
         entry = entry;
@@ -106,7 +106,7 @@ block_moves a ds core label to d e b g h frame order lt lt-to all is stays gives
 
 -- the blocks of each list are a holding
 pub list_lawful : (a : Allocator) (ds : List Desk) (k : ℕ) → All (IsDeskOf a) ds → k < length ds
-    → IsHolding (memory_of a) (blocks_of (list_of (lists_at ds) k))
+    → IsHolding (memory_of a) (blocks_of (core_list (lists_at ds) k))
 list_lawful a [] k all lt = absurd (omega arith)
 list_lawful a (x ∷ ds) k all lt =
     rw (list_there (x ∷ ds) k x lt) (all k x lt).apart

@@ -19,7 +19,7 @@ use Rattle.held_blocks.specs.Desk.{MayRefuse, TakesUnder, blocks_of}
 use Rattle.held_blocks.specs.LabelledBlocks.{IsUnder}
 use Rattle.held_blocks.specs.declared.labelled_block.LabelledBlock.{LabelledBlock}
 use Rattle.held_blocks.proofs.DeskLemmas.{gives_exactly_lawful, gives_lawful, takes_lawful}
-use Rattle.llfree_trace.specs.Outcome.{DeskStep, Moves, MustRefuseHere, Runs, all_blocks, list_of}
+use Rattle.llfree_trace.specs.Outcome.{DeskStep, Moves, MustRefuseHere, Runs, all_blocks, core_list}
 
 -- a step leaves a list whose blocks are disjoint
 pub step_lawful : (refuses : Key → List FrameBlock → ℕ → Fault → Type 0) (key : Key)
@@ -119,7 +119,7 @@ may_runs key number old [] [] new run = run
 may_runs key number old [] (b ∷ answers) new run = absurd run
 may_runs key number old (line.Ask m x ∷ lines) [] new run = absurd run
 may_runs key number old (line.Ask m x ∷ lines) (b ∷ answers) new run =
-    (run.0, run.1, run.2, may_step key (list_of old m) x b.reply run.2 run.3, run.4, may_runs key (number + 1) _ lines answers new run.5)
+    (run.0, run.1, run.2, may_step key (core_list old m) x b.reply run.2 run.3, run.4, may_runs key (number + 1) _ lines answers new run.5)
 may_runs key number old (line.Move m l to ∷ lines) [] new run = absurd run
 may_runs key number old (line.Move m l to ∷ lines) (b ∷ answers) new run =
     (run.0, run.1, run.2, run.3, run.4, run.5, may_runs key (number + 1) _ lines answers new run.6)

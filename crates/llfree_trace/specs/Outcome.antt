@@ -31,12 +31,12 @@ abbrev pub all_blocks : List (List LabelledBlock) → List FrameBlock
 all_blocks lists = flat_map blocks_of lists
 
 -- the list of a core
-abbrev pub list_of : List (List LabelledBlock) → ℕ → List LabelledBlock
-list_of lists core = slice_index_or lists core []
+abbrev pub core_list : List (List LabelledBlock) → ℕ → List LabelledBlock
+core_list lists core = slice_index_or lists core []
 
 -- the lists with one more entry at the end of a core's list
 abbrev pub put_last : List (List LabelledBlock) → ℕ → LabelledBlock → List (List LabelledBlock)
-put_last lists core entry = slice_set lists core (list_of lists core ++ entry ∷ [])
+put_last lists core entry = slice_set lists core (core_list lists core ++ entry ∷ [])
 
 -- Steps of one core's list.
 
@@ -80,7 +80,7 @@ pub record MovesOldest (old : List (List LabelledBlock)) (core : ℕ) (label : L
   pub entry : LabelledBlock
   pub left : List LabelledBlock
   pub is_block : entry.block ≡ b
-  pub leaves : TakesFirst (IsUnder label) (list_of old core) entry left
+  pub leaves : TakesFirst (IsUnder label) (core_list old core) entry left
   pub goes_last : new ≡ put_last (slice_set old core left) to entry
 
 -- what a move of the oldest block under a label answers, and the lists afterwards; where there is
@@ -90,7 +90,7 @@ unfoldable pub Moves :
 Moves old core label to (reply.Moved frame order) new =
     MovesOldest old core label to (block frame order) new
 Moves old core label to (reply.Refused fault.NotHeld) new =
-    HasNone (IsUnder label) (list_of old core) × (new ≡ old)
+    HasNone (IsUnder label) (core_list old core) × (new ≡ old)
 Moves old core label to _ new = ⊥
 
 -- Runs.
@@ -104,13 +104,13 @@ unfoldable pub Runs : (Key → List FrameBlock → ℕ → Fault → Type 0) →
 Runs refuses key number old [] [] new = old ≡ new
 Runs refuses key number old (line.Ask core request ∷ lines) (a ∷ answers) new =
     (a.line ≡ number) × (a.core ≡ core)
-    × (list : List LabelledBlock) × DeskStep refuses key (list_of old core) request a.reply list
+    × (list : List LabelledBlock) × DeskStep refuses key (core_list old core) request a.reply list
     × IsHolding key (blocks_of list)
     × Runs refuses key (number + 1) (slice_set old core list) lines answers new
 Runs refuses key number old (line.Move core label to ∷ lines) (a ∷ answers) new =
     (a.line ≡ number) × (a.core ≡ core)
     × (lists : List (List LabelledBlock)) × Moves old core label to a.reply lists
-    × IsHolding key (blocks_of (list_of lists core)) × IsHolding key (blocks_of (list_of lists to))
+    × IsHolding key (blocks_of (core_list lists core)) × IsHolding key (blocks_of (core_list lists to))
     × Runs refuses key (number + 1) lists lines answers new
 Runs refuses key number old (line.Round ∷ lines) answers new =
     Runs refuses key (number + 1) old lines answers new

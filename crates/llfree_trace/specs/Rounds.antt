@@ -69,16 +69,16 @@ asks_from number (line.Ask core request ∷ lines) =
 asks_from number (_ ∷ lines) = asks_from (number + 1) lines
 
 -- the requests of one core
-abbrev pub asks_of : ℕ → List Ask → List Ask
-asks_of core asks = filter (λ (k : Ask). k.core == core) asks
+abbrev pub asks_by : ℕ → List Ask → List Ask
+asks_by core asks = filter (λ (k : Ask). k.core == core) asks
 
 -- the answers of one core
-abbrev pub answers_of : ℕ → List Answer → List Answer
-answers_of core answers = filter (λ (a : Answer). a.core == core) answers
+abbrev pub answers_by : ℕ → List Answer → List Answer
+answers_by core answers = filter (λ (a : Answer). a.core == core) answers
 
 -- the number and the core of a request
-abbrev pub place : Ask → ℕ × ℕ
-place k = (k.number, k.core)
+abbrev pub ask_spot : Ask → ℕ × ℕ
+ask_spot k = (k.number, k.core)
 
 -- the number and the core that an answer names
 abbrev pub spot : Answer → ℕ × ℕ
@@ -100,7 +100,7 @@ DeskRun key old _ _ new = ⊥
 pub record Ran (a : Allocator) (core : ℕ) (old : Desk) (asks : List Ask) (done : Done) : Type 0 where
   pub desk : IsDeskOf a done.desk
   pub lent : lent_by (core_of done.desk) ≡ lent_by (core_of old)
-  pub run : DeskRun (memory_of a) (list_of old) (asks_of core asks) done.answers.items
+  pub run : DeskRun (memory_of a) (list_of old) (asks_by core asks) done.answers.items
       (list_of done.desk)
 
 -- each desk of the list, from a core on, ran the requests of its core
@@ -114,13 +114,13 @@ RanAll a core _ asks _ = ⊥
 pub record Fitting (asks : List Ask) (done : List Done) : Type 0 where
   pub inside : (i : ℕ) (d : Ask) → i < length asks → (slice_index_or asks i d).core < length done
   pub fits : (k : ℕ) (d : Done) → k < length done
-      → map spot (slice_index_or done k d).answers.items ≡ map place (asks_of k asks)
+      → map spot (slice_index_or done k d).answers.items ≡ map ask_spot (asks_by k asks)
 
 -- an answer to each request, in their order, and each core's are those that it gave
 pub record Merged (asks : List Ask) (done : List Done) (answers : List Answer) : Type 0 where
-  pub spots : map spot answers ≡ map place asks
+  pub spots : map spot answers ≡ map ask_spot asks
   pub each : (k : ℕ) (d : Done) → k < length done
-      → answers_of k answers ≡ (slice_index_or done k d).answers.items
+      → answers_by k answers ≡ (slice_index_or done k d).answers.items
 
 -- how many blocks more were handed out by the cores of these desks than they took in
 abbrev pub lent_by_desks : List Desk → ℤ
@@ -130,13 +130,13 @@ lent_by_desks desks = lent_through (map (λ d. seat_of (core_of d)) desks)
 -- of its desk, and the desks lend together as many blocks as before
 pub record RoundRan (a : Allocator) (old : List Desk) (asks : List Ask) (answers : List Answer)
     (new : List Desk) : Type 0 where
-  pub spots : map spot answers ≡ map place asks
+  pub spots : map spot answers ≡ map ask_spot asks
   pub width : length new ≡ length old
   pub desks : All (IsDeskOf a) new
   pub lent : lent_by_desks new ≡ lent_by_desks old
   pub runs : (k : ℕ) (d : Desk) → k < length old
-      → DeskRun (memory_of a) (list_of (slice_index_or old k d)) (asks_of k asks)
-      (answers_of k answers) (list_of (slice_index_or new k d))
+      → DeskRun (memory_of a) (list_of (slice_index_or old k d)) (asks_by k asks)
+      (answers_by k answers) (list_of (slice_index_or new k d))
 
 -- Runs of all cores.
 
