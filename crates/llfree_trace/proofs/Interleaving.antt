@@ -7,7 +7,7 @@ use Rattle.std.proofs.lemmas.Grind.{get_or-set_at}
 use Rattle.std.proofs.lemmas.List.{get_or-set_other, length-map}
 use Rattle.std.proofs.lemmas.List.Elements.{All-head, All-tail}
 use Rattle.core_frames.specs.Cores.{memory_of}
-use Rattle.core_frames.specs.Desks.{IsDeskOf, list_of}
+use Rattle.core_frames.specs.Desks.{IsDeskOf, list_of as list_in}
 use Rattle.core_frames.specs.declared.allocator.Allocator.{Allocator}
 use Rattle.core_frames.specs.declared.desk.Desk.{Desk}
 use Rattle.held_blocks.specs.declared.labelled_block.LabelledBlock.{LabelledBlock}
@@ -16,7 +16,7 @@ use Rattle.frame_core.specs.Holding.{IsHolding}
 use Rattle.frame_model.specs.declared.key.Key.{Key}
 use Rattle.llfree_trace.proofs.Running.{step_lawful}
 use Rattle.llfree_trace.specs.Outcome.{Runs, core_list}
-use Rattle.llfree_trace.specs.Rounds.{Ask, DeskRun, IsAsk, answers_by, asks_from, asks_of, ask_spot, spot, RoundRan}
+use Rattle.llfree_trace.specs.Rounds.{Ask, DeskRun, IsAsk, answers_by, asks_from, asks_by, ask_spot, spot, RoundRan}
 use Rattle.llfree_trace.specs.Trace.{cores_in}
 use Rattle.llfree_trace.specs.declared.line.Line.{Line}
 use Rattle.llfree_trace.specs.declared.line.Line.TheVariants as line
@@ -30,7 +30,7 @@ pub record Apart (key : Key) (old : List (List LabelledBlock)) (asks : List Ask)
   pub width : length new ≡ length old
   pub lawful : (k : ℕ) → k < length old → IsHolding key (blocks_of (core_list old k))
   pub runs : (k : ℕ) → k < length old
-      → DeskRun key (core_list old k) (asks_of k asks) (answers_by k answers) (core_list new k)
+      → DeskRun key (core_list old k) (asks_by k asks) (answers_by k answers) (core_list new k)
 
 -- lists with the same elements are one
 same_lists : (xs ys : List (List LabelledBlock)) → length ys ≡ length xs
@@ -65,7 +65,7 @@ head_line a b c rest cs e =
 rest_apart : (key : Key) (old : List (List LabelledBlock)) (ask : Ask) (asks : List Ask) (a : Answer) (answers : List Answer)
     (new : List (List LabelledBlock)) (mid : List LabelledBlock) → Apart key old (ask ∷ asks) (a ∷ answers) new
     → ask.core < length old → IsHolding key (blocks_of mid)
-    → DeskRun key mid (asks_of ask.core asks) (answers_by ask.core answers) (core_list new ask.core)
+    → DeskRun key mid (asks_by ask.core asks) (answers_by ask.core answers) (core_list new ask.core)
     → Apart key (set old ask.core mid) asks answers new
 rest_apart key old ask asks a answers new mid apart inside holds run =
     let core : ℕ = ask.core in
@@ -82,7 +82,7 @@ rest_apart key old ask asks a answers new mid apart inside holds run =
             | inr s ↦ rw (get_or-set_other old core k mid [] (λ q. s.1 (sym q))) (apart.lawful k (omega (arith, lt, width)))
           ];
       runs = λ k lt.
-          let P : ℕ → Type 0 = λ h. DeskRun key (core_list (set old core mid) h) (asks_of h asks) (answers_by h answers) (core_list new h) in
+          let P : ℕ → Type 0 = λ h. DeskRun key (core_list (set old core mid) h) (asks_by h asks) (answers_by h answers) (core_list new h) in
           elim (eqb_tells core k) [
             | inl s ↦ subst P s.1 (rw own run)
             | inr s ↦
@@ -118,7 +118,7 @@ interleaved key number old (line.Ask core request ∷ lines) (a ∷ answers) new
     let heads = head_line a a ask answers asks apart.spots in
     let keep_ask : (core == core) ≡ true = test_same core core refl in
     let keep_answer : (a.core == core) ≡ true = test_same a.core core heads.1 in
-    let run : DeskRun key (core_list old core) (ask ∷ asks_of core asks) (a ∷ answers_by core answers) (core_list new core) =
+    let run : DeskRun key (core_list old core) (ask ∷ asks_by core asks) (a ∷ answers_by core answers) (core_list new core) =
     rw (keep_ask, keep_answer) at (apart.runs core low) in
     let mid : List LabelledBlock = run.2 in
     let holds = step_lawful MayRefuse key (core_list old core) request a.reply mid (apart.lawful core low) run.3 in
@@ -136,7 +136,7 @@ interleaved key number old (line.Ask core request ∷ lines) (a ∷ answers) new
 interleaved key number old (l ∷ lines) answers new all inside apart = absurd (All-head IsAsk l lines all)
 
 -- the list at a place is that of the desk there
-pub list_there : (ds : List Desk) (k : ℕ) (d : Desk) → k < length ds → get_or (map list_of ds) k [] ≡ list_of (get_or ds k d)
+pub list_there : (ds : List Desk) (k : ℕ) (d : Desk) → k < length ds → get_or (map list_in ds) k [] ≡ list_in (get_or ds k d)
 list_there [] k d lt = absurd (omega arith)
 list_there (x ∷ ds) zero d lt = refl
 list_there (x ∷ ds) (suc k) d lt = list_there ds k d (omega arith)
@@ -149,13 +149,13 @@ some_desk (x ∷ ds) k lt = x
 pub round_runs : (al : Allocator) (old : List Desk) (number : ℕ) (lines : List Line) (answers : List Answer) (new : List Desk)
     → All (IsDeskOf al) old → All IsAsk lines → All (λ l. cores_in l ≤ length old) lines
     → RoundRan al old (asks_from number lines) answers new
-    → Runs MayRefuse (memory_of al) number (map list_of old) lines answers (map list_of new)
+    → Runs MayRefuse (memory_of al) number (map list_in old) lines answers (map list_in new)
 round_runs al old number lines answers new desks all inside ran =
-    let size : length (map list_of old) ≡ length old = length-map old list_of in
-    interleaved (memory_of al) number (map list_of old) lines answers (map list_of new) all (rw size inside)
+    let size : length (map list_in old) ≡ length old = length-map old list_in in
+    interleaved (memory_of al) number (map list_in old) lines answers (map list_in new) all (rw size inside)
     (record {
       spots = ran.spots;
-      width = length-map new list_of ∙ (ran.width ∙ sym size);
+      width = length-map new list_in ∙ (ran.width ∙ sym size);
       lawful = λ k lt.
           let low : k < length old = omega (arith, lt, size) in
           let d = some_desk old k low in

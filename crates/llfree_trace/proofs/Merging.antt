@@ -19,27 +19,27 @@ use Rattle.llfree_trace.specs.declared.lines.Done.{Done}
 use Rattle.llfree_trace.proofs.Workers.{ask_core_is, ask_count}
 use Rattle.llfree_trace.specs.declared.line.Line.{Line}
 use Rattle.llfree_trace.specs.declared.line.Request.TheVariants as request
-use Rattle.llfree_trace.specs.Rounds.{IsAsk, ask_core, asks_from, Ask, DeskRun, Fitting, Merged, Ran, RanAll, RoundRan, answers_by, asks_of, lent_by_desks, ask_spot, spot}
+use Rattle.llfree_trace.specs.Rounds.{IsAsk, ask_core, asks_from, Ask, DeskRun, Fitting, Merged, Ran, RanAll, RoundRan, answers_by, asks_by, lent_by_desks, ask_spot, spot}
 
 -- the answers to the first i lines stand in order, and of each core as many are used as it has lines among them
 pub record Merging (lines : List Ask) (done : List Done) (i : ℕ) (next : List ℕ) (all : List Answer) : Type 0 where
   pub width : length next ≡ length done
-  pub used : (k : ℕ) → k < length done → get_or next k 0 ≡ length (asks_of k (take i lines))
+  pub used : (k : ℕ) → k < length done → get_or next k 0 ≡ length (asks_by k (take i lines))
   pub spots : map spot all ≡ map ask_spot (take i lines)
-  pub each : (k : ℕ) (d : Done) → k < length done → answers_by k all ≡ take (length (asks_of k (take i lines))) (get_or done k d).answers.items
+  pub each : (k : ℕ) (d : Done) → k < length done → answers_by k all ≡ take (length (asks_by k (take i lines))) (get_or done k d).answers.items
 
 -- the lines of a core among the first i + 1, and its answers among those with one more
 own_lines : (k : ℕ) (lines : List Ask) (i : ℕ) (d : Ask) → i < length lines → (get_or lines i d).core ≡ k
-    → asks_of k (take (i + 1) lines) ≡ asks_of k (take i lines) ++ get_or lines i d ∷ []
+    → asks_by k (take (i + 1) lines) ≡ asks_by k (take i lines) ++ get_or lines i d ∷ []
 own_lines k lines i d lt own =
     let test : ((get_or lines i d).core == k) ≡ true = grind (arith, nat_tests) in
     rw (filter_more (λ (l : Ask). l.core == k) lines i d lt, test) refl
 
 other_lines : (k : ℕ) (lines : List Ask) (i : ℕ) (d : Ask) → i < length lines → (get_or lines i d).core ≢ k
-    → asks_of k (take (i + 1) lines) ≡ asks_of k (take i lines)
+    → asks_by k (take (i + 1) lines) ≡ asks_by k (take i lines)
 other_lines k lines i d lt other =
     let test : ((get_or lines i d).core == k) ≡ false = grind (arith, nat_tests) in
-    rw (filter_more (λ (l : Ask). l.core == k) lines i d lt, test) (append-nil (asks_of k (take i lines)))
+    rw (filter_more (λ (l : Ask). l.core == k) lines i d lt, test) (append-nil (asks_by k (take i lines)))
 
 own_answer : (k : ℕ) (all : List Answer) (a : Answer) → a.core ≡ k → answers_by k (all ++ a ∷ []) ≡ answers_by k all ++ a ∷ []
 own_answer k all a own =
@@ -53,18 +53,18 @@ other_answer k all a other =
 
 -- a core's lines, where line i is one of them
 own_split : (k : ℕ) (lines : List Ask) (i : ℕ) (d : Ask) → i < length lines → (get_or lines i d).core ≡ k
-    → asks_of k lines ≡ asks_of k (take i lines) ++ get_or lines i d ∷ asks_of k (drop (i + 1) lines)
+    → asks_by k lines ≡ asks_by k (take i lines) ++ get_or lines i d ∷ asks_by k (drop (i + 1) lines)
 own_split k lines i d lt own =
-    let rest = asks_of k (drop (i + 1) lines) in
-    ap (asks_of k) (sym (take-append-drop (i + 1) lines))
+    let rest = asks_by k (drop (i + 1) lines) in
+    ap (asks_by k) (sym (take-append-drop (i + 1) lines))
     ∙ (filter-append (λ (l : Ask). l.core == k) (take (i + 1) lines) (drop (i + 1) lines)
-    ∙ (ap (λ (xs : List Ask). xs ++ rest) (own_lines k lines i d lt own) ∙ append_assoc (asks_of k (take i lines)) (get_or lines i d ∷ []) rest))
+    ∙ (ap (λ (xs : List Ask). xs ++ rest) (own_lines k lines i d lt own) ∙ append_assoc (asks_by k (take i lines)) (get_or lines i d ∷ []) rest))
 
 -- a core has as many answers as lines
 same_count : (lines : List Ask) (done : List Done) (k : ℕ) (e : Done) → Fitting lines done → k < length done
-    → length (get_or done k e).answers.items ≡ length (asks_of k lines)
+    → length (get_or done k e).answers.items ≡ length (asks_by k lines)
 same_count lines done k e fit lt =
-    sym (length-map (get_or done k e).answers.items spot) ∙ (ap length (fit.fits k e lt) ∙ length-map (asks_of k lines) ask_spot)
+    sym (length-map (get_or done k e).answers.items spot) ∙ (ap length (fit.fits k e lt) ∙ length-map (asks_by k lines) ask_spot)
 
 -- the next answer of the core of line i
 pub room : (lines : List Ask) (done : List Done) (i : ℕ) (next : List ℕ) (all : List Answer) (d : Ask) (e : Done)
@@ -73,8 +73,8 @@ pub room : (lines : List Ask) (done : List Done) (i : ℕ) (next : List ℕ) (al
 room lines done i next all d e fit m lt =
     let k = (get_or lines i d).core in
     let inside = fit.inside i d lt in
-    let rest = asks_of k (drop (i + 1) lines) in
-    omega (arith, m.used k inside, same_count lines done k e fit inside, ap length (own_split k lines i d lt refl), length-append (asks_of k (take i lines)) (get_or lines i d ∷ rest))
+    let rest = asks_by k (drop (i + 1) lines) in
+    omega (arith, m.used k inside, same_count lines done k e fit inside, ap length (own_split k lines i d lt refl), length-append (asks_by k (take i lines)) (get_or lines i d ∷ rest))
 
 pub spot_is : (lines : List Ask) (done : List Done) (i : ℕ) (next : List ℕ) (all : List Answer) (d : Ask) (e : Done) (b : Answer)
     → Fitting lines done → Merging lines done i next all → i < length lines
@@ -85,11 +85,11 @@ spot_is lines done i next all d e b fit m lt =
     let inside = fit.inside i d lt in
     let answers = (get_or done k e).answers.items in
     let n = get_or next k 0 in
-    let front = map ask_spot (asks_of k (take i lines)) in
-    let back = map ask_spot (asks_of k (drop (i + 1) lines)) in
+    let front = map ask_spot (asks_by k (take i lines)) in
+    let back = map ask_spot (asks_by k (drop (i + 1) lines)) in
     let all_spots : map spot answers ≡ front ++ ask_spot l ∷ back =
-    fit.fits k e inside ∙ (ap (map ask_spot) (own_split k lines i d lt refl) ∙ map-append ask_spot (asks_of k (take i lines)) (l ∷ asks_of k (drop (i + 1) lines))) in
-    let at : length front ≡ n = length-map (asks_of k (take i lines)) ask_spot ∙ sym (m.used k inside) in
+    fit.fits k e inside ∙ (ap (map ask_spot) (own_split k lines i d lt refl) ∙ map-append ask_spot (asks_by k (take i lines)) (l ∷ asks_by k (drop (i + 1) lines))) in
+    let at : length front ≡ n = length-map (asks_by k (take i lines)) ask_spot ∙ sym (m.used k inside) in
     let P : ℕ → Type 0 = λ j. get_or (front ++ ask_spot l ∷ back) j (spot b) ≡ ask_spot l in
     sym (get_or-map spot answers n b) ∙ (ap (λ (xs : List (ℕ × ℕ)). get_or xs n (spot b)) all_spots ∙ subst P at (get_or-append_seam front (ask_spot l) back (spot b)))
 
@@ -112,10 +112,10 @@ ends lines done next all fit m =
       spots = rw whole at m.spots;
       each = λ k d lt.
           let answers = (get_or done k d).answers.items in
-          let count : length (asks_of k lines) ≡ length answers = sym (same_count lines done k d fit lt) in
+          let count : length (asks_by k lines) ≡ length answers = sym (same_count lines done k d fit lt) in
           let every : take (length answers) answers ≡ answers = grind (arith, common_steps) in
           let P : ℕ → Type 0 = λ j. take j answers ≡ answers in
-          let Q : List Ask → Type 0 = λ ls. answers_by k all ≡ take (length (asks_of k ls)) answers in
+          let Q : List Ask → Type 0 = λ ls. answers_by k all ≡ take (length (asks_by k ls)) answers in
           subst Q whole (m.each k d lt) ∙ subst P (sym count) every;
     }
 
@@ -132,11 +132,11 @@ goes_on lines done i next all d e b fit m lt =
     let is = spot_is lines done i next all d e b fit m lt in
     let core : a.core ≡ k = ap (λ (p : ℕ × ℕ). p.1) is in
     let own = own_lines k lines i d lt refl in
-    let count : length (asks_of k (take (i + 1) lines)) ≡ n + 1 =
-    ap length own ∙ omega (arith, length-append (asks_of k (take i lines)) (l ∷ []), m.used k inside) in
+    let count : length (asks_by k (take (i + 1) lines)) ≡ n + 1 =
+    ap length own ∙ omega (arith, length-append (asks_by k (take i lines)) (l ∷ []), m.used k inside) in
     let wide : k < length next = omega (arith, m.width, inside) in
-    let used_own : get_or (set next k (n + 1)) k 0 ≡ length (asks_of k (take (i + 1) lines)) = get_or-set_at next k k (n + 1) 0 refl wide ∙ sym count in
-    let each_own : (f : Done) → answers_by k (all ++ a ∷ []) ≡ take (length (asks_of k (take (i + 1) lines))) (get_or done k f).answers.items =
+    let used_own : get_or (set next k (n + 1)) k 0 ≡ length (asks_by k (take (i + 1) lines)) = get_or-set_at next k k (n + 1) 0 refl wide ∙ sym count in
+    let each_own : (f : Done) → answers_by k (all ++ a ∷ []) ≡ take (length (asks_by k (take (i + 1) lines))) (get_or done k f).answers.items =
     λ f.
     let ans = (get_or done k f).answers.items in
     let same : get_or done k e ≡ get_or done k f = get_or_default done k e f inside in
@@ -149,7 +149,7 @@ goes_on lines done i next all d e b fit m lt =
     record {
       width = length-set next k (n + 1) ∙ m.width;
       used = λ j small.
-          let P : ℕ → Type 0 = λ h. get_or (set next k (n + 1)) h 0 ≡ length (asks_of h (take (i + 1) lines)) in
+          let P : ℕ → Type 0 = λ h. get_or (set next k (n + 1)) h 0 ≡ length (asks_by h (take (i + 1) lines)) in
           elim (eqb_tells k j) [
             | inl s ↦ subst P s.1 used_own
             | inr s ↦
@@ -159,7 +159,7 @@ goes_on lines done i next all d e b fit m lt =
       spots = map-append spot all (a ∷ []) ∙ (ap₂ ◌++◌ m.spots (ap (λ (x : ℕ × ℕ). x ∷ []) is)
           ∙ (sym (map-append ask_spot (take i lines) (l ∷ [])) ∙ ap (map ask_spot) (sym (take_more lines i d lt))));
       each = λ j f small.
-          let P : ℕ → Type 0 = λ h. answers_by h (all ++ a ∷ []) ≡ take (length (asks_of h (take (i + 1) lines))) (get_or done h f).answers.items in
+          let P : ℕ → Type 0 = λ h. answers_by h (all ++ a ∷ []) ≡ take (length (asks_by h (take (i + 1) lines))) (get_or done h f).answers.items in
           elim (eqb_tells k j) [
             | inl s ↦ subst P s.1 (each_own f)
             | inr s ↦
@@ -203,10 +203,10 @@ fitting al desks lines done all inside = record {
   inside = λ i d lt. omega (arith, inside i d lt, same_width al 0 desks lines done all);
   fits = λ k e lt.
       let ran = rw zero-add at (ran_at al 0 desks lines done k e.desk e all lt) in
-      run_spots (memory_of al) (list_of (get_or desks k e.desk)) (asks_of k lines) (get_or done k e).answers.items (list_of (get_or done k e).desk) ran.run;
+      run_spots (memory_of al) (list_of (get_or desks k e.desk)) (asks_by k lines) (get_or done k e).answers.items (list_of (get_or done k e).desk) ran.run;
 }
 
--- what stands at one ask_spot of the list
+-- what stands at one place of the list
 at_mapped : (done : List Done) (k : ℕ) (d : Desk) → k < length done
     → (e : Done) × (get_or done k e ≡ e) × (get_or (map (λ (x : Done). x.desk) done) k d ≡ e.desk)
 at_mapped [] k d lt = absurd (omega arith)
@@ -273,7 +273,7 @@ room_at lines done i next all d e k fit m lt is =
 pub blank : Ask
 blank = record { number = 0; core = 0; request = request.GiveAt 0 0 }
 
--- the core of a line is that of its request, and has a ask_spot
+-- the core of a line is that of its request, and has a place
 pub core_is : (first : ℕ) (lines : List Line) (i : ℕ) (item : Line) (core : ℕ) → All IsAsk lines → i < length lines
     → item ≡ get_or lines i item → core ≡ ask_core item → core ≡ (get_or (asks_from first lines) i blank).core
 core_is first lines i item core all lt is named =

@@ -18,7 +18,7 @@ use Rattle.held_blocks.specs.Desk.{blocks_of, GivesFirst, Lays}
 use Rattle.held_blocks.specs.LabelledBlocks.{IsUnder}
 use Rattle.held_blocks.specs.declared.labelled_block.LabelledBlock.{LabelledBlock}
 use Rattle.core_frames.specs.Cores.{memory_of, lent_by}
-use Rattle.core_frames.specs.Desks.{core_of, list_of, IsDeskOf, IsLeftAlone}
+use Rattle.core_frames.specs.Desks.{core_of, list_of as list_in, IsDeskOf, IsLeftAlone}
 use Rattle.core_frames.specs.declared.allocator.Allocator.{Allocator}
 use Rattle.core_frames.specs.declared.allocator.Core.{Core}
 use Rattle.core_frames.specs.declared.desk.Desk.{Desk}
@@ -33,8 +33,8 @@ pub desk_there : (a : Allocator) (ds : List Desk) (k : ℕ) (d : Desk) → All (
 desk_there a ds k d all lt is = subst (IsDeskOf a) (sym is) (all k d lt)
 
 -- its list
-list_is : (ds : List Desk) (k : ℕ) (d : Desk) → k < length ds → d ≡ get_or ds k d → core_list (lists_at ds) k ≡ list_of d
-list_is ds k d lt is = list_there ds k d lt ∙ ap list_of (sym is)
+list_is : (ds : List Desk) (k : ℕ) (d : Desk) → k < length ds → d ≡ get_or ds k d → core_list (lists_at ds) k ≡ list_in d
+list_is ds k d lt is = list_there ds k d lt ∙ ap list_in (sym is)
 
 -- another desk in its place lends so many more blocks
 lent_set : (ds : List Desk) (k : ℕ) (d e : Desk) → k < length ds → d ≡ get_or ds k d
@@ -49,7 +49,7 @@ lent_set (x ∷ ds) (suc k) d e lt is = omega (arith, ints, lent_set ds k d e (o
 -- a move that finds nothing
 pub refused_move : (a : Allocator) (ds : List Desk) (core : ℕ) (label : List ℕ) (to : ℕ) (d e : Desk) (f : Fault)
     → core < length ds → All (IsDeskOf a) ds → d ≡ get_or ds core d → IsDeskOf a e
-    → GivesFirst block_in (IsUnder label) (list_of d) (Err f) (list_of e) → IsLeftAlone d e
+    → GivesFirst block_in (IsUnder label) (list_in d) (Err f) (list_in e) → IsLeftAlone d e
     → MovesAt a core label to (reply.Refused f) ds (set ds core e)
 unfolding Moves GivesFirst
 refused_move a ds core label to d e f lt all is stays gives alone = record {
@@ -61,11 +61,11 @@ refused_move a ds core label to d e f lt all is stays gives alone = record {
       omega (arith, ints, lent_set ds core d e lt is, same);
 }
   where
-    by : (f : Fault) → GivesFirst block_in (IsUnder label) (list_of d) (Err f) (list_of e)
+    by : (f : Fault) → GivesFirst block_in (IsUnder label) (list_in d) (Err f) (list_in e)
         → Moves (lists_at ds) core label to (reply.Refused f) (lists_at (set ds core e))
     by fault.NotHeld step = (
       rw (list_is ds core d lt is) step.0,
-      map-set_same list_of ds core e d (alone.same_list ∙ ap list_of is),
+      map-set_same list_in ds core e d (alone.same_list ∙ ap list_in is),
     )
     by g step = absurd step
 
@@ -73,9 +73,9 @@ refused_move a ds core label to d e f lt all is stays gives alone = record {
 pub block_moves : (a : Allocator) (ds : List Desk) (core : ℕ) (label : List ℕ) (to : ℕ) (d e : Desk) (b : Block)
     (g h : Desk) (frame order : ℕ) → core < length ds → to < length ds → All (IsDeskOf a) ds
     → d ≡ get_or ds core d → IsDeskOf a e
-    → GivesFirst block_in (IsUnder label) (list_of d) (Ok b) (list_of e)
+    → GivesFirst block_in (IsUnder label) (list_in d) (Ok b) (list_in e)
     → lent_by (core_of e) ≡ lent_by (core_of d) +ℤ pos 1
-    → g ≡ get_or (set ds core e) to g → IsDeskOf a h → Lays (list_of g) label (block_in b) (list_of h)
+    → g ≡ get_or (set ds core e) to g → IsDeskOf a h → Lays (list_in g) label (block_in b) (list_in h)
     → lent_by (core_of h) ≡ lent_by (core_of g) -ℤ pos 1 → block frame order ≡ block_in b
     → MovesAt a core label to (reply.Moved frame order) ds (set (set ds core e) to h)
 unfolding Moves GivesFirst
@@ -86,16 +86,16 @@ block_moves a ds core label to d e b g h frame order lt lt-to all is stays gives
     let takes = gives.2 in
     let whole : entry ≡ record { label = label; block = block_in b } =
     ap₂ {C = LabelledBlock} (λ (l : List ℕ) (c : FrameBlock). record { label = l; block = c }) takes.holds gives.1 in
-    let lists_mid : lists_at mid ≡ set (lists_at ds) core (list_of e) = map-set list_of ds core e in
-    let there : core_list (set (lists_at ds) core (list_of e)) to ≡ list_of g =
+    let lists_mid : lists_at mid ≡ set (lists_at ds) core (list_in e) = map-set list_in ds core e in
+    let there : core_list (set (lists_at ds) core (list_in e)) to ≡ list_in g =
     ap (λ (l : List (List LabelledBlock)). core_list l to) (sym lists_mid) ∙ list_is mid to g wide at-to in
     record {
       moves = record {
         entry = entry;
-        left = list_of e;
+        left = list_in e;
         is_block = gives.1 ∙ sym same;
         leaves = rw (list_is ds core d lt is) takes;
-        goes_last = map-set list_of mid to h
+        goes_last = map-set list_in mid to h
             ∙ ap₂ (λ (l : List (List LabelledBlock)) (x : List LabelledBlock). set l to x) lists_mid
             (lays ∙ ap₂ (λ (x : List LabelledBlock) (y : LabelledBlock). x ++ y ∷ []) (sym there) (sym whole));
       };

@@ -19,7 +19,7 @@ use Rattle.llfree_trace.specs.declared.line.Line.TheVariants as line
 use Rattle.llfree_trace.specs.declared.line.Request.{Request}
 use Rattle.llfree_trace.specs.declared.lines.Done.{Done}
 use Rattle.llfree_trace.specs.Trace.{cores_in}
-use Rattle.llfree_trace.specs.Rounds.{Ask, DeskRun, IsAsk, IsNoAskOf, Ran, RanAll, ask_core, asks_from, asks_of}
+use Rattle.llfree_trace.specs.Rounds.{Ask, DeskRun, IsAsk, IsNoAskOf, Ran, RanAll, ask_core, asks_from, asks_by}
 
 -- one more line with its answer
 pub run_more : (key : Key) (old : List LabelledBlock) (lines : List Ask) (answers : List Answer) (mid new : List LabelledBlock) (line : Ask) (a : Answer)
@@ -34,19 +34,19 @@ run_more key old (l ∷ lines) (b ∷ answers) mid new line a run n k step =
 
 -- the next line is the core's own
 pub line_ran : (core : ℕ) (lines : List Ask) (i : ℕ) (d : Ask) (key : Key) (old : List LabelledBlock) (answers : List Answer) (mid new : List LabelledBlock) (a : Answer)
-    → DeskRun key old (asks_of core (take i lines)) answers mid → i < length lines → (get_or lines i d).core ≡ core
+    → DeskRun key old (asks_by core (take i lines)) answers mid → i < length lines → (get_or lines i d).core ≡ core
     → a.line ≡ (get_or lines i d).number → a.core ≡ core → DeskStep MayRefuse key mid (get_or lines i d).request a.reply new
-    → DeskRun key old (asks_of core (take (i + 1) lines)) (answers ++ a ∷ []) new
+    → DeskRun key old (asks_by core (take (i + 1) lines)) (answers ++ a ∷ []) new
 line_ran core lines i d key old answers mid new a run lt own n k step =
     let line = get_or lines i d in
     let test : (line.core == core) ≡ true = grind (arith, nat_tests) in
     let more = filter_more (λ (l : Ask). l.core == core) lines i d lt in
-    rw (more, test) (run_more key old (asks_of core (take i lines)) answers mid new line a run n (k ∙ sym own) step)
+    rw (more, test) (run_more key old (asks_by core (take i lines)) answers mid new line a run n (k ∙ sym own) step)
 
 -- the next line is another core's
 pub line_skipped : (core : ℕ) (lines : List Ask) (i : ℕ) (d : Ask) (key : Key) (old : List LabelledBlock) (answers : List Answer) (mid : List LabelledBlock)
-    → DeskRun key old (asks_of core (take i lines)) answers mid → i < length lines → (get_or lines i d).core ≢ core
-    → DeskRun key old (asks_of core (take (i + 1) lines)) answers mid
+    → DeskRun key old (asks_by core (take i lines)) answers mid → i < length lines → (get_or lines i d).core ≢ core
+    → DeskRun key old (asks_by core (take (i + 1) lines)) answers mid
 line_skipped core lines i d key old answers mid run lt other =
     let line = get_or lines i d in
     let test : (line.core == core) ≡ false = grind (arith, nat_tests) in
@@ -164,7 +164,7 @@ none_more core lines i item lt is none before =
     (All-append (IsNoAskOf core) (take i lines) (item ∷ []) before (All-cons (IsNoAskOf core) item [] none (All-nil (IsNoAskOf core))))
 
 -- a core that no record asks for has no requests
-pub none_asked : (core first : ℕ) (lines : List Line) → All (IsNoAskOf core) lines → asks_of core (asks_from first lines) ≡ []
+pub none_asked : (core first : ℕ) (lines : List Line) → All (IsNoAskOf core) lines → asks_by core (asks_from first lines) ≡ []
 unfolding asks_from
 none_asked core first [] none = refl
 none_asked core first (line.Ask own r ∷ lines) none =

@@ -69,8 +69,8 @@ asks_from number (line.Ask core request ∷ lines) =
 asks_from number (_ ∷ lines) = asks_from (number + 1) lines
 
 -- the requests of one core
-abbrev pub asks_of : ℕ → List Ask → List Ask
-asks_of core asks = filter (λ (k : Ask). k.core == core) asks
+abbrev pub asks_by : ℕ → List Ask → List Ask
+asks_by core asks = filter (λ (k : Ask). k.core == core) asks
 
 -- the answers of one core
 abbrev pub answers_by : ℕ → List Answer → List Answer
@@ -100,7 +100,7 @@ DeskRun key old _ _ new = ⊥
 pub record Ran (a : Allocator) (core : ℕ) (old : Desk) (asks : List Ask) (done : Done) : Type 0 where
   pub desk : IsDeskOf a done.desk
   pub lent : lent_by (core_of done.desk) ≡ lent_by (core_of old)
-  pub run : DeskRun (memory_of a) (list_of old) (asks_of core asks) done.answers.items
+  pub run : DeskRun (memory_of a) (list_of old) (asks_by core asks) done.answers.items
       (list_of done.desk)
 
 -- each desk of the list, from a core on, ran the requests of its core
@@ -114,7 +114,7 @@ RanAll a core _ asks _ = ⊥
 pub record Fitting (asks : List Ask) (done : List Done) : Type 0 where
   pub inside : (i : ℕ) (d : Ask) → i < length asks → (slice_index_or asks i d).core < length done
   pub fits : (k : ℕ) (d : Done) → k < length done
-      → map spot (slice_index_or done k d).answers.items ≡ map ask_spot (asks_of k asks)
+      → map spot (slice_index_or done k d).answers.items ≡ map ask_spot (asks_by k asks)
 
 -- an answer to each request, in their order, and each core's are those that it gave
 pub record Merged (asks : List Ask) (done : List Done) (answers : List Answer) : Type 0 where
@@ -135,7 +135,7 @@ pub record RoundRan (a : Allocator) (old : List Desk) (asks : List Ask) (answers
   pub desks : All (IsDeskOf a) new
   pub lent : lent_by_desks new ≡ lent_by_desks old
   pub runs : (k : ℕ) (d : Desk) → k < length old
-      → DeskRun (memory_of a) (list_of (slice_index_or old k d)) (asks_of k asks)
+      → DeskRun (memory_of a) (list_of (slice_index_or old k d)) (asks_by k asks)
       (answers_by k answers) (list_of (slice_index_or new k d))
 
 -- Runs of all cores.
