@@ -80,4 +80,5 @@ recall_block b = recall b (less_one b)
 -- the block was handed out at this table, and is one of its memory
 pub record IsOut (t : FrameTable) (b : Block) : Type 0 where
   pub table : b.seat.table_id ≡ id_of t
+  pub about : b.seat.me.0.view.about ≡ Some (key_at t)
   pub is_block : IsBlock (key_at t) (block b.frame b.order)

@@ -14,20 +14,20 @@ use frame_core::{Eye, HeldBlock};
 pub struct Block {
     frame: u32,
     order: u8,
-    pub(crate) seat: Seat<(), Eye>,
+    pub seat: Seat<(), Eye>,
     // Its seat owns exactly this block.
     pub ghost owns: { seat.me ≡ (eye (holder seat.me.0.view.about (block frame order)) [], []) },
 }
 
 impl Block {
-    pub(crate) fn of(frame: u32, order: u8, seat: Seat<(), Eye>) -> Block
+    pub fn of(frame: u32, order: u8, seat: Seat<(), Eye>) -> Block
         requires { seat.me ≡ (eye (holder seat.me.0.view.about (block frame order)) [], []) }
         ensures { (result.frame ≡ frame) × (result.order ≡ order) × (result.seat ≡ seat) }
     {
         Block { frame, order, seat }
     }
 
-    pub(crate) fn into_seat(self) -> Seat<(), Eye>
+    pub fn into_seat(self) -> Seat<(), Eye>
         ensures { result ≡ self.seat }
     {
         let Block {

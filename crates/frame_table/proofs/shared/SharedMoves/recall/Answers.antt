@@ -36,6 +36,7 @@ returns c =
       is_block = is;
       is_out = record {
         table = search rules;
+        about = search rules;
         is_block = subst (IsBlock key) (sym is) (All-contains (IsBlock key) kept b blocks c.requires);
       };
       reads = c.cut_as-seat.ensures.read;
