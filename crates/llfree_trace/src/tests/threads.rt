@@ -94,13 +94,24 @@ const MANY_ANSWERS: &[u8] =
 
 #[test]
 fn worked_rounds_are_answered(rt: HostRuntime) -> Result<(), Fail> {
-    let rows: [((u32, u32), &[u8], &[u8]); 11] = [
+    let rows: [((u32, u32), &[u8], &[u8]); 13] = [
         ((1, 1), b"", b"end,,Closed,0,512\n"),
         ((1, 1), b"0,take,a,0", b"1,0,Taken,0,0\nend,,Closed,1,511\n"),
         (
             (1, 1),
             b"0,take,a,0\n0,take,b,3\n0,take,c,0\n",
             b"1,0,Taken,0,0\n2,0,Taken,8,3\n3,0,Taken,1,0\nend,,Closed,10,502\n",
+        ),
+        (
+            (1, 1),
+            b"0,take,a,0\n0,take,b,6\n0,take,c,7\n0,take,d,8\n0,take,e,9\n0,take,f,0\n",
+            b"1,0,Taken,0,0\n2,0,Taken,64,6\n3,0,Taken,128,7\n4,0,Taken,256,8\n\
+              5,0,NoBlock,,\n6,0,Taken,1,0\nend,,Closed,450,62\n",
+        ),
+        (
+            (1, 1),
+            b"0,take,a,10\n0,take,a,255\n",
+            b"1,0,BadOrder,,\n2,0,BadOrder,,\nend,,Closed,0,512\n",
         ),
         (
             (1, 1),
