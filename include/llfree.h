@@ -1,0 +1,73 @@
+/* LLFree for C: page frames, taken and given by frame and order. A proved static library.
+ *
+ * A frame is 4 KiB, by its number from 0 on; a block of order o (0 to 9) is 2^o frames from a multiple
+ * of 2^o on; a child is 512 frames. The library counts frames: it touches none of their memory.
+ *
+ * Whatever numbers are passed as children, frame and order, each call is safe, and a wrong one is
+ * refused. What a caller has to uphold, and nothing checks:
+ *  1. Each pointer is to memory of its type, aligned, that nobody else reads or writes during the
+ *     call. Two pointers of one call do not overlap.
+ *  2. A handle starts as LLFREE_CLOSED, or with all bytes 0. After that no code reads, writes or
+ *     copies its bytes but the functions below. It may be moved where the old bytes are never used
+ *     again.
+ *  3. One call at a time for each handle. Another thread may use it where the one call happens before
+ *     the other (a lock, a join, a seq_cst atomic).
+ *  4. No call from a signal handler, nor in a forked child of a process with threads.
+ *  5. rattle_alloc, rattle_dealloc and rattle_realloc, which openings and closings call, are one
+ *     allocator, and its blocks are aligned to 16.
+ */
+#ifndef LLFREE_H
+#define LLFREE_H
+
+#include <stdbool.h>
+#include <stddef.h>
+#include <stdint.h>
+
+#ifdef __cplusplus
+extern "C" {
+#endif
+
+enum llfree_status {
+    LLFREE_OK = 0,
+    LLFREE_NO_BLOCK = 1,      /* no block of the order is free */
+    LLFREE_BAD_ORDER = 2,     /* orders are 0 to 9, and a block of order 0 has no halves */
+    LLFREE_NOT_HELD = 3,      /* no such block is held: of another order, given before, never taken */
+    LLFREE_CLOSED_HANDLE = 4, /* nothing is behind the handle */
+    LLFREE_NO_MEMORY = 5,
+    LLFREE_BAD_GEOMETRY = 6,  /* a memory has 1 to 4096 children */
+    LLFREE_OPEN_HANDLE = 7    /* something is behind the handle already */
+};
+
+/* An allocator for one thread. */
+typedef struct llfree_plain {
+    bool live;
+    void *state;
+} llfree_plain;
+
+#define LLFREE_CLOSED { false, NULL }
+
+/* Opens an allocator of so many children, all frames free, behind a closed handle. On OPEN_HANDLE,
+ * BAD_GEOMETRY and NO_MEMORY the handle is as it was. */
+uint32_t llfree_plain_open(llfree_plain *handle, uint32_t children);
+
+/* Takes a block of the order, and writes its first frame. NO_BLOCK exactly where none of the order is
+ * free, BAD_ORDER, CLOSED_HANDLE: then *frame is as it was. Needs no memory. */
+uint32_t llfree_plain_take(llfree_plain *handle, uint8_t order, uint32_t *frame);
+
+/* Gives exactly this block back. NOT_HELD, CLOSED_HANDLE: then nothing changes. Needs no memory. */
+uint32_t llfree_plain_give(llfree_plain *handle, uint32_t frame, uint8_t order);
+
+/* Splits exactly this block into its halves, of which each is given or split by itself from then on:
+ * (frame, order - 1) and (frame + 2^(order - 1), order - 1). NOT_HELD, BAD_ORDER where the order is 0,
+ * CLOSED_HANDLE: then nothing changes. Needs no memory. */
+uint32_t llfree_plain_split(llfree_plain *handle, uint32_t frame, uint8_t order);
+
+/* Frees what is behind the handle, blocks that are held and all, and closes it. It does nothing to a
+ * closed handle. */
+void llfree_plain_close(llfree_plain *handle);
+
+#ifdef __cplusplus
+}
+#endif
+
+#endif
