@@ -1,10 +1,14 @@
 //! Allocators for one thread and for several.
 
+ghost use Rattle.std.specs.Prelude.{IfOk};
+ghost use Rattle.std.specs.List.{All};
+ghost use Rattle.core_frames.specs.Cores.{IsCoreOf};
+
 use crate::calls::{Calls, twice};
 use crate::samples::{RANGES, SMALL};
 use crate::texts::rebuilt_image;
-use core_frames::{Allocator, CloseFault, PlainAllocator};
-use frame_core::HeldBlock;
+use core_frames::{Allocator, CloseFault, Core, PlainAllocator};
+use frame_core::Image;
 use frame_image::held_frames;
 use frame_words::Fault;
 use std::alloc::Global;
@@ -56,17 +60,39 @@ fn allocator_at_an_image(alloc: Global, calls: &mut Calls) -> Result<(), Fault> 
     Ok(())
 }
 
-fn closed_allocator(alloc: Global, calls: &mut Calls) -> Result<(), Fault> {
-    let (allocator, cores) = twice!(calls, Allocator::open_with(alloc, SMALL, &RANGES))?;
-    let image = match allocator.close(alloc, cores) {
-        Ok(image) => image,
-        Err(CloseFault {
-            allocator, cores, ..
-        }) => {
+fn open_with(alloc: Global) -> Result<(Allocator, Vec<Core>), Fault>
+    ensures { IfOk result (λ r. All (IsCoreOf r.0) r.1.items) }
+{
+    Allocator::open_with(alloc, SMALL, &RANGES)
+}
+
+/// The image at the end.
+pub fn close(
+    alloc: Global,
+    calls: &mut Calls,
+    allocator: Allocator,
+    cores: Vec<Core>,
+) -> Result<Image, Fault>
+    requires { All (IsCoreOf allocator) cores.items }
+{
+    match allocator.close(alloc, cores) {
+        Ok(image) => Ok(image),
+        Err(
+            CloseFault {
+                allocator,
+                cores,
+                ..
+            },
+        ) => {
             calls.refuse();
-            allocator.close(alloc, cores).map_err(|e| e.fault)?
+            allocator.close(alloc, cores).map_err(|e| e.fault)
         }
-    };
+    }
+}
+
+fn closed_allocator(alloc: Global, calls: &mut Calls) -> Result<(), Fault> {
+    let (allocator, cores) = twice!(calls, open_with(alloc))?;
+    let image = close(alloc, calls, allocator, cores)?;
     calls.look(held_frames(&image) == 8);
     Ok(())
 }
