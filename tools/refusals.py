@@ -96,8 +96,10 @@ class Refusals:
         def is_memory_told(place, got, seen):
             if got == NO_MEMORY:
                 return True
-            # the bad record was reached first, or threads made fewer calls this time
-            return got == alone if not is_accepted else not is_single and seen['MEMORY'] < place
+            if not is_accepted:
+                return got == alone  # the bad record was reached first
+            # with threads: fewer calls this time, or one that the start of threads can do without
+            return not is_single and got[0] == 0 and not got[2]
 
         self.refuse(words, text, 'MEMORY', counts['MEMORY'], is_memory_told)
         self.refuse(words, text, 'THREAD', counts['THREAD'], lambda place, got, seen: got == NO_MEMORY)

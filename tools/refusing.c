@@ -13,6 +13,7 @@
 #include <stdatomic.h>
 #include <stdio.h>
 #include <stdlib.h>
+#include <sys/syscall.h>
 #include <unistd.h>
 
 enum { MEMORY, THREADS, READS, WRITES, KINDS };
@@ -55,6 +56,14 @@ __attribute__((destructor)) static void end(void)
         return;
     fprintf(file, "%ld %ld %ld %ld\n", seen[MEMORY], seen[THREADS], seen[READS], seen[WRITES]);
     fclose(file);
+}
+
+/* A program with threads leaves this way, past its destructors. */
+void _exit(int status)
+{
+    end();
+    syscall(SYS_exit_group, status);
+    __builtin_unreachable();
 }
 
 /* Is this the call that is refused? */

@@ -1,3 +1,0 @@
-mod Options
-mod RawPlainValues
-mod Values
