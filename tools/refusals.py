@@ -6,6 +6,9 @@ refused (tools/refusing.c stands between the program and the C library). Status,
 have to be those of docs/USAGE.md each time; a device that has failed is not asked again. The last
 line counts the runs. Where there is no C compiler nothing is tried, and that is said.
 
+The driver crates/llfree_refusals, where it is built, makes each call of the libraries that takes
+memory, and makes it once more where memory or a thread was refused: it has to print the same then.
+
     tools/refusals.py [PROGRAM..]
 """
 import os
@@ -16,6 +19,7 @@ import tempfile
 
 HERE = os.path.dirname(os.path.abspath(__file__))
 TOP = os.path.dirname(HERE)
+DRIVER = os.path.join(TOP, 'crates/llfree_refusals')
 KINDS = ('MEMORY', 'THREAD', 'READ', 'WRITE')
 NO_MEMORY = (3, b'', b'llfree: no memory\n')
 READ_FAILED = (3, b'', b'llfree: read failed\n')
@@ -117,6 +121,24 @@ class Refusals:
         self.refuse(words, text, 'WRITE', writes, is_prefix, MOST_WRITTEN=WRITTEN_BYTES)
         self.refuse(words, text, 'WRITE', writes, is_prefix, MOST_WRITTEN=WRITTEN_BYTES, REFUSE_WITH=0)
 
+    def try_calls(self):
+        """The driver counts what was refused, and the calls are answered as if nothing had been."""
+        with open(os.path.join(DRIVER, 'stdout'), 'rb') as file:
+            answered = file.read()
+        alone, counts = self.run('', b'')
+        self.want(alone == (0, answered, b'refusals of memory: 0\n'), '', 'nothing refused', alone)
+        told, untold = (0, answered, b'refusals of memory: 1\n'), []
+
+        def is_answered(place, got, seen):
+            if got == alone:
+                untold.append(place)
+            return got in (alone, told)
+
+        self.refuse('', b'', 'MEMORY', counts['MEMORY'], is_answered)
+        # one in each start of a thread can be done without
+        self.want(len(untold) <= counts['THREAD'], '', f'untold at {untold}', alone)
+        self.refuse('', b'', 'THREAD', counts['THREAD'], lambda place, got, seen: got == told)
+
 
 def main():
     programs = sys.argv[1:] or [os.path.join(TOP, 'crates/llfree/out/llfree')]
@@ -134,6 +156,13 @@ def main():
             for words, text in texts():
                 refusals.try_text(words, text)
             runs, failed = runs + refusals.runs, failed + refusals.failed
+        driver = os.path.join(DRIVER, 'out/llfree_refusals')
+        if os.path.exists(driver):
+            refusals = Refusals(driver, between, work)
+            refusals.try_calls()
+            runs, failed = runs + refusals.runs, failed + refusals.failed
+        else:
+            print('refusals: crates/llfree_refusals is not built, so its calls are not tried')
     print(f'{runs - failed} passed, {failed} failed')
     return 1 if failed else 0
 
