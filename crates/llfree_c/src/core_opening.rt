@@ -1,7 +1,10 @@
 //! The cores of a fresh allocator, a box each.
 
-ghost use Rattle.std.specs.Prelude.{◌≡◌, ◌≢◌, IfOk, IfErr, length, vec_len};
+ghost use Rattle.std.specs.Prelude.{◌≡◌, ◌≢◌, ◌+◌, ◌<◌, IfOk, IfErr, length, map, vec_len};
+ghost use Rattle.std.specs.List.{All};
+ghost use Rattle.frame_places.specs.declared.shared.Shared.{Shared};
 ghost use Rattle.llfree_c.specs.Status.{ok};
+ghost use Rattle.llfree_c.specs.OpenCores.{BoxShares, ShareOne, IsClosed, IsCoreBehind};
 
 use crate::core_handle::CoreHandle;
 use crate::crossing::may_cross;
@@ -16,6 +19,8 @@ pub(crate) fn boxed_cores(
     children: u32,
 ) -> Result<Vec<Box<CoreState, Global>>, u32>
     ensures count { IfOk result (λ cores. vec_len cores ≡ length handles.now) }
+    ensures closed { IfOk result (λ _. All IsClosed handles.now) }
+    ensures cores { IfOk result (λ cores. ShareOne children cores.items) }
     ensures err { IfErr result (λ e. e ≢ ok) }
 {
     for handle in handles {
@@ -42,7 +47,8 @@ pub(crate) fn boxed_cores(
 }
 
 fn boxed(heap: Global, states: Vec<CoreState>) -> Result<Vec<Box<CoreState, Global>>, u32>
-    ensures { IfErr result (λ e. e ≢ ok) }
+    ensures cores { IfOk result (λ cores. map (λ b. b.value) cores.items ≡ states.items) }
+    ensures err { IfErr result (λ e. e ≢ ok) }
 {
     let mut cores = Vec::new(heap);
     for state in states {
@@ -56,11 +62,26 @@ fn boxed(heap: Global, states: Vec<CoreState>) -> Result<Vec<Box<CoreState, Glob
     Ok(cores)
 }
 
-pub(crate) fn hand_over(handles: &mut [CoreHandle], mut cores: Vec<Box<CoreState, Global>>) {
+pub(crate) fn hand_over(handles: &mut [CoreHandle], mut cores: Vec<Box<CoreState, Global>>)
+    requires { vec_len cores ≡ length handles.old }
+    ensures { (shared : Shared) → All (BoxShares shared) cores.items
+        → All (IsCoreBehind shared) handles.new }
+{
     for handle in handles {
-        if let Some(core) = cores.pop() {
-            *handle = CoreHandle::of(core);
-            may_cross(handle);
-        }
+        set_next(handle, &mut cores);
+    }
+}
+
+fn set_next(handle: &mut CoreHandle, cores: &mut Vec<Box<CoreState, Global>>)
+    requires { 0 < vec_len cores.old }
+    ensures set { (shared : Shared) → All (BoxShares shared) cores.old.items
+        → IsCoreBehind shared handle.new }
+    ensures left { (shared : Shared) → All (BoxShares shared) cores.old.items
+        → All (BoxShares shared) cores.new.items }
+    ensures count { vec_len cores.new + 1 ≡ vec_len cores.old }
+{
+    if let Some(core) = cores.pop() {
+        *handle = CoreHandle::of(core);
+        may_cross(handle);
     }
 }

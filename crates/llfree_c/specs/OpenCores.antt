@@ -1,0 +1,32 @@
+-- What an opening of cores leaves behind handles.
+use Rattle.std.specs.Prelude.{◌≡◌, ℕ, List, false}
+use Rattle.std.specs.List.{All}
+use Rattle.std.specs.declared.boxed.Box.{Box}
+use Rattle.core_frames.specs.Cores.{memory_of}
+use Rattle.frame_places.specs.Openings.{Shares}
+use Rattle.frame_places.specs.declared.core_state.CoreState.{CoreState}
+use Rattle.frame_places.specs.declared.shared.Shared.{Shared}
+use Rattle.llfree_c.specs.SeenCores.{OnCore}
+use Rattle.llfree_c.specs.declared.core_handle.CoreHandle.{CoreHandle}
+
+-- nothing is behind the handle
+abbrev pub IsClosed : CoreHandle → Type 0
+IsClosed h = h.live ≡ false
+
+-- the core behind the handle has its allocator and its places from here
+abbrev pub IsCoreBehind : Shared → CoreHandle → Type 0
+IsCoreBehind shared h = OnCore (Shares shared) h.state.value
+
+-- one allocator of so many children is shared by the cores behind all of the handles
+abbrev pub OpensCores : ℕ → List CoreHandle → Type 0
+OpensCores children handles =
+    (shared : Shared) × ((memory_of shared.allocator).children ≡ children) × All (IsCoreBehind shared) handles
+
+-- the core in the box has its allocator and its places from here
+abbrev pub BoxShares : {Z : Type 0} → Shared → Box CoreState Z → Type 0
+BoxShares shared b = Shares shared b.value
+
+-- one allocator of so many children is shared by all of the cores
+abbrev pub ShareOne : {Z : Type 0} → ℕ → List (Box CoreState Z) → Type 0
+ShareOne children cores =
+    (shared : Shared) × ((memory_of shared.allocator).children ≡ children) × All (BoxShares shared) cores
