@@ -1,10 +1,10 @@
 //! What C calls of an allocator for several threads, each with a core of its own.
 
-ghost use Rattle.std.specs.Prelude.{◌≡◌, ◌≢◌, ◌⊎◌, ◌<◌, ◌≤◌, true, false};
+ghost use Rattle.std.specs.Prelude.{◌≡◌, ◌≢◌, ◌⊎◌, ◌<◌, ◌≤◌, false, length};
 ghost use Rattle.std.specs.List.{All};
 ghost use Rattle.frame_places.specs.Calls.{SharesOne, IsBlockOf, AreHalvesOf, LooksAround};
 ghost use Rattle.llfree_c.specs.Status.{ok, no_block, bad_order, not_held, closed, contended};
-ghost use Rattle.llfree_c.specs.OpenCores.{IsClosed, OpensCores};
+ghost use Rattle.llfree_c.specs.OpenCores.{HasNoCores, IsClosed, OpensCores};
 ghost use Rattle.llfree_c.specs.SeenCores.{OnCore, OnCores};
 
 use crate::core_handle::CoreHandle;
@@ -19,6 +19,7 @@ use std::alloc::Global;
 pub extern "C" fn llfree_open(handles: &mut [CoreHandle], heap: Global, children: u32) -> u32
     ensures open { result ≡ ok → All IsClosed handles.old × OpensCores children handles.new }
     ensures refused { result ≢ ok → handles.new ≡ handles.old }
+    ensures why { result ≢ ok → HasNoCores children (length handles.old) result }
 {
     match boxed_cores(handles, heap, children) {
         Ok(cores) => {

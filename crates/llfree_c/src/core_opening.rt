@@ -1,10 +1,10 @@
 //! The cores of a fresh allocator, a box each.
 
-ghost use Rattle.std.specs.Prelude.{◌≡◌, ◌≢◌, ◌+◌, ◌<◌, IfOk, IfErr, length, map, vec_len};
+ghost use Rattle.std.specs.Prelude.{◌≡◌, ◌+◌, ◌<◌, IfOk, IfErr, length, map, vec_len};
 ghost use Rattle.std.specs.List.{All};
 ghost use Rattle.frame_places.specs.declared.shared.Shared.{Shared};
-ghost use Rattle.llfree_c.specs.Status.{ok};
-ghost use Rattle.llfree_c.specs.OpenCores.{BoxShares, ShareOne, IsClosed, IsCoreBehind};
+ghost use Rattle.llfree_c.specs.Status.{no_memory};
+ghost use Rattle.llfree_c.specs.OpenCores.{BoxShares, HasNoCores, ShareOne, IsClosed, IsCoreBehind};
 
 use crate::core_handle::CoreHandle;
 use crate::crossing::may_cross;
@@ -21,7 +21,7 @@ pub(crate) fn boxed_cores(
     ensures count { IfOk result (λ cores. vec_len cores ≡ length handles.now) }
     ensures closed { IfOk result (λ _. All IsClosed handles.now) }
     ensures cores { IfOk result (λ cores. ShareOne children cores.items) }
-    ensures err { IfErr result (λ e. e ≢ ok) }
+    ensures err { IfErr result (HasNoCores children (length handles.now)) }
 {
     for handle in handles {
         if handle.live {
@@ -48,7 +48,7 @@ pub(crate) fn boxed_cores(
 
 fn boxed(heap: Global, states: Vec<CoreState>) -> Result<Vec<Box<CoreState, Global>>, u32>
     ensures cores { IfOk result (λ cores. map (λ b. b.value) cores.items ≡ states.items) }
-    ensures err { IfErr result (λ e. e ≢ ok) }
+    ensures err { IfErr result (λ e. e ≡ no_memory) }
 {
     let mut cores = Vec::new(heap);
     for state in states {

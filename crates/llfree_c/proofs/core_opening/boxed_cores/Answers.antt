@@ -1,4 +1,4 @@
-use Rattle.std.proofs.Common.{rules, ap, ◌∙◌}
+use Rattle.std.proofs.Common.{ap, ◌∙◌}
 use Rattle.frame_model.specs.declared.key.Key.{Key}
 use Rattle.frame_places.specs.Openings.{Shares}
 use Rattle.llfree_c.proofs.BoxedCores.{unmapped}
