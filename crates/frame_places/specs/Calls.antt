@@ -16,12 +16,12 @@ abbrev pub SharesOne : CoreState → CoreState → Type 0
 SharesOne s t = t.shared ≡ s.shared
 
 -- there is such a block in the memory of the core's allocator
-abbrev pub IsBlockOf : ℕ → ℕ → CoreState → Type 0
-IsBlockOf order frame s = HasBlock order frame (allocator_of s)
+abbrev pub HasBlockFor : ℕ → ℕ → CoreState → Type 0
+HasBlockFor order frame s = HasBlock order frame (allocator_of s)
 
 -- the memory of the core's allocator has both halves of the block
-abbrev pub AreHalvesOf : ℕ → ℕ → CoreState → Type 0
-AreHalvesOf order frame s = HasHalves order frame (allocator_of s)
+abbrev pub HasHalvesFor : ℕ → ℕ → CoreState → Type 0
+HasHalvesFor order frame s = HasHalves order frame (allocator_of s)
 
 -- each tree of the memory was looked at, for an order of blocks
 abbrev pub LooksAround : ℕ → CoreState → CoreState → Type 0

@@ -12,8 +12,8 @@ use Rattle.llfree_c.specs.SeenCores.{OnCore}
 use Rattle.llfree_c.specs.declared.core_handle.CoreHandle.{CoreHandle}
 
 -- nothing is behind the handle
-abbrev pub IsClosed : CoreHandle → Type 0
-IsClosed h = h.live ≡ false
+abbrev pub IsClosedHandle : CoreHandle → Type 0
+IsClosedHandle h = h.live ≡ false
 
 -- the core behind the handle has its allocator and its places from here
 abbrev pub IsCoreBehind : Shared → CoreHandle → Type 0

@@ -4,7 +4,7 @@ ghost use Rattle.std.specs.Prelude.{◌≡◌, ◌+◌, ◌<◌, IfOk, IfErr, le
 ghost use Rattle.std.specs.List.{All};
 ghost use Rattle.frame_places.specs.declared.shared.Shared.{Shared};
 ghost use Rattle.llfree_c.specs.Status.{no_memory};
-ghost use Rattle.llfree_c.specs.OpenCores.{BoxShares, HasNoCores, ShareOne, IsClosed, IsCoreBehind};
+ghost use Rattle.llfree_c.specs.OpenCores.{BoxShares, HasNoCores, ShareOne, IsClosedHandle, IsCoreBehind};
 
 use crate::core_handle::CoreHandle;
 use crate::crossing::may_cross;
@@ -19,7 +19,7 @@ pub(crate) fn boxed_cores(
     children: u32,
 ) -> Result<Vec<Box<CoreState, Global>>, u32>
     ensures count { IfOk result (λ cores. vec_len cores ≡ length handles.now) }
-    ensures closed { IfOk result (λ _. All IsClosed handles.now) }
+    ensures closed { IfOk result (λ _. All IsClosedHandle handles.now) }
     ensures cores { IfOk result (λ cores. ShareOne children cores.items) }
     ensures err { IfErr result (HasNoCores children (length handles.now)) }
 {
