@@ -1,8 +1,8 @@
 //! Takes, gives and splits of blocks whose rights rest at their places.
 
-ghost use Rattle.std.specs.Prelude.{◌≡◌, IfOk, IfErr, IfSome};
+ghost use Rattle.std.specs.Prelude.{◌≡◌, ◌≢◌, true, IfOk, IfErr, IfSome};
 ghost use Rattle.core_frames.specs.Cores.{IsCoreOf, IsOutOf};
-ghost use Rattle.frame_places.specs.Places.{HasBlock, HasHalves, IsRefusedTake};
+ghost use Rattle.frame_places.specs.Places.{TakesAt, GivesAt, SplitsAt, IsRefusedTake};
 ghost use Rattle.frame_places.specs.Refusals.{IsRefusedSplit};
 
 use crate::refusal::Refusal;
@@ -16,7 +16,7 @@ use frame_words::TakeFault;
 pub(crate) fn take_at_place(shared: &Shared, core: &mut Core, order: u8) -> Result<u32, TakeFault>
     requires { IsCoreOf shared.now.allocator core.old }
     ensures core { IsCoreOf shared.now.allocator core.new }
-    ensures block { IfOk result (λ frame. HasBlock order frame shared.now.allocator) }
+    ensures taken { IfOk result (λ frame. TakesAt shared.now.allocator order frame core.old core.new) }
     ensures refused { IfErr result (IsRefusedTake shared.now.allocator order core.old core.new) }
 {
     let held = shared.allocator.take(core, order)?;
@@ -37,7 +37,8 @@ pub(crate) fn give_from_place(
 ) -> Result<(), Refusal>
     requires { IsCoreOf shared.now.allocator core.old }
     ensures core { IsCoreOf shared.now.allocator core.new }
-    ensures block { IfOk result (λ _. HasBlock order frame shared.now.allocator) }
+    ensures given { IfOk result (λ _. GivesAt shared.now.allocator order frame core.old core.new) }
+    ensures same { IfErr result (λ _. core.new ≡ core.old) }
     ensures refused { IfErr result (λ e. e ≡ Refusal.NotHeld) }
 {
     let Some(held) = fetch(shared, frame, order) else {
@@ -56,7 +57,8 @@ pub(crate) fn split_at_place(
 ) -> Result<(), Refusal>
     requires { IsCoreOf shared.now.allocator core.old }
     ensures core { IsCoreOf shared.now.allocator core.new }
-    ensures halves { IfOk result (λ _. HasHalves order frame shared.now.allocator) }
+    ensures split { IfOk result (λ _. SplitsAt shared.now.allocator order frame core.old core.new) }
+    ensures same { IfErr result (λ e. e ≢ Refusal.NoPlace → core.new ≡ core.old) }
     ensures refused { IfErr result (IsRefusedSplit order) }
 {
     if order == 0 {
@@ -95,6 +97,7 @@ fn lay_down(shared: &Shared, core: &mut Core, held: Block) -> bool
     requires out { IsOutOf shared.now.allocator held }
     requires core { IsCoreOf shared.now.allocator core.old }
     ensures core { IsCoreOf shared.now.allocator core.new }
+    ensures rests { result ≡ true → core.new ≡ core.old }
 {
     let Some(place) = shared.find(held.frame(), held.order()) else {
         shared.allocator.give(core, held);

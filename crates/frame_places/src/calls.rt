@@ -1,7 +1,7 @@
 //! What a core is asked for by frame and order.
 
-ghost use Rattle.std.specs.Prelude.{◌≡◌, IfOk, IfErr};
-ghost use Rattle.frame_places.specs.Calls.{SharesOne, HasBlockFor, HasHalvesFor, RefusesTake};
+ghost use Rattle.std.specs.Prelude.{◌≡◌, ◌≢◌, IfOk, IfErr};
+ghost use Rattle.frame_places.specs.Calls.{SharesOne, TakesFor, GivesFor, SplitsFor, KeepsCore, RefusesTake};
 ghost use Rattle.frame_places.specs.Refusals.{IsRefusedSplit};
 
 use crate::by_numbers::{give_from_place, split_at_place, take_at_place};
@@ -14,7 +14,7 @@ impl CoreState {
     /// any core gives it. No memory is needed, and nobody waits.
     pub fn take(&mut self, order: u8) -> Result<u32, TakeFault>
         ensures shared { SharesOne self.old self.new }
-        ensures block { IfOk result (λ frame. HasBlockFor order frame self.old) }
+        ensures taken { IfOk result (λ frame. TakesFor order frame self.old self.new) }
         ensures refused { IfErr result (RefusesTake order self.old self.new) }
     {
         take_at_place(&self.shared, &mut self.core, order)
@@ -24,7 +24,8 @@ impl CoreState {
     /// and nobody waits.
     pub fn give(&mut self, frame: u32, order: u8) -> Result<(), Refusal>
         ensures shared { SharesOne self.old self.new }
-        ensures block { IfOk result (λ _. HasBlockFor order frame self.old) }
+        ensures given { IfOk result (λ _. GivesFor order frame self.old self.new) }
+        ensures same { IfErr result (λ _. KeepsCore self.old self.new) }
         ensures refused { IfErr result (λ e. e ≡ Refusal.NotHeld) }
     {
         give_from_place(&self.shared, &mut self.core, frame, order)
@@ -34,7 +35,8 @@ impl CoreState {
     /// gives each of them then. No memory is needed, and nobody waits.
     pub fn split(&mut self, frame: u32, order: u8) -> Result<(), Refusal>
         ensures shared { SharesOne self.old self.new }
-        ensures halves { IfOk result (λ _. HasHalvesFor order frame self.old) }
+        ensures split { IfOk result (λ _. SplitsFor order frame self.old self.new) }
+        ensures same { IfErr result (λ e. e ≢ Refusal.NoPlace → KeepsCore self.old self.new) }
         ensures refused { IfErr result (IsRefusedSplit order) }
     {
         split_at_place(&self.shared, &mut self.core, frame, order)

@@ -2,10 +2,10 @@
 
 ghost use Rattle.std.specs.Prelude.{◌≡◌, ◌≢◌, ◌⊎◌, ◌<◌, ◌≤◌, false, length};
 ghost use Rattle.std.specs.List.{All};
-ghost use Rattle.frame_places.specs.Calls.{SharesOne, HasBlockFor, HasHalvesFor, LooksAround};
+ghost use Rattle.frame_places.specs.Calls.{SharesOne, TakesFor, GivesFor, SplitsFor, FindsNoneFor, KeepsCore};
 ghost use Rattle.llfree_c.specs.Status.{ok, no_block, bad_order, not_held, closed, contended};
 ghost use Rattle.llfree_c.specs.OpenCores.{HasNoCores, IsClosedHandle, OpensCores};
-ghost use Rattle.llfree_c.specs.SeenCores.{OnCore, OnCores};
+ghost use Rattle.llfree_c.specs.SeenCores.{OnCores};
 
 use crate::core_handle::CoreHandle;
 use crate::core_opening::{boxed_cores, hand_over};
@@ -38,9 +38,10 @@ pub extern "C" fn llfree_take(
     order: u8,
     frame: &mut u32,
 ) -> u32
-    ensures taken { result ≡ ok → OnCore (HasBlockFor order frame.new) handle.old.state.value }
+    ensures taken { result ≡ ok
+        → OnCores (TakesFor order frame.new) handle.old.state.value handle.new.state.value }
     ensures none { result ≡ no_block
-        → OnCores (LooksAround order) handle.old.state.value handle.new.state.value }
+        → OnCores (FindsNoneFor order) handle.old.state.value handle.new.state.value }
     ensures order { result ≡ bad_order → 9 < order }
     ensures shared { result ≢ closed
         → OnCores SharesOne handle.old.state.value handle.new.state.value }
@@ -59,7 +60,10 @@ pub extern "C" fn llfree_take(
 /// Gives exactly this block, where it is held, whichever core took it.
 #[unsafe(no_mangle)]
 pub extern "C" fn llfree_give(handle: &mut CoreHandle, heap: Global, frame: u32, order: u8) -> u32
-    ensures given { result ≡ ok → OnCore (HasBlockFor order frame) handle.old.state.value }
+    ensures given { result ≡ ok
+        → OnCores (GivesFor order frame) handle.old.state.value handle.new.state.value }
+    ensures same { result ≡ not_held
+        → OnCores KeepsCore handle.old.state.value handle.new.state.value }
     ensures shared { result ≢ closed
         → OnCores SharesOne handle.old.state.value handle.new.state.value }
     ensures closed { result ≡ closed → (handle.old.live ≡ false) × (handle.new ≡ handle.old) }
@@ -76,7 +80,10 @@ pub extern "C" fn llfree_give(handle: &mut CoreHandle, heap: Global, frame: u32,
 /// Splits exactly this block into its halves, where it is held; any core gives each by itself then.
 #[unsafe(no_mangle)]
 pub extern "C" fn llfree_split(handle: &mut CoreHandle, heap: Global, frame: u32, order: u8) -> u32
-    ensures split { result ≡ ok → OnCore (HasHalvesFor order frame) handle.old.state.value }
+    ensures split { result ≡ ok
+        → OnCores (SplitsFor order frame) handle.old.state.value handle.new.state.value }
+    ensures same { (result ≡ not_held) ⊎ (result ≡ bad_order)
+        → OnCores KeepsCore handle.old.state.value handle.new.state.value }
     ensures whole { result ≡ bad_order → order ≡ 0 }
     ensures shared { result ≢ closed
         → OnCores SharesOne handle.old.state.value handle.new.state.value }

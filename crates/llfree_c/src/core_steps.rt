@@ -2,7 +2,7 @@
 
 ghost use Rattle.std.specs.Prelude.{◌≡◌, ◌≢◌, ◌⊎◌, ◌<◌, ◌≤◌};
 ghost use Rattle.llfree_c.specs.Status.{ok, no_block, bad_order, not_held, contended};
-ghost use Rattle.frame_places.specs.Calls.{SharesOne, HasBlockFor, HasHalvesFor, LooksAround};
+ghost use Rattle.frame_places.specs.Calls.{SharesOne, TakesFor, GivesFor, SplitsFor, FindsNoneFor, KeepsCore};
 
 use crate::statuses::{BAD_ORDER, CONTENDED, NO_BLOCK, NOT_HELD, OK};
 use frame_places::{CoreState, Refusal};
@@ -10,8 +10,8 @@ use frame_words::TakeFault;
 
 pub(crate) fn take(state: &mut CoreState, order: u8, frame: &mut u32) -> u32
     ensures shared { SharesOne state.old state.new }
-    ensures taken { result ≡ ok → HasBlockFor order frame.new state.old }
-    ensures none { result ≡ no_block → LooksAround order state.old state.new }
+    ensures taken { result ≡ ok → TakesFor order frame.new state.old state.new }
+    ensures none { result ≡ no_block → FindsNoneFor order state.old state.new }
     ensures order { result ≡ bad_order → 9 < order }
     ensures known { (result ≤ bad_order) ⊎ (result ≡ contended) }
     ensures refused { result ≢ ok → frame.new ≡ frame.old }
@@ -29,7 +29,8 @@ pub(crate) fn take(state: &mut CoreState, order: u8, frame: &mut u32) -> u32
 
 pub(crate) fn give(state: &mut CoreState, frame: u32, order: u8) -> u32
     ensures shared { SharesOne state.old state.new }
-    ensures given { result ≡ ok → HasBlockFor order frame state.old }
+    ensures given { result ≡ ok → GivesFor order frame state.old state.new }
+    ensures same { result ≡ not_held → KeepsCore state.old state.new }
     ensures known { (result ≡ ok) ⊎ (result ≡ not_held) }
 {
     match state.give(frame, order) {
@@ -40,8 +41,9 @@ pub(crate) fn give(state: &mut CoreState, frame: u32, order: u8) -> u32
 
 pub(crate) fn split(state: &mut CoreState, frame: u32, order: u8) -> u32
     ensures shared { SharesOne state.old state.new }
-    ensures split { result ≡ ok → HasHalvesFor order frame state.old }
-    ensures whole { result ≡ bad_order → order ≡ 0 }
+    ensures split { result ≡ ok → SplitsFor order frame state.old state.new }
+    ensures whole { result ≡ bad_order → (order ≡ 0) × KeepsCore state.old state.new }
+    ensures same { result ≡ not_held → KeepsCore state.old state.new }
     ensures known { (result ≡ ok) ⊎ (result ≡ bad_order) ⊎ (result ≡ not_held)
         ⊎ (result ≡ contended) }
 {
