@@ -33,7 +33,7 @@ pub extern "C" fn llfree_plain_open(handle: &mut PlainHandle, heap: Global, chil
     OK
 }
 
-/// BlockTaken a block of the order, and writes its first frame.
+/// Takes a block of the order, and writes its first frame.
 #[unsafe(no_mangle)]
 pub extern "C" fn llfree_plain_take(
     handle: &mut PlainHandle,
@@ -59,7 +59,7 @@ pub extern "C" fn llfree_plain_take(
     status
 }
 
-/// BlockGiven exactly this block, where it is held.
+/// Gives exactly this block, where it is held.
 #[unsafe(no_mangle)]
 pub extern "C" fn llfree_plain_give(
     handle: &mut PlainHandle,
@@ -82,7 +82,7 @@ pub extern "C" fn llfree_plain_give(
     status
 }
 
-/// BlockSplit exactly this block into its halves, where it is held; each is given by itself then.
+/// Splits exactly this block into its halves, where it is held; each is given by itself then.
 #[unsafe(no_mangle)]
 pub extern "C" fn llfree_plain_split(
     handle: &mut PlainHandle,
