@@ -11,7 +11,8 @@
  *     copies its bytes but the functions below. It may be moved where the old bytes are never used
  *     again.
  *  3. One call at a time for each handle. Another thread may use it where the one call happens before
- *     the other (a lock, a join, a seq_cst atomic).
+ *     the other (a lock, a join, a seq_cst atomic). Handles of different cores need no such order:
+ *     threads call through them at the same time.
  *  4. No call from a signal handler, nor in a forked child of a process with threads.
  *  5. rattle_alloc, rattle_dealloc and rattle_realloc, which openings and closings call, are one
  *     allocator, and its blocks are aligned to 16.
@@ -34,17 +35,52 @@ enum llfree_status {
     LLFREE_NOT_HELD = 3,      /* no such block is held: of another order, given before, never taken */
     LLFREE_CLOSED_HANDLE = 4, /* nothing is behind the handle */
     LLFREE_NO_MEMORY = 5,
-    LLFREE_BAD_GEOMETRY = 6,  /* a memory has 1 to 4096 children */
-    LLFREE_OPEN_HANDLE = 7    /* something is behind the handle already */
+    LLFREE_BAD_GEOMETRY = 6,  /* a memory has 1 to 4096 children and 1 to 64 cores */
+    LLFREE_OPEN_HANDLE = 7,   /* something is behind the handle already */
+    LLFREE_CONTENDED = 8      /* other cores were in the way: as NO_BLOCK, but a block may be free */
 };
 
-/* An allocator for one thread. */
+#define LLFREE_CLOSED { false, NULL }
+
+/* A core of an allocator for several threads. Each thread (or CPU) has one, best with a cache line of
+ * its own. Any core gives and splits what any core took, by its frame and order. */
+typedef struct llfree_core {
+    bool live;
+    void *state;
+} llfree_core;
+
+/* Opens an allocator of so many children, all frames free, with a core behind each of the closed
+ * handles. Beside the words of the allocator it has 32 bytes a frame. On OPEN_HANDLE (of any handle),
+ * BAD_GEOMETRY and NO_MEMORY the handles are as they were. */
+uint32_t llfree_open(llfree_core *handles, size_t cores, uint32_t children);
+
+/* Takes a block of the order, and writes its first frame. NO_BLOCK where all of memory was looked at
+ * and no other core was in the way, CONTENDED, BAD_ORDER, CLOSED_HANDLE: then *frame is as it was, and
+ * nothing more is held. It needs no memory, and neither locks nor waits. */
+uint32_t llfree_take(llfree_core *handle, uint8_t order, uint32_t *frame);
+
+/* Gives exactly this block back, whichever core took it. NOT_HELD, CLOSED_HANDLE: then nothing
+ * changes. Of several gives of one block at the same time one succeeds. It needs no memory, and
+ * neither locks nor waits. */
+uint32_t llfree_give(llfree_core *handle, uint32_t frame, uint8_t order);
+
+/* Splits exactly this block into its halves, whichever core took it; each is given or split by itself
+ * from then on: (frame, order - 1) and (frame + 2^(order - 1), order - 1). NOT_HELD, BAD_ORDER where
+ * the order is 0 (held or not), CLOSED_HANDLE: then nothing changes. A half that could not be laid
+ * down in the library's list is free again, and the answer is CONTENDED; no run ever showed this. It
+ * needs no memory, and neither locks nor waits. */
+uint32_t llfree_split(llfree_core *handle, uint32_t frame, uint8_t order);
+
+/* Closes the handle of a core; it does nothing to a closed one. The last handle of an allocator frees
+ * it, blocks that are held and all. */
+void llfree_close(llfree_core *handle);
+
+/* An allocator for one thread: as above, but a take is refused only where no block of the order is
+ * free, and it has one byte a frame beside its words. */
 typedef struct llfree_plain {
     bool live;
     void *state;
 } llfree_plain;
-
-#define LLFREE_CLOSED { false, NULL }
 
 /* Opens an allocator of so many children, all frames free, behind a closed handle. On OPEN_HANDLE,
  * BAD_GEOMETRY and NO_MEMORY the handle is as it was. */

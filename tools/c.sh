@@ -19,16 +19,17 @@ diff "$folder/exported" "$folder/declared" || { echo 'the header and the library
 
 # a header for both languages
 for language in c c++; do
-    printf '#include "llfree.h"\nint main(void) { llfree_plain h = LLFREE_CLOSED; llfree_plain_close(&h); }\n' |
+    printf '#include "llfree.h"\nint main(void) { llfree_plain h = LLFREE_CLOSED; llfree_plain_close(&h);
+        llfree_core c = LLFREE_CLOSED; llfree_close(&c); }\n' |
         "$cc" -x "$language" -Wall -Wextra -Werror -I"$root/include" -c -o "$folder/header.o" - ||
         { [ "$language" = c++ ] && echo 'no C++ compiler' || exit 1; }
 done
 
 build() {
-    "$cc" "$@" -Wall -Wextra -Werror -I"$root/include" -o "$folder/program" "$source" "$library" "$heap"
+    "$cc" "$@" -Wall -Wextra -Werror -I"$root/include" -o "$folder/program" "$source" "$library" "$heap" -lpthread
 }
-for source in "$root/examples/c/first.c" "$root/tools/c/checks.c"; do
-    for flags in -O0 -O2 -fsanitize=address,undefined; do
+for source in "$root"/examples/c/*.c "$root"/tools/c/*.c; do
+    for flags in -O0 -O2 -fsanitize=address,undefined -fsanitize=thread; do
         name="$(basename "$source") $flags"
         # the compiler may lack what watches over memory
         echo 'int main(void) { return 0; }' | "$cc" -x c "$flags" -o "$folder/empty" - 2>/dev/null ||

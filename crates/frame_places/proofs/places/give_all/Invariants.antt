@@ -1,0 +1,13 @@
+use Rattle.std.proofs.Common.{vec_len}
+use Rattle.std.specs.List.{All}
+use Rattle.core_frames.specs.Cores.{IsCoreOf, IsOutOf}
+use Rattle.frame_places.proofs.places.give_all.Given as goal
+
+abbrev pub invariant-loop-held : goal.invariant-loop-held
+invariant-loop-held l = record {
+  is_core : IsCoreOf l.allocator l.core;
+  out : All (IsOutOf l.allocator) l.blocks.items;
+}
+
+abbrev pub decreases-loop-held : goal.decreases-loop-held
+decreases-loop-held l = vec_len l.blocks

@@ -1,0 +1,44 @@
+//! What a core is asked for by frame and order.
+
+ghost use Rattle.std.specs.Prelude.{◌≡◌, ◌≢◌, IfOk, IfErr};
+ghost use Rattle.frame_places.specs.Calls.{SharesOne, TakesFor, GivesFor, SplitsFor, KeepsCore, RefusesTake};
+ghost use Rattle.frame_places.specs.Refusals.{IsRefusedSplit};
+
+use crate::by_numbers::{give_from_place, split_at_place, take_at_place};
+use crate::core_state::CoreState;
+use crate::refusal::Refusal;
+use frame_words::TakeFault;
+
+impl CoreState {
+    /// Takes a block of `2^order` frames and answers its first. Its right rests at its place until
+    /// any core gives it. No memory is needed, and nobody waits.
+    pub fn take(&mut self, order: u8) -> Result<u32, TakeFault>
+        ensures shared { SharesOne self.old self.new }
+        ensures taken { IfOk result (λ frame. TakesFor order frame self.old self.new) }
+        ensures refused { IfErr result (RefusesTake order self.old self.new) }
+    {
+        take_at_place(&self.shared, &mut self.core, order)
+    }
+
+    /// Gives exactly this block back, where it is held, whichever core took it. No memory is needed,
+    /// and nobody waits.
+    pub fn give(&mut self, frame: u32, order: u8) -> Result<(), Refusal>
+        ensures shared { SharesOne self.old self.new }
+        ensures given { IfOk result (λ _. GivesFor order frame self.old self.new) }
+        ensures same { IfErr result (λ _. KeepsCore self.old self.new) }
+        ensures refused { IfErr result (λ e. e ≡ Refusal.NotHeld) }
+    {
+        give_from_place(&self.shared, &mut self.core, frame, order)
+    }
+
+    /// Splits exactly this block into its halves, where it is held, whichever core took it; any core
+    /// gives each of them then. No memory is needed, and nobody waits.
+    pub fn split(&mut self, frame: u32, order: u8) -> Result<(), Refusal>
+        ensures shared { SharesOne self.old self.new }
+        ensures split { IfOk result (λ _. SplitsFor order frame self.old self.new) }
+        ensures same { IfErr result (λ e. e ≢ Refusal.NoPlace → KeepsCore self.old self.new) }
+        ensures refused { IfErr result (IsRefusedSplit order) }
+    {
+        split_at_place(&self.shared, &mut self.core, frame, order)
+    }
+}

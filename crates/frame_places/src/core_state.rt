@@ -1,0 +1,19 @@
+//! A core of a shared allocator.
+
+ghost use Rattle.std.specs.Arc.{arc_value};
+ghost use Rattle.core_frames.specs.Cores.{IsCoreOf};
+
+use crate::shared::Shared;
+use core_frames::Core;
+use std::alloc::Global;
+use std::sync::Arc;
+
+/// A core: what all share, and its own part.
+#[derive(Drop)]
+pub struct CoreState {
+    pub(crate) shared: Arc<Shared, Global>,
+    pub(crate) core: Core,
+    // No two cores share a cache line.
+    pub(crate) apart: [u64; 14],
+    pub ghost is_core: { IsCoreOf (arc_value shared).allocator core },
+}

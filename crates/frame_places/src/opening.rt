@@ -1,0 +1,104 @@
+//! The cores of a fresh memory.
+
+ghost use Rattle.std.specs.Prelude.{◌≡◌, ◌+◌, IfOk, IfErr, IfSome, vec_len};
+ghost use Rattle.std.specs.Arc.{arc_value};
+ghost use Rattle.std.specs.List.{All};
+ghost use Rattle.core_frames.specs.Cores.{memory_of, IsCoreOf};
+ghost use Rattle.frame_core.specs.Key.{key_of};
+ghost use Rattle.frame_places.specs.Openings.{Shares, AreCoresOf};
+
+use crate::core_state::CoreState;
+use crate::shared::Shared;
+use core_frames::{Allocator, Core};
+use frame_words::{Fault, Geometry};
+use std::alloc::Global;
+use std::sync::Arc;
+
+/// The cores of a memory of which no frame is held but those past the end. Refused only for want of
+/// memory.
+pub fn open_cores(alloc: Global, geometry: Geometry) -> Result<Vec<CoreState>, Fault>
+    ensures cores { IfOk result (λ states. AreCoresOf (key_of geometry) states.items) }
+    ensures err { IfErr result (λ e. e ≡ Fault.NoMemory) }
+{
+    let (shared, cores) = open_shared(alloc, geometry)?;
+    let Ok(shared) = Arc::new(alloc, shared) else {
+        return Err(Fault::NoMemory);
+    };
+    let states = cores_over(alloc, &shared, cores)?;
+    Ok(states)
+}
+
+fn open_shared(alloc: Global, geometry: Geometry) -> Result<(Shared, Vec<Core>), Fault>
+    ensures memory { IfOk result (λ r. memory_of r.0.allocator ≡ key_of geometry) }
+    ensures cores { IfOk result (λ r. All (IsCoreOf r.0.allocator) r.1.items) }
+    ensures count { IfOk result (λ r. vec_len r.1 ≡ geometry.cores) }
+    ensures err { IfErr result (λ e. e ≡ Fault.NoMemory) }
+{
+    let (allocator, mut cores) = open(alloc, geometry)?;
+    let Some(mut core) = next_core(&allocator, &mut cores) else {
+        return Err(Fault::NoMemory);
+    };
+    let shared = Shared::open(alloc, allocator, &mut core)?;
+    put_back(&shared, &mut cores, core)?;
+    Ok((shared, cores))
+}
+
+fn next_core(allocator: &Allocator, cores: &mut Vec<Core>) -> Option<Core>
+    requires { All (IsCoreOf allocator.now) cores.old.items }
+    ensures core { IfSome result (IsCoreOf allocator.now) }
+    ensures left { All (IsCoreOf allocator.now) cores.new.items }
+    ensures count { IfSome result (λ _. vec_len cores.new + 1 ≡ vec_len cores.old) }
+{
+    let _ = allocator;
+    cores.pop()
+}
+
+fn put_back(shared: &Shared, cores: &mut Vec<Core>, core: Core) -> Result<(), Fault>
+    requires cores { All (IsCoreOf shared.now.allocator) cores.old.items }
+    requires core { IsCoreOf shared.now.allocator core }
+    ensures cores { All (IsCoreOf shared.now.allocator) cores.new.items }
+    ensures count { IfOk result (λ _. vec_len cores.new ≡ vec_len cores.old + 1) }
+    ensures err { IfErr result (λ e. e ≡ Fault.NoMemory) }
+{
+    let _ = shared;
+    let Ok(()) = cores.push(core) else {
+        return Err(Fault::NoMemory);
+    };
+    Ok(())
+}
+
+fn open(alloc: Global, geometry: Geometry) -> Result<(Allocator, Vec<Core>), Fault>
+    ensures memory { IfOk result (λ r. memory_of r.0 ≡ key_of geometry) }
+    ensures cores { IfOk result (λ r. All (IsCoreOf r.0) r.1.items) }
+    ensures count { IfOk result (λ r. vec_len r.1 ≡ geometry.cores) }
+    ensures err { IfErr result (λ e. e ≡ Fault.NoMemory) }
+{
+    Allocator::open(alloc, geometry)
+}
+
+fn cores_over(
+    alloc: Global,
+    shared: &Arc<Shared, Global>,
+    mut cores: Vec<Core>,
+) -> Result<Vec<CoreState>, Fault>
+    requires { All (IsCoreOf (arc_value shared.now).allocator) cores.items }
+    ensures shared { IfOk result (λ states. All (Shares (arc_value shared.now)) states.items) }
+    ensures count { IfOk result (λ states. vec_len states ≡ vec_len cores) }
+    ensures err { IfErr result (λ e. e ≡ Fault.NoMemory) }
+{
+    let mut states = Vec::new(alloc);
+    while let Some(core) = cores.pop() {
+        let Ok(shared) = Arc::try_clone(shared) else {
+            return Err(Fault::NoMemory);
+        };
+        let state = CoreState {
+            shared,
+            core,
+            apart: [0; 14],
+        };
+        let Ok(()) = states.push(state) else {
+            return Err(Fault::NoMemory);
+        };
+    }
+    Ok(states)
+}

@@ -1,0 +1,60 @@
+//! Blocks are laid down at places, and fetched.
+
+ghost use Rattle.std.specs.Prelude.{◌≡◌, IfSome, IfErr};
+ghost use Rattle.core_frames.specs.Cores.{IsOutOf};
+ghost use Rattle.frame_places.specs.Places.{IsPlaceOf};
+
+use crate::place::Place;
+use atomic_table::Perch;
+use core_frames::Allocator;
+use frame_core::HeldBlock;
+use frame_table::Block;
+
+const EMPTY: u64 = 0;
+
+const FULL: u64 = 2;
+
+impl Place {
+    /// An empty place for such a block.
+    pub fn of(allocator: &Allocator, held: &Block) -> Place
+        requires { IsOutOf allocator.now held.now }
+        ensures place { IsPlaceOf allocator.now result }
+        ensures same { (result.frame ≡ held.now.frame) × (result.order ≡ held.now.order) }
+    {
+        let _ = allocator;
+        Place {
+            frame: held.frame(),
+            order: held.order(),
+            perch: Perch::new(&held.seat, EMPTY),
+        }
+    }
+
+    /// Lays the block down. Refused only where one rests here; the block is handed back then.
+    pub fn rest(&self, allocator: &Allocator, held: Block) -> Result<(), Block>
+        requires place { IsPlaceOf allocator.now self.now }
+        requires out { IsOutOf allocator.now held }
+        requires same { (held.frame ≡ self.now.frame) × (held.order ≡ self.now.order) }
+        ensures { IfErr result (IsOutOf allocator.now) }
+    {
+        let _ = allocator;
+        let frame = held.frame();
+        let order = held.order();
+        match self.perch.give(held.into_seat(), EMPTY, FULL) {
+            Ok(()) => Ok(()),
+            Err(seat) => Err(Block::of(frame, order, seat)),
+        }
+    }
+
+    /// Fetches the block that rests here, if one does.
+    pub fn fetch(&self, allocator: &Allocator) -> Option<Block>
+        requires { IsPlaceOf allocator.now self.now }
+        ensures out { IfSome result (IsOutOf allocator.now) }
+        ensures same { IfSome result (λ b. (b.frame ≡ self.now.frame) × (b.order ≡ self.now.order)) }
+    {
+        let _ = allocator;
+        match self.perch.take(EMPTY) {
+            (_, Some(seat)) => Some(Block::of(self.frame, self.order, seat)),
+            (_, None) => None,
+        }
+    }
+}

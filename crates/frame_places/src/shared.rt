@@ -1,0 +1,58 @@
+//! An allocator with a place for each block.
+
+ghost use Rattle.std.specs.Prelude.{◌≡◌, IfOk, IfErr, IfSome};
+ghost use Rattle.std.specs.List.{All};
+ghost use Rattle.core_frames.specs.Cores.{IsCoreOf};
+ghost use Rattle.frame_places.specs.Places.{IsPlaceOf, ArePlacesOf};
+
+use crate::place::Place;
+use crate::places::places_of;
+use core_frames::{Allocator, Core};
+use frame_words::{Fault, HUGE_ORDER};
+use std::alloc::Global;
+
+/// What all cores share.
+#[derive(Drop)]
+pub struct Shared {
+    pub allocator: Allocator,
+    // By order, then by frame.
+    places: Vec<Vec<Place>>,
+    pub ghost placed: { All (ArePlacesOf allocator) places.items },
+}
+
+impl Shared {
+    /// The place of the block of these numbers, if there is such a block.
+    #[inline]
+    pub fn find(&self, frame: u32, order: u8) -> Option<&Place>
+        ensures place { IfSome result (λ p. IsPlaceOf self.now.allocator p.now) }
+        ensures same { IfSome result (λ p. (p.now.frame ≡ frame) × (p.now.order ≡ order)) }
+    {
+        if order > HUGE_ORDER {
+            return None;
+        }
+        let row = self.places.get(order as usize)?;
+        let place = row.get((frame >> order) as usize)?;
+        if place.frame == frame && place.order == order {
+            Some(place)
+        } else {
+            None
+        }
+    }
+
+    /// Places for all blocks of an allocator of which none is held. Refused only for want of memory.
+    pub fn open(alloc: Global, allocator: Allocator, core: &mut Core) -> Result<Shared, Fault>
+        requires { IsCoreOf allocator core.old }
+        ensures core { IsCoreOf allocator core.new }
+        ensures same { IfOk result (λ s. s.allocator ≡ allocator) }
+        ensures err { IfErr result (λ e. e ≡ Fault.NoMemory) }
+    {
+        let mut places = Vec::new(alloc);
+        for order in 0..HUGE_ORDER + 1 {
+            let row = places_of(alloc, &allocator, core, order)?;
+            let Ok(()) = places.push(row) else {
+                return Err(Fault::NoMemory);
+            };
+        }
+        Ok(Shared { allocator, places })
+    }
+}

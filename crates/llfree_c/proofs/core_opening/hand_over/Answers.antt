@@ -1,0 +1,21 @@
+use Rattle.std.proofs.Common.{arith, rules, ◌<◌, ◌≤◌, length}
+use Rattle.std.proofs.lemmas.List.Elements.{AllWithin-more_set}
+use Rattle.llfree_c.specs.OpenCores.{IsCoreBehind}
+use Rattle.llfree_c.proofs.core_opening.hand_over.Goals as goal
+
+pub loop-handle-preserved : goal.loop-handle-preserved
+loop-handle-preserved c =
+    let inside : c.loop-handle.handle-index < length c.loop-handle.handle-items = search rules in
+    record {
+      left = λ s all. c.set_next.ensures.left s (c.loop-handle.invariant.left s all);
+      done = λ s all.
+          AllWithin-more_set c.loop-handle.handle-items c.loop-handle.handle-index c.set_next.new.handle inside
+          (IsCoreBehind s) (c.loop-handle.invariant.done s all)
+          (c.set_next.ensures.set s (c.loop-handle.invariant.left s all));
+      count = search rules;
+    }
+
+pub returns : goal.returns
+returns c =
+    let all_done : length c.loop-handle.handle-items ≤ c.loop-handle.handle-index = search rules in
+    λ s all k d less. c.loop-handle.invariant.done s all k d (omega arith) (omega arith)

@@ -1,0 +1,108 @@
+//! What C calls of an allocator for several threads, each with a core of its own.
+
+ghost use Rattle.std.specs.Prelude.{◌≡◌, ◌≢◌, ◌⊎◌, ◌<◌, ◌≤◌, false, length};
+ghost use Rattle.std.specs.List.{All};
+ghost use Rattle.frame_places.specs.Calls.{SharesOne, TakesFor, GivesFor, SplitsFor, FindsNoneFor, KeepsCore};
+ghost use Rattle.llfree_c.specs.Status.{ok, no_block, bad_order, not_held, closed, contended};
+ghost use Rattle.llfree_c.specs.OpenCores.{HasNoCores, IsClosedHandle, OpensCores};
+ghost use Rattle.llfree_c.specs.SeenCores.{OnCores};
+
+use crate::core_handle::CoreHandle;
+use crate::core_opening::{boxed_cores, hand_over};
+use crate::core_steps::{give, split, take};
+use crate::statuses::{CLOSED, OK};
+use std::alloc::Global;
+
+/// Opens an allocator of so many children, all frames free, with a core behind each of these closed
+/// handles.
+#[unsafe(no_mangle)]
+pub extern "C" fn llfree_open(handles: &mut [CoreHandle], heap: Global, children: u32) -> u32
+    ensures open { result ≡ ok → All IsClosedHandle handles.old × OpensCores children handles.new }
+    ensures refused { result ≢ ok → handles.new ≡ handles.old }
+    ensures why { result ≢ ok → HasNoCores children (length handles.old) result }
+{
+    match boxed_cores(handles, heap, children) {
+        Ok(cores) => {
+            hand_over(handles, cores);
+            OK
+        }
+        Err(status) => status,
+    }
+}
+
+/// Takes a block of the order, and writes its first frame.
+#[unsafe(no_mangle)]
+pub extern "C" fn llfree_take(
+    handle: &mut CoreHandle,
+    heap: Global,
+    order: u8,
+    frame: &mut u32,
+) -> u32
+    ensures taken { result ≡ ok
+        → OnCores (TakesFor order frame.new) handle.old.state.value handle.new.state.value }
+    ensures none { result ≡ no_block
+        → OnCores (FindsNoneFor order) handle.old.state.value handle.new.state.value }
+    ensures order { result ≡ bad_order → 9 < order }
+    ensures shared { result ≢ closed
+        → OnCores SharesOne handle.old.state.value handle.new.state.value }
+    ensures closed { result ≡ closed → (handle.old.live ≡ false) × (handle.new ≡ handle.old) }
+    ensures refused { result ≢ ok → frame.new ≡ frame.old }
+    ensures known { (result ≤ bad_order) ⊎ (result ≡ closed) ⊎ (result ≡ contended) }
+{
+    let Some(mut state) = handle.take_out(heap) else {
+        return CLOSED;
+    };
+    let status = take(&mut state, order, frame);
+    *handle = CoreHandle::of(state);
+    status
+}
+
+/// Gives exactly this block, where it is held, whichever core took it.
+#[unsafe(no_mangle)]
+pub extern "C" fn llfree_give(handle: &mut CoreHandle, heap: Global, frame: u32, order: u8) -> u32
+    ensures given { result ≡ ok
+        → OnCores (GivesFor order frame) handle.old.state.value handle.new.state.value }
+    ensures same { result ≡ not_held
+        → OnCores KeepsCore handle.old.state.value handle.new.state.value }
+    ensures shared { result ≢ closed
+        → OnCores SharesOne handle.old.state.value handle.new.state.value }
+    ensures closed { result ≡ closed → (handle.old.live ≡ false) × (handle.new ≡ handle.old) }
+    ensures known { (result ≡ ok) ⊎ (result ≡ not_held) ⊎ (result ≡ closed) }
+{
+    let Some(mut state) = handle.take_out(heap) else {
+        return CLOSED;
+    };
+    let status = give(&mut state, frame, order);
+    *handle = CoreHandle::of(state);
+    status
+}
+
+/// Splits exactly this block into its halves, where it is held; any core gives each by itself then.
+#[unsafe(no_mangle)]
+pub extern "C" fn llfree_split(handle: &mut CoreHandle, heap: Global, frame: u32, order: u8) -> u32
+    ensures split { result ≡ ok
+        → OnCores (SplitsFor order frame) handle.old.state.value handle.new.state.value }
+    ensures same { (result ≡ not_held) ⊎ (result ≡ bad_order)
+        → OnCores KeepsCore handle.old.state.value handle.new.state.value }
+    ensures whole { result ≡ bad_order → order ≡ 0 }
+    ensures shared { result ≢ closed
+        → OnCores SharesOne handle.old.state.value handle.new.state.value }
+    ensures closed { result ≡ closed → (handle.old.live ≡ false) × (handle.new ≡ handle.old) }
+    ensures known { (result ≡ ok) ⊎ (result ≡ bad_order) ⊎ (result ≡ not_held)
+        ⊎ (result ≡ closed) ⊎ (result ≡ contended) }
+{
+    let Some(mut state) = handle.take_out(heap) else {
+        return CLOSED;
+    };
+    let status = split(&mut state, frame, order);
+    *handle = CoreHandle::of(state);
+    status
+}
+
+/// Closes the handle of a core. The last core of an allocator frees it.
+#[unsafe(no_mangle)]
+pub extern "C" fn llfree_close(handle: &mut CoreHandle, heap: Global)
+    ensures { handle.new.live ≡ false }
+{
+    let _state = handle.take_out(heap);
+}

@@ -1,0 +1,87 @@
+//! The cores of a fresh allocator, a box each.
+
+ghost use Rattle.std.specs.Prelude.{◌≡◌, ◌+◌, ◌<◌, IfOk, IfErr, length, map, vec_len};
+ghost use Rattle.std.specs.List.{All};
+ghost use Rattle.frame_places.specs.declared.shared.Shared.{Shared};
+ghost use Rattle.llfree_c.specs.Status.{no_memory};
+ghost use Rattle.llfree_c.specs.OpenCores.{BoxShares, HasNoCores, ShareOne, IsClosedHandle, IsCoreBehind};
+
+use crate::core_handle::CoreHandle;
+use crate::crossing::may_cross;
+use crate::statuses::{BAD_GEOMETRY, NO_MEMORY, NOT_CLOSED};
+use frame_places::{CoreState, open_cores};
+use frame_words::{Geometry, MOST_CORES};
+use std::alloc::Global;
+
+pub(crate) fn boxed_cores(
+    handles: &[CoreHandle],
+    heap: Global,
+    children: u32,
+) -> Result<Vec<Box<CoreState, Global>>, u32>
+    ensures count { IfOk result (λ cores. vec_len cores ≡ length handles.now) }
+    ensures closed { IfOk result (λ _. All IsClosedHandle handles.now) }
+    ensures cores { IfOk result (λ cores. ShareOne children cores.items) }
+    ensures err { IfErr result (HasNoCores children (length handles.now)) }
+{
+    for handle in handles {
+        if handle.live {
+            return Err(NOT_CLOSED);
+        }
+    }
+    let count = handles.len();
+    if count > MOST_CORES as usize {
+        return Err(BAD_GEOMETRY);
+    }
+    let Ok(geometry) = Geometry::new(children, count as u32) else {
+        return Err(BAD_GEOMETRY);
+    };
+    let Ok(states) = open_cores(heap, geometry) else {
+        return Err(NO_MEMORY);
+    };
+    let cores = boxed(heap, states)?;
+    if cores.len() == count {
+        Ok(cores)
+    } else {
+        Err(NO_MEMORY)
+    }
+}
+
+fn boxed(heap: Global, states: Vec<CoreState>) -> Result<Vec<Box<CoreState, Global>>, u32>
+    ensures cores { IfOk result (λ cores. map (λ b. b.value) cores.items ≡ states.items) }
+    ensures err { IfErr result (λ e. e ≡ no_memory) }
+{
+    let mut cores = Vec::new(heap);
+    for state in states {
+        let Ok(core) = Box::new(heap, state) else {
+            return Err(NO_MEMORY);
+        };
+        let Ok(()) = cores.push(core) else {
+            return Err(NO_MEMORY);
+        };
+    }
+    Ok(cores)
+}
+
+pub(crate) fn hand_over(handles: &mut [CoreHandle], mut cores: Vec<Box<CoreState, Global>>)
+    requires { vec_len cores ≡ length handles.old }
+    ensures { (shared : Shared) → All (BoxShares shared) cores.items
+        → All (IsCoreBehind shared) handles.new }
+{
+    for handle in handles {
+        set_next(handle, &mut cores);
+    }
+}
+
+fn set_next(handle: &mut CoreHandle, cores: &mut Vec<Box<CoreState, Global>>)
+    requires { 0 < vec_len cores.old }
+    ensures set { (shared : Shared) → All (BoxShares shared) cores.old.items
+        → IsCoreBehind shared handle.new }
+    ensures left { (shared : Shared) → All (BoxShares shared) cores.old.items
+        → All (BoxShares shared) cores.new.items }
+    ensures count { vec_len cores.new + 1 ≡ vec_len cores.old }
+{
+    if let Some(core) = cores.pop() {
+        *handle = CoreHandle::of(core);
+        may_cross(handle);
+    }
+}

@@ -1,0 +1,56 @@
+//! The calls on a core, by numbers.
+
+ghost use Rattle.std.specs.Prelude.{◌≡◌, ◌≢◌, ◌⊎◌, ◌<◌, ◌≤◌};
+ghost use Rattle.llfree_c.specs.Status.{ok, no_block, bad_order, not_held, contended};
+ghost use Rattle.frame_places.specs.Calls.{SharesOne, TakesFor, GivesFor, SplitsFor, FindsNoneFor, KeepsCore};
+
+use crate::statuses::{BAD_ORDER, CONTENDED, NO_BLOCK, NOT_HELD, OK};
+use frame_places::{CoreState, Refusal};
+use frame_words::TakeFault;
+
+pub(crate) fn take(state: &mut CoreState, order: u8, frame: &mut u32) -> u32
+    ensures shared { SharesOne state.old state.new }
+    ensures taken { result ≡ ok → TakesFor order frame.new state.old state.new }
+    ensures none { result ≡ no_block → FindsNoneFor order state.old state.new }
+    ensures order { result ≡ bad_order → 9 < order }
+    ensures known { (result ≤ bad_order) ⊎ (result ≡ contended) }
+    ensures refused { result ≢ ok → frame.new ≡ frame.old }
+{
+    match state.take(order) {
+        Ok(first) => {
+            *frame = first;
+            OK
+        }
+        Err(TakeFault::BadOrder) => BAD_ORDER,
+        Err(TakeFault::NoBlock) => NO_BLOCK,
+        Err(TakeFault::Contended) => CONTENDED,
+    }
+}
+
+pub(crate) fn give(state: &mut CoreState, frame: u32, order: u8) -> u32
+    ensures shared { SharesOne state.old state.new }
+    ensures given { result ≡ ok → GivesFor order frame state.old state.new }
+    ensures same { result ≡ not_held → KeepsCore state.old state.new }
+    ensures known { (result ≡ ok) ⊎ (result ≡ not_held) }
+{
+    match state.give(frame, order) {
+        Ok(()) => OK,
+        Err(_) => NOT_HELD,
+    }
+}
+
+pub(crate) fn split(state: &mut CoreState, frame: u32, order: u8) -> u32
+    ensures shared { SharesOne state.old state.new }
+    ensures split { result ≡ ok → SplitsFor order frame state.old state.new }
+    ensures whole { result ≡ bad_order → (order ≡ 0) × KeepsCore state.old state.new }
+    ensures same { result ≡ not_held → KeepsCore state.old state.new }
+    ensures known { (result ≡ ok) ⊎ (result ≡ bad_order) ⊎ (result ≡ not_held)
+        ⊎ (result ≡ contended) }
+{
+    match state.split(frame, order) {
+        Ok(()) => OK,
+        Err(Refusal::NoHalves) => BAD_ORDER,
+        Err(Refusal::NotHeld) => NOT_HELD,
+        Err(Refusal::NoPlace) => CONTENDED,
+    }
+}

@@ -1,0 +1,311 @@
+/* The library for C with a handle for each core: every status, blocks that cross between threads,
+ * wrong numbers under way, and races of threads for one give. A failed check says where. */
+#include "llfree.h"
+#include <pthread.h>
+#include <stdatomic.h>
+#include <stdio.h>
+#include <stdlib.h>
+#include <string.h>
+
+#define CHECK(x)                                                         \
+    do {                                                                 \
+        if (!(x)) {                                                      \
+            fprintf(stderr, "%s:%d: %s\n", __FILE__, __LINE__, #x);      \
+            exit(1);                                                     \
+        }                                                                \
+    } while (0)
+
+enum { CORES = 4, CHILDREN = 32, FRAMES = CHILDREN * 512, LARGEST = 9 };
+enum { HELD = 200, ROUNDS = 60000, CROSSING = 256, RACES = 200 };
+
+static llfree_core cores[CORES];
+static _Atomic unsigned char owner[FRAMES];
+static _Atomic uint64_t crossing[CROSSING];
+
+/* Each status of each call, with nobody else about. */
+static void statuses(void)
+{
+    llfree_core h[2] = { LLFREE_CLOSED, LLFREE_CLOSED }, many[65];
+    uint32_t f = 77, g = 77;
+
+    memset(many, 0, sizeof many);
+    CHECK(llfree_take(&h[0], 0, &f) == LLFREE_CLOSED_HANDLE && f == 77);
+    CHECK(llfree_give(&h[0], 0, 0) == LLFREE_CLOSED_HANDLE);
+    CHECK(llfree_split(&h[0], 0, 1) == LLFREE_CLOSED_HANDLE);
+    llfree_close(&h[0]);
+    CHECK(llfree_open(h, 0, 3) == LLFREE_BAD_GEOMETRY);
+    CHECK(llfree_open(many, 65, 3) == LLFREE_BAD_GEOMETRY);
+    CHECK(llfree_open(h, 2, 0) == LLFREE_BAD_GEOMETRY);
+    CHECK(llfree_open(h, 2, 4097) == LLFREE_BAD_GEOMETRY);
+    CHECK(llfree_open(h, 2, UINT32_MAX) == LLFREE_BAD_GEOMETRY);
+    CHECK(llfree_open(h + 1, 1, 1) == LLFREE_OK);
+    CHECK(llfree_open(h, 2, 3) == LLFREE_OPEN_HANDLE);
+    CHECK(llfree_take(&h[0], 0, &f) == LLFREE_CLOSED_HANDLE);
+    llfree_close(&h[1]);
+    CHECK(llfree_open(h, 2, 3) == LLFREE_OK);
+    CHECK(llfree_take(&h[0], 10, &f) == LLFREE_BAD_ORDER && f == 77);
+    CHECK(llfree_take(&h[0], 255, &f) == LLFREE_BAD_ORDER && f == 77);
+    CHECK(llfree_take(&h[0], 3, &f) == LLFREE_OK && f % 8 == 0 && f < 3 * 512);
+    CHECK(llfree_give(&h[1], f, 2) == LLFREE_NOT_HELD);
+    CHECK(llfree_give(&h[1], f + 1, 0) == LLFREE_NOT_HELD);
+    CHECK(llfree_give(&h[1], f, 200) == LLFREE_NOT_HELD);
+    CHECK(llfree_give(&h[1], UINT32_MAX, 3) == LLFREE_NOT_HELD);
+    CHECK(llfree_split(&h[1], f, 2) == LLFREE_NOT_HELD);
+    CHECK(llfree_split(&h[1], f, 0) == LLFREE_BAD_ORDER);
+    CHECK(llfree_take(&h[1], LARGEST, &g) == LLFREE_OK && g % 512 == 0);
+    CHECK(llfree_give(&h[1], f, 3) == LLFREE_OK);
+    CHECK(llfree_give(&h[0], f, 3) == LLFREE_NOT_HELD);
+    CHECK(llfree_give(&h[0], g, LARGEST) == LLFREE_OK);
+    llfree_close(&h[0]);
+    CHECK(llfree_take(&h[1], 0, &f) == LLFREE_OK);
+    llfree_close(&h[1]);
+    llfree_close(&h[1]);
+}
+
+/* Every frame is given out once, of a memory whose last tree is smaller than the others. */
+static void every_frame_once(void)
+{
+    enum { ALL = 11 * 512 };
+    static unsigned char seen[ALL];
+    llfree_core h[2] = { LLFREE_CLOSED, LLFREE_CLOSED };
+    uint32_t f = 0;
+
+    CHECK(llfree_open(h, 2, 11) == LLFREE_OK);
+    for (int i = 0; i < ALL; i++) {
+        CHECK(llfree_take(&h[i % 2], 0, &f) == LLFREE_OK && f < ALL && !seen[f]);
+        seen[f] = 1;
+    }
+    for (uint8_t order = 0; order <= LARGEST; order++)
+        CHECK(llfree_take(&h[0], order, &f) == LLFREE_NO_BLOCK);
+    for (uint32_t i = 0; i < ALL; i++)
+        CHECK(llfree_give(&h[i / 7 % 2], i, 0) == LLFREE_OK);
+    for (int i = 0; i < 11; i++)
+        CHECK(llfree_take(&h[i % 2], LARGEST, &f) == LLFREE_OK);
+    CHECK(llfree_take(&h[0], 0, &f) == LLFREE_NO_BLOCK);
+    llfree_close(&h[0]);
+    llfree_close(&h[1]);
+}
+
+/* A huge frame is split by two cores down to single frames, and joined by giving them. */
+static void splits(void)
+{
+    llfree_core h[2] = { LLFREE_CLOSED, LLFREE_CLOSED };
+    uint32_t f = 0;
+
+    CHECK(llfree_open(h, 2, 1) == LLFREE_OK);
+    CHECK(llfree_take(&h[0], LARGEST, &f) == LLFREE_OK && f == 0);
+    for (uint8_t order = LARGEST; order > 0; order--) {
+        CHECK(llfree_split(&h[order % 2], 0, order) == LLFREE_OK);
+        CHECK(llfree_give(&h[0], 0, order) == LLFREE_NOT_HELD);
+        CHECK(llfree_give(&h[1], 1u << (order - 1), order - 1) == LLFREE_OK);
+    }
+    CHECK(llfree_give(&h[0], 0, 0) == LLFREE_OK);
+    CHECK(llfree_take(&h[1], LARGEST, &f) == LLFREE_OK && f == 0);
+    llfree_close(&h[0]);
+    llfree_close(&h[1]);
+}
+
+static void mark(uint32_t f, uint8_t order, unsigned char from)
+{
+    CHECK(order <= LARGEST && f % (1u << order) == 0 && f + (1u << order) <= FRAMES);
+    for (uint32_t i = f; i < f + (1u << order); i++)
+        CHECK(atomic_exchange(&owner[i], !from) == from);
+}
+
+static void give(llfree_core *me, uint32_t f, uint8_t order)
+{
+    mark(f, order, 1);
+    CHECK(llfree_give(me, f, order) == LLFREE_OK);
+}
+
+static void *work(void *handle)
+{
+    llfree_core *me = handle;
+    uint64_t x = 88172645463325252ull + (uint64_t)(me - cores) * 7919;
+    uint32_t frames[HELD + 1];
+    uint8_t orders[HELD + 1];
+    int n = 0;
+
+    for (int round = 0; round < ROUNDS; round++) {
+        x ^= x << 13;
+        x ^= x >> 7;
+        x ^= x << 17;
+        uint8_t order = x % 16 < 12 ? 0 : x % 10;
+        if (n < HELD && (x >> 20) % 2) {
+            uint32_t f = 0, status = llfree_take(me, order, &f);
+            CHECK(status == LLFREE_OK || status == LLFREE_NO_BLOCK || status == LLFREE_CONTENDED);
+            if (status != LLFREE_OK)
+                continue;
+            mark(f, order, 0);
+            frames[n] = f;
+            orders[n++] = order;
+        } else if (n > 0) {
+            int i = (x >> 24) % n;
+            uint32_t f = frames[i];
+            uint8_t of = orders[i];
+            frames[i] = frames[--n];
+            orders[i] = orders[n];
+            /* wrong numbers: another order, and a frame past the end */
+            if ((x >> 52) % 8 == 0)
+                CHECK(llfree_give(me, f, of + 1) == LLFREE_NOT_HELD);
+            CHECK(llfree_give(me, f + FRAMES, of) == LLFREE_NOT_HELD);
+            if (of > 0 && (x >> 36) % 4 == 0) {
+                CHECK(llfree_split(me, f, of) == LLFREE_OK);
+                CHECK(llfree_split(me, f, of) == LLFREE_NOT_HELD);
+                give(me, f + (1u << (of - 1)), of - 1);
+                of--;
+            }
+            /* it goes to another thread, or is given here: what was left there before is given then */
+            if ((x >> 40) % 4 == 0) {
+                uint64_t put = ((uint64_t)f << 8 | of) + 1;
+                uint64_t old = atomic_exchange(&crossing[(x >> 42) % CROSSING], put);
+                if (!old)
+                    continue;
+                f = (uint32_t)((old - 1) >> 8);
+                of = (uint8_t)(old - 1);
+            }
+            give(me, f, of);
+        }
+    }
+    while (n > 0) {
+        n--;
+        give(me, frames[n], orders[n]);
+    }
+    return NULL;
+}
+
+static void on_threads(void *(*run)(void *))
+{
+    pthread_t threads[CORES];
+
+    for (int i = 0; i < CORES; i++)
+        CHECK(pthread_create(&threads[i], NULL, run, &cores[i]) == 0);
+    for (int i = 0; i < CORES; i++)
+        CHECK(pthread_join(threads[i], NULL) == 0);
+}
+
+/* Four threads; at the end all is free. A handle that another thread used may be moved. */
+static void threads(void)
+{
+    llfree_core moved;
+    uint32_t f = 0;
+
+    CHECK(llfree_open(cores, CORES, CHILDREN) == LLFREE_OK);
+    on_threads(work);
+    for (int i = 0; i < CROSSING; i++) {
+        uint64_t put = atomic_load(&crossing[i]);
+        if (put)
+            give(&cores[i % CORES], (uint32_t)((put - 1) >> 8), (uint8_t)(put - 1));
+    }
+    for (int i = 0; i < CHILDREN; i++)
+        CHECK(llfree_take(&cores[i % CORES], LARGEST, &f) == LLFREE_OK);
+    CHECK(llfree_take(&cores[0], 0, &f) == LLFREE_NO_BLOCK);
+    for (int i = 1; i < CHILDREN; i++)
+        CHECK(llfree_give(&cores[i % CORES], 512u * i, LARGEST) == LLFREE_OK);
+    memcpy(&moved, &cores[1], sizeof moved);
+    memset(&cores[1], 0, sizeof cores[1]);
+    CHECK(llfree_give(&moved, 0, LARGEST) == LLFREE_OK);
+    memcpy(&cores[1], &moved, sizeof moved);
+}
+
+static _Atomic int given, split, arrived;
+static uint32_t target;
+static bool splitting;
+
+static void *race(void *handle)
+{
+    /* all threads are there before any calls */
+    atomic_fetch_add(&arrived, 1);
+    while (atomic_load(&arrived) < CORES)
+        ;
+    if (splitting && (llfree_core *)handle - cores < CORES / 2)
+        atomic_fetch_add(&split, llfree_split(handle, target, 4) == LLFREE_OK);
+    else
+        atomic_fetch_add(&given, llfree_give(handle, target, 4) == LLFREE_OK);
+    return NULL;
+}
+
+/* Threads race for one give, and gives for a split: exactly one has it. */
+static void races(void)
+{
+    for (int i = 0; i < RACES; i++) {
+        splitting = i % 2;
+        given = split = arrived = 0;
+        CHECK(llfree_take(&cores[i % CORES], 4, &target) == LLFREE_OK);
+        on_threads(race);
+        CHECK(given + split == 1);
+        if (split == 1) {
+            CHECK(llfree_give(&cores[0], target, 3) == LLFREE_OK);
+            CHECK(llfree_give(&cores[1], target + 8, 3) == LLFREE_OK);
+        }
+        CHECK(llfree_give(&cores[2], target, 4) == LLFREE_NOT_HELD);
+    }
+    for (int i = 0; i < CORES; i++)
+        llfree_close(&cores[i]);
+}
+
+/* A million calls with numbers at random, by one thread through two cores. What is held is remembered
+ * beside: a block of an order begins at a frame where begins[frame] is the order and 1. */
+static void random_numbers(void)
+{
+    enum { ALL = 4 * 512 };
+    static unsigned char begins[ALL], taken[ALL];
+    uint64_t x = 2463534242ull;
+    llfree_core h[2] = { LLFREE_CLOSED, LLFREE_CLOSED };
+
+    CHECK(llfree_open(h, 2, 4) == LLFREE_OK);
+    for (int round = 0; round < 1000000; round++) {
+        x ^= x << 13;
+        x ^= x >> 7;
+        x ^= x << 17;
+        llfree_core *me = &h[(x >> 60) % 2];
+        uint8_t order = (uint8_t)((x >> 8) % 12);
+        uint32_t f = (x >> 16) % 8 == 0 ? (uint32_t)(x >> 20) : (uint32_t)(x >> 20) % ALL;
+        uint32_t size = order <= LARGEST ? 1u << order : 0;
+        bool is_out = f < ALL && order <= LARGEST && begins[f] == order + 1;
+        if (x % 3 == 0) {
+            uint32_t was = f, status = llfree_take(me, order, &f);
+            if (status != LLFREE_OK) {
+                CHECK(f == was);
+                CHECK(status == (order > LARGEST ? LLFREE_BAD_ORDER : LLFREE_NO_BLOCK));
+                continue;
+            }
+            CHECK(f % size == 0 && f + size <= ALL);
+            for (uint32_t i = f; i < f + size; i++) {
+                CHECK(!taken[i]);
+                taken[i] = 1;
+            }
+            begins[f] = order + 1;
+        } else if (x % 3 == 1) {
+            CHECK(llfree_give(me, f, order) == (is_out ? LLFREE_OK : LLFREE_NOT_HELD));
+            if (is_out) {
+                memset(taken + f, 0, size);
+                begins[f] = 0;
+            }
+        } else {
+            uint32_t status = llfree_split(me, f, order);
+            if (order == 0) {
+                CHECK(status == LLFREE_BAD_ORDER);
+            } else if (!is_out) {
+                CHECK(status == LLFREE_NOT_HELD);
+            } else {
+                CHECK(status == LLFREE_OK);
+                begins[f] = begins[f + size / 2] = order;
+            }
+        }
+    }
+    llfree_close(&h[1]);
+    llfree_close(&h[0]);
+}
+
+int main(void)
+{
+    statuses();
+    every_frame_once();
+    splits();
+    random_numbers();
+    threads();
+    races();
+    puts("all checks passed");
+    return 0;
+}
