@@ -13,6 +13,7 @@ pub mod PlainImage
 pub mod PlainOthers
 pub mod PlainCompany
 pub mod Checks
+pub mod Cues
 pub mod Scripts
 pub mod ByHand
 pub mod Counters

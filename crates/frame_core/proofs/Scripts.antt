@@ -1,9 +1,8 @@
 -- Each half of a move by a script, joined to what the trait tells of the move.
-use Rattle.std.proofs.Common.{◌≡◌, ◌≢◌, ◌⊎◌, inl, inr, ⊎_elim, ℕ, ◌-◌, ◌<◌, ◌≤◌, List, ◌∷◌, length, get_or, Bool, true, false, ◌||◌, Option}
+use Rattle.std.proofs.Common.{◌≡◌, ◌≢◌, ◌⊎◌, inl, inr, ⊎_elim, ℕ, ◌-◌, ◌≤◌, List, Bool, true, false, ◌||◌, Option}
 use Rattle.std.proofs.Common.{Some, refl, ap, sym, subst, ◌∙◌, arith}
 use Rattle.std.specs.Prelude.{slice_get, slice_index}
 use Rattle.std.specs.List.{All}
-use Rattle.std.proofs.Math.Logic.{∥∥₁_map}
 use Rattle.frame_words.specs.Words.{rest_in}
 use Rattle.frame_model.specs.declared.block.FrameBlock.{FrameBlock}
 use Rattle.frame_model.specs.declared.key.Key.{Key}
@@ -12,20 +11,20 @@ use Rattle.frame_core.specs.declared.plain.PlainMoves.{PlainMoves}
 use Rattle.frame_core.specs.declared.plain.party.Company.{Company}
 use Rattle.frame_core.specs.declared.script.ScriptMoves.{ScriptMoves}
 use Rattle.frame_core.specs.declared.script.cue.Cue.{Cue}
-use Rattle.frame_core.specs.declared.script.cue.What.TheVariants.{Stop}
+use Rattle.frame_core.specs.declared.script.cue.What.TheVariants.{Lose, Stop}
 use Rattle.frame_model.specs.declared.view.View.{View}
-use Rattle.frame_model.specs.Steps.{Kind, swap_local, place, effect, after_load}
+use Rattle.frame_model.specs.Steps.{Kind, swap_local, place, effect, after_load, after_loss}
 use Rattle.frame_model.specs.Words.{IsRest}
 use Rattle.frame_core.specs.Moves.{hand_out_block, place_of, HasLayout, ReadsBut, after, Changes}
 use Rattle.frame_core.specs.Mover.{Mover, IsApart, Keeps, Loads, Tries, Makes, Swaps, HandsOut, HandsIn}
 use Rattle.frame_model.specs.Seats.{hand_in, left_by, joined_by}
 use Rattle.frame_model.specs.View.{holder}
-use Rattle.frame_model.specs.Fit.{Fit}
-use Rattle.frame_core.specs.Plain.{plain_tick, plain_mover, IsIdleParty, IsOutIn, Agrees}
-use Rattle.frame_core.specs.PlainState.{key_by, words_by, view_by, IsStill}
-use Rattle.frame_core.specs.Script.{IsPast, IsNotAt, NoneAt, LosesAt, HasCue, StopsAt}
-use Rattle.frame_core.specs.ScriptState.{at_by, read_by, scripted, script_mover, IsOver, IsQuiet, IsUntold, IsReady, IsLost, FindsWord}
+use Rattle.frame_core.specs.Plain.{plain_tick, plain_mover, IsIdleParty, IsOutIn}
+use Rattle.frame_core.specs.PlainState.{key_by, words_by, view_by, Loses}
+use Rattle.frame_core.specs.Script.{IsPast, NoneAt, LosesAt, ShowsStop}
+use Rattle.frame_core.specs.ScriptState.{at_by, read_by, scripted, script_mover, IsOver, IsReady, IsLost, FindsWord}
 use Rattle.frame_core.specs.ScriptLaws.{over_is_quiet}
+use Rattle.frame_core.proofs.Cues.{is_not_at, stepped}
 use Rattle.frame_core.proofs.PlainSteps.{apart_known, got}
 
 -- what the plain moves have
@@ -79,6 +78,59 @@ module _ (m n : ScriptMoves) (kind : Kind) (p seen : ℕ) (is : IsLost p seen m 
     apart = subst (λ (key : Key). IsApart key (view_by n.plain)) is.key
         (apart_known (key_by n.plain) (words_by n.plain) n.plain.outs.items (view_by n.plain) n.plain.agrees);
   }
+
+-- The cues were made and the exchange is lost: a cue says so, or another word stands there.
+module _ (m r w n : ScriptMoves) (place seen word : ℕ) (ready : IsReady m r) (lose : Loses r.plain w.plain)
+    (cues : w.cues ≡ r.cues) (begun : w.begun ≡ r.begun) (missed : w.missed ≡ true) (read : w.read ≡ r.read)
+    (finds : FindsWord place w n) (value : slice_index (words_by w.plain) place ≡ word) (here : read_by n place ≡ Some word)
+    (why : LosesAt (at_by m) m.cues.items ⊎ (slice_index (words_by r.plain) place ≢ seen)) where
+  stood : word ≡ slice_index (words_by r.plain) place
+  stood = sym value ∙ ap (λ ws. slice_index ws.items place) lose.words
+
+  no_cue : NoneAt (at_by m) m.cues.items → LosesAt (at_by m) m.cues.items → ⊥
+  no_cue none by =
+      let stops : by.0.what ≡ Stop = is_not_at (at_by m) m.cues.items by.1.0.0 by.0 none by.1.0.1 by.1.1 in
+      let loses : by.0.what ≡ Lose = by.1.2 in
+      absurd (cc)
+
+  lost_there : IsLost place seen m n
+  lost_there = record {
+    key = ap key_by finds.plain ∙ lose.own.key ∙ ready.still.key;
+    view = ap view_by finds.plain ∙ lose.view ∙ ap (after_loss plain_tick) ready.still.view;
+    outs = ap (λ (p : PlainMoves). p.outs) finds.plain ∙ lose.outs ∙ ready.still.outs;
+    cues = finds.cues ∙ cues ∙ ready.untold.cues;
+    begun = finds.begun ∙ begun ∙ ready.untold.begun;
+    missed = finds.missed ∙ missed;
+    reads = λ i ne. finds.reads i ne ∙ ap (λ l. slice_get l.items i) (read ∙ ready.untold.read);
+    found = word;
+    here = here;
+    lost = ⊎_elim (λ by. inl by) (λ other. inr (λ e. other (sym stood ∙ e))) why;
+    quiet = λ none. let q = ready.quiet none in (
+      ⊎_elim (λ by. absurd (no_cue none by)) (λ other. λ e. other (ap (λ ws. slice_index ws.items place) q.words ∙ e)) why,
+      record {
+        words = ap (λ (p : PlainMoves). p.words) finds.plain ∙ lose.words ∙ q.words;
+        them = ap (λ (p : PlainMoves). p.them) finds.plain ∙ lose.own.them ∙ q.them;
+      },
+    );
+  }
+
+module _ (m r w n : ScriptMoves) (spot : Place) (seen word : ℕ) (ready : IsReady m r) (lose : Loses r.plain w.plain)
+    (finds : FindsWord (place_of (key_by w.plain) spot) w n)
+    (value : slice_index (words_by w.plain) (place_of (key_by w.plain) spot) ≡ word)
+    (here : read_by n (place_of (key_by w.plain) spot) ≡ Some word)
+    (why : LosesAt (at_by m) m.cues.items ⊎ (slice_index (words_by r.plain) (place_of (key_by r.plain) spot) ≢ seen)) where
+  same_spot : key_by w.plain ≡ key_by m.plain
+  same_spot = lose.own.key ∙ ready.still.key
+
+  pub lost_found : w.cues ≡ r.cues → w.begun ≡ r.begun → w.missed ≡ true → w.read ≡ r.read
+      → IsLost (place_of (key_by m.plain) spot) seen m n
+  lost_found cues begun missed read =
+      lost_there m r w n (place_of (key_by m.plain) spot) seen word ready lose cues begun missed read
+      (subst (λ (k : Key). FindsWord (place_of k spot) w n) same_spot finds)
+      (subst (λ (k : Key). slice_index (words_by w.plain) (place_of k spot) ≡ word) same_spot value)
+      (subst (λ (k : Key). read_by n (place_of k spot) ≡ Some word) same_spot here)
+      (subst (λ (k : Key). LosesAt (at_by m) m.cues.items ⊎ (slice_index (words_by r.plain) (place_of k spot) ≢ seen))
+      ready.still.key why)
 
 -- The plain step of a move was made between its two halves.
 module _ (m r : ScriptMoves) (p now : PlainMoves) (cs : List Cue) (begun : ℕ) (ready : IsReady m r) (tie : p.them ≡ r.plain.them)
@@ -288,57 +340,10 @@ module _ (m r : ScriptMoves) (p : PlainMoves) (ready : IsReady m r) (b : FrameBl
         words = λ none. words_on (is.words tt) none;
       }
 
--- One cue more was met.
-
-pub still_both : (a b c : PlainMoves) → IsStill a b → IsStill b c → IsStill a c
-still_both a b c s t = record {
-  key = t.key ∙ s.key;
-  view = t.view ∙ s.view;
-  outs = t.outs ∙ s.outs;
-  parties = t.parties ∙ s.parties;
-}
-
-pub untold_both : (a b c : ScriptMoves) → IsUntold a b → IsUntold b c → IsUntold a c
-untold_both a b c s t = record {
-  cues = t.cues ∙ s.cues;
-  read = t.read ∙ s.read;
-  begun = t.begun ∙ s.begun;
-  missed = t.missed ∙ s.missed;
-}
-
--- no move of the caller was made
-pub same_at : (a b : ScriptMoves) → IsStill a.plain b.plain → IsUntold a b → at_by b ≡ at_by a
-same_at a b still untold = omega (arith, ap (λ (v : View). v.moves) still.view, untold.begun)
-
-pub quiet_both : (m l n : ScriptMoves) (cue : Cue) (i : ℕ) → IsStill m.plain l.plain → IsUntold m l
-    → i < length m.cues.items → cue ≡ get_or l.cues.items i cue
-    → (NoneAt (at_by m) m.cues.items → IsQuiet m.plain l.plain)
-    → (IsNotAt (at_by l) cue → IsQuiet l.plain n.plain)
-    → NoneAt (at_by m) m.cues.items → IsQuiet m.plain n.plain
-quiet_both m l n cue i still untold inside at before now none =
-    let here : cue ≡ get_or m.cues.items i cue = at ∙ ap (λ cs. get_or cs.items i cue) untold.cues in
-    let not : IsNotAt (at_by m) cue = subst (IsNotAt (at_by m)) (sym here) (none i cue inside) in
-    let q = now (subst (λ (k : ℕ). IsNotAt k cue) (sym (same_at m l still untold)) not) in
-    record { words = q.words ∙ (before none).words; them = q.them ∙ (before none).them }
-
-pub loses_still : (m l : ScriptMoves) → IsStill m.plain l.plain → IsUntold m l → LosesAt (at_by l) l.cues.items
-    → LosesAt (at_by m) m.cues.items
-loses_still m l still untold loses =
-    subst (λ (k : ℕ). LosesAt k m.cues.items) (same_at m l still untold)
-    (subst (λ cs. LosesAt (at_by l) cs.items) untold.cues loses)
-
--- The words just before a move that a cue Stop names.
-pub stop_here : (m : ScriptMoves) (cue : Cue) (ws : List ℕ) → HasCue m.cues.items cue → cue.at ≡ at_by m → cue.what ≡ Stop
-    → ws ≡ words_by m.plain → ∥ StopsAt (key_by m.plain) m.begun m.cues.items ws ∥₁
-stop_here m cue ws has at stops same =
-    ∥∥₁_map m.plain.agrees (λ (a : Agrees (key_by m.plain) m.plain.them (words_by m.plain) m.plain.outs.items (view_by m.plain)).
-    record {
-      cue = cue;
-      is_cue = has;
-      stops = stops;
-      caller = view_by m.plain;
-      moves = sym at;
-      others = a.others;
-      shares = a.shares;
-      fit = subst (λ (l : List ℕ). Fit (key_by m.plain) a.shares l (view_by m.plain ∷ a.others)) (sym same) a.fit;
-    })
+-- An exchange was tried: the script shows the last stop of all moves so far.
+module _ (m r : ScriptMoves) (p : PlainMoves) (kind : Kind) (seen : ℕ) (ready : IsReady m r)
+    (ticks : (v : View) → (after plain_tick kind v).moves ≡ plain_tick v.moves) where
+  pub tried : (made : Bool) → Tries plain_tick kind seen made (at_plain r.plain) (at_plain p)
+      → ∥ ShowsStop (key_by p) r.begun (p.moves - r.begun) 0 r.cues.items r.has_stopped r.stop.words ∥₁
+  tried true is = stepped m r p _ ready is.keeps.same_key is.view (ticks (view_by r.plain))
+  tried false is = stepped m r p _ ready is.keeps.same_key is.view refl

@@ -1,5 +1,5 @@
 -- What moves by a script have, and what its cues and each half of a move leave.
-use Rattle.std.specs.Prelude.{◌≡◌, ◌≢◌, ◌⊎◌, ℕ, ◌+◌, ◌-◌, ◌<◌, min, List, Option, Some, None, if◌then◌else◌, Bool, true, false, MatchBool, slice_get, slice_index}
+use Rattle.std.specs.Prelude.{◌≡◌, ◌≢◌, ◌⊎◌, ℕ, ◌+◌, ◌-◌, ◌<◌, min, List, Option, Some, None, if◌then◌else◌, Bool, true, false, MatchBool, slice_get, slice_index, length, zero, suc}
 use Rattle.std.specs.List.{All}
 use Rattle.frame_model.specs.declared.block.FrameBlock.{FrameBlock}
 use Rattle.frame_core.specs.declared.act.Act.{Act}
@@ -15,7 +15,7 @@ use Rattle.frame_core.specs.Mover.{Mover}
 use Rattle.frame_core.specs.Plain.{plain_tick, IsIdleParty, IsOutIn}
 use Rattle.frame_core.specs.PlainState.{key_by, words_by, view_by, IsStill}
 use Rattle.frame_core.specs.Allowed.{TheyMayAct}
-use Rattle.frame_core.specs.Script.{IsPast, NoneAt, LosesAt, StopsAt}
+use Rattle.frame_core.specs.Script.{IsPast, NoneAt, LosesAt, NoStop, ShowsStop, StopsAt}
 
 -- the words, and what the caller has in flight
 abbrev pub plain_by : ScriptMoves → PlainMoves
@@ -98,11 +98,59 @@ CountsCue (Stranger who act) is_exchange old new =
     ⊎ ((new.skipped ≡ one_skipped old.skipped) × (StrangerMay who act old.plain → ⊥))
 CountsCue Stop is_exchange old new = new.skipped ≡ old.skipped
 
+-- the words were copied
+pub record Copies (old new : ScriptMoves) : Type 0 where
+  pub plain : new.plain ≡ old.plain
+  pub has_stopped : new.has_stopped ≡ true
+  pub words : new.stop.words ≡ words_by old.plain
+
+-- the words that are shown are as before
+pub record ShowsSame (old new : ScriptMoves) : Type 0 where
+  pub has_stopped : new.has_stopped ≡ old.has_stopped
+  pub stop : new.stop ≡ old.stop
+
+-- the cue happens: only a stranger changes words, only a stop copies them, and what is not made is
+-- counted
+pub record CueHappens (cue : Cue) (is_exchange : Bool) (old new : ScriptMoves) : Type 0 where
+  pub still : IsStill old.plain new.plain
+  pub untold : IsUntold old new
+  pub counts : CountsCue cue.what is_exchange old new
+  pub loses : cue.what ≡ Lose → new.plain ≡ old.plain
+  pub stops : cue.what ≡ Stop → Copies old new
+  pub goes_on : cue.what ≢ Stop → ShowsSame old new
+
+-- the cue happens where it is for the next move; where it is not, nothing changes
+pub record Meets (cue : Cue) (is_exchange : Bool) (old new : ScriptMoves) : Type 0 where
+  pub here : cue.at ≡ at_by old → CueHappens cue is_exchange old new
+  pub passed : cue.at ≢ at_by old → new ≡ old
+
+-- the cue loses the next move, an exchange
+abbrev pub LosesBy : Cue → Bool → ScriptMoves → Type 0
+LosesBy cue is_exchange m = (cue.at ≡ at_by m) × ((is_exchange ≡ true) × (cue.what ≡ Lose))
+
+-- the cue at this place of the script was met
+abbrev pub MeetsNext : List Cue → Bool → ℕ → ScriptMoves → ScriptMoves → Type 0
+MeetsNext cues is_exchange place old new =
+    (cue : Cue) × ((slice_get cues place ≡ Some cue) × Meets cue is_exchange old new)
+
+-- the first n cues of the script were met, one after another, in their order
+abbrev pub MeetsFirst : List Cue → Bool → ℕ → ScriptMoves → ScriptMoves → Type 0
+MeetsFirst cues is_exchange zero old new = new ≡ old
+MeetsFirst cues is_exchange (suc n) old new =
+    (between : ScriptMoves) × (MeetsFirst cues is_exchange n old between
+    × MeetsNext cues is_exchange n between new)
+
+-- the script shows the words of the last stop before place i of the next move
+abbrev pub ShowsTo : ℕ → ScriptMoves → Type 0
+ShowsTo i m =
+    ∥ ShowsStop (key_by m.plain) m.begun (at_by m) i m.cues.items m.has_stopped m.stop.words ∥₁
+
 -- all cues of the next move were made, and the caller's part is as before
 pub record IsReady (old new : ScriptMoves) : Type 0 where
   pub still : IsStill old.plain new.plain
   pub untold : IsUntold old new
   pub quiet : NoneAt (at_by old) old.cues.items → IsQuiet old.plain new.plain
+  pub shows : ShowsTo (length new.cues.items) new
 
 -- all cues of an exchange were made, and it was lost
 pub record IsLost (place seen : ℕ) (old new : ScriptMoves) : Type 0 where
@@ -141,6 +189,10 @@ pub record Follows (plain : PlainMoves) (cues : List Cue) (m : ScriptMoves) : Ty
   pub stop : m.has_stopped ≡ false
   pub idle : All IsIdleParty m.plain.them.parties.items
 
--- these words stood just before the move that a cue Stop names
+-- these words stood just before the move of the last cue Stop of all moves so far
 abbrev pub IsStopOf : ScriptMoves → List ℕ → Type 0
-IsStopOf m ws = ∥ StopsAt (key_by m.plain) m.begun m.cues.items ws ∥₁
+IsStopOf m ws = ∥ StopsAt (key_by m.plain) m.begun (at_by m) 0 m.cues.items ws ∥₁
+
+-- no cue Stop was reached
+abbrev pub IsUnstopped : ScriptMoves → Type 0
+IsUnstopped m = NoStop (at_by m) 0 m.cues.items

@@ -4,9 +4,9 @@ mod cue;
 mod cues;
 mod moves;
 
-ghost use Rattle.std.specs.Prelude.{◌≡◌, ◌<◌, ℕ, true, None, Some, MatchOption, length, vec_len, IfSome, IfOk, IfErr};
+ghost use Rattle.std.specs.Prelude.{◌≡◌, ◌<◌, ◌-◌, ℕ, None, Some, MatchOption, length, vec_len, IfSome, IfOk, IfErr};
 ghost use Rattle.frame_core.specs.Plain.{plain_key};
-ghost use Rattle.frame_core.specs.Script.{StopsAt};
+ghost use Rattle.frame_core.specs.Script.{ShowsStop};
 
 use super::image::Image;
 use super::moves::Moves;
@@ -33,13 +33,20 @@ pub struct ScriptMoves {
     pub ghost reads: { vec_len read ≡ vec_len plain.words },
     pub ghost stop_length: { length stop.words ≡ vec_len plain.words },
     pub ghost strangers: { vec_len plain.them.parties ≡ 8 },
-    pub ghost stops: { has_stopped ≡ true
-        → ∥ StopsAt (plain_key plain.geometry plain.sealed) begun cues.items stop.words ∥₁ },
+    pub ghost shows: { ∥ ShowsStop (plain_key plain.geometry plain.sealed) begun (plain.moves - begun) 0
+        cues.items has_stopped stop.words ∥₁ },
 }
 
 impl ScriptMoves {
     ghost use Rattle.frame_core.specs.PlainState.{words_by, IsByItself};
-    ghost use Rattle.frame_core.specs.ScriptState.{plain_by, skipped_by, stop_by, Follows, IsStopOf};
+    ghost use Rattle.frame_core.specs.ScriptState.{
+      plain_by,
+      skipped_by,
+      stop_by,
+      Follows,
+      IsStopOf,
+      IsUnstopped,
+    };
 
     /// Eight strangers come beside the caller of these moves, each with one share and nothing in
     /// flight. Moves are counted from here on. The moves come back where memory is refused.
@@ -80,11 +87,13 @@ impl ScriptMoves {
         self.skipped
     }
 
-    /// The words as they stood just before the move of the latest `Stop`, if one was reached.
+    /// The words as they stood just before the move of the latest `Stop`, if one was reached. Of two
+    /// at one move the later in the script is the latest.
     pub fn stopped(&self) -> Option<&Image>
         ensures same { MatchOption result (stop_by self.now ≡ None)
             (λ image. stop_by self.now ≡ Some image.now) }
-        ensures words { IfSome result (λ image. IsStopOf self.now image.now.words) }
+        ensures words { MatchOption result (IsUnstopped self.now)
+            (λ image. IsStopOf self.now image.now.words) }
     {
         if !self.has_stopped {
             return None;

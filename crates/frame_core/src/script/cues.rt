@@ -1,16 +1,20 @@
 //! What happens just before a move, as the script says.
 
-ghost use Rattle.std.specs.Prelude.{◌≡◌, ◌≢◌, true, false};
-ghost use Rattle.frame_core.specs.PlainState.{words_by, IsStill};
-ghost use Rattle.frame_core.specs.Script.{HasCue, IsNotAt, LosesAt};
+ghost use Rattle.std.specs.Prelude.{◌≡◌, ◌≢◌, ◌<◌, ◌↔◌, Some, true, false, length, slice_get};
+ghost use Rattle.frame_core.specs.PlainState.{IsStill};
+ghost use Rattle.frame_core.specs.Script.{HasCue, LosesAt};
 ghost use Rattle.frame_core.specs.ScriptState.{
   at_by,
   one_skipped,
+  Copies,
   CountsCue,
   IsButPlain,
   IsReady,
   IsUntold,
-  IsQuiet,
+  LosesBy,
+  Meets,
+  MeetsFirst,
+  ShowsSame,
   StrangerMay,
 };
 
@@ -22,11 +26,14 @@ impl ScriptMoves {
     // Makes all cues of the next move, in their order; answers whether it is to be lost.
     pub(crate) fn prompt(&mut self, is_exchange: bool) -> bool
         ensures ready { IsReady self.old self.new }
-        ensures loses { result ≡ true → LosesAt (at_by self.old) self.old.cues.items }
+        ensures met { MeetsFirst self.old.cues.items is_exchange (length self.old.cues.items)
+            self.old self.new }
+        ensures loses { (result ≡ true)
+            ↔ ((is_exchange ≡ true) × LosesAt (at_by self.old) self.old.cues.items) }
     {
         let mut loses = false;
         for i in 0..self.cues.len() {
-            let cue = self.cues[i];
+            let cue = self.cue_at(i);
             if self.meet(cue, is_exchange) {
                 loses = true;
             }
@@ -34,13 +41,19 @@ impl ScriptMoves {
         loses
     }
 
+    // The cue at this place of the script.
+    fn cue_at(&self, place: usize) -> Cue
+        requires { place < length self.now.cues.items }
+        ensures { slice_get self.now.cues.items place ≡ Some result }
+    {
+        self.cues[place]
+    }
+
     // The cue happens where it is for the next move; answers whether it loses it.
     fn meet(&mut self, cue: Cue, is_exchange: bool) -> bool
         requires { HasCue self.old.cues.items cue }
-        ensures still { IsStill self.old.plain self.new.plain }
-        ensures untold { IsUntold self.old self.new }
-        ensures loses { result ≡ true → LosesAt (at_by self.old) self.old.cues.items }
-        ensures quiet { IsNotAt (at_by self.old) cue → IsQuiet self.old.plain self.new.plain }
+        ensures met { Meets cue is_exchange self.old self.new }
+        ensures loses { (result ≡ true) ↔ LosesBy cue is_exchange self.old }
     {
         if u64::from(cue.at) != self.at() {
             return false;
@@ -61,13 +74,11 @@ impl ScriptMoves {
         requires at { cue.at ≡ at_by self.old }
         ensures still { IsStill self.old.plain self.new.plain }
         ensures untold { IsUntold self.old self.new }
-        ensures loses { result ≡ true → cue.what ≡ What.Lose }
+        ensures loses { (result ≡ true) ↔ ((is_exchange ≡ true) × (cue.what ≡ What.Lose)) }
         ensures counts { CountsCue cue.what is_exchange self.old self.new }
-        ensures quiet { cue.what ≡ What.Stop → IsQuiet self.old.plain self.new.plain }
-        ensures stops { cue.what ≡ What.Stop → (self.new.has_stopped ≡ true)
-            × (self.new.stop.words ≡ words_by self.old.plain) }
-        ensures goes_on { cue.what ≢ What.Stop → (self.new.has_stopped ≡ self.old.has_stopped)
-            × (self.new.stop ≡ self.old.stop) }
+        ensures quiet { cue.what ≡ What.Lose → self.new.plain ≡ self.old.plain }
+        ensures stops { cue.what ≡ What.Stop → Copies self.old self.new }
+        ensures goes_on { cue.what ≢ What.Stop → ShowsSame self.old self.new }
     {
         match cue.what {
             What::Lose => {
@@ -105,8 +116,7 @@ impl ScriptMoves {
         ensures plain { self.new.plain ≡ self.old.plain }
         ensures untold { IsUntold self.old self.new }
         ensures skipped { self.new.skipped ≡ one_skipped self.old.skipped }
-        ensures stop { (self.new.stop ≡ self.old.stop)
-            × (self.new.has_stopped ≡ self.old.has_stopped) }
+        ensures shows { ShowsSame self.old self.new }
     {
         self.skipped = self.skipped.saturating_add(1);
     }

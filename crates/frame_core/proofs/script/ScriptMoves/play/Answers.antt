@@ -1,13 +1,13 @@
-use Rattle.std.proofs.Common.{inl, inr, ap, sym, subst, ◌∙◌}
+use Rattle.std.proofs.Common.{inl, inr, true, ap, sym, subst, refl, ◌∙◌, arith}
 use Rattle.frame_core.specs.declared.script.cue.What.{What}
 use Rattle.frame_core.specs.ScriptState.{one_skipped, CountsCue}
-use Rattle.frame_core.proofs.Scripts.{stop_here}
+use Rattle.frame_core.proofs.Cues.{stop_shows}
 use Rattle.frame_core.proofs.script.ScriptMoves.play.Goals as goal
 
-pub invariant_of-self-clause-stops : goal.invariant_of-self-clause-stops
-invariant_of-self-clause-stops c =
-    λ yes. stop_here c.args.self.now c.args.cue c.copy_to.new.image.words c.requires.is_cue c.requires.at c.in-Stop.is
-    (ap (λ i. i.words) c.copy_to.ensures)
+pub invariant_of-self-clause-shows : goal.invariant_of-self-clause-shows
+invariant_of-self-clause-shows c =
+    stop_shows c.args.self.now c.args.cue c.requires.is_cue.0 0 true c.copy_to.new.image.words c.requires.is_cue.1 c.requires.at
+    c.in-Stop.is (omega arith) (ap (λ i. i.words) c.copy_to.ensures) refl
 
 pub returns-then-not-acts-clause-counts : goal.returns-then-not-acts-clause-counts
 returns-then-not-acts-clause-counts c =

@@ -1,5 +1,6 @@
 use Rattle.std.proofs.Common.{refl}
 use Rattle.frame_model.specs.Steps.{fill_word}
+use Rattle.frame_core.proofs.Cues.{stepped}
 use Rattle.frame_core.proofs.Scripts.{made_by}
 use Rattle.frame_core.proofs.script.moves.ScriptMovesMoves.fill_word.Goals as goal
 
@@ -9,3 +10,7 @@ returns c =
     c.prompt.ensures.ready
     (record { plain = refl; cues = refl; begun = refl; missed = refl; read = refl }) c.find.ensures.found refl
     (λ v. refl) c.fill_word.ensures
+
+pub invariant_of-self-clause-shows : goal.invariant_of-self-clause-shows
+invariant_of-self-clause-shows c =
+    stepped _ _ c.fill_word.new.self _ c.prompt.ensures.ready c.fill_word.ensures.keeps.same_key c.fill_word.ensures.view refl

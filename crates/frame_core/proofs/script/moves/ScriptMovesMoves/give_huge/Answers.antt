@@ -1,5 +1,6 @@
 use Rattle.std.proofs.Common.{refl}
 use Rattle.frame_core.specs.Moves.{give_whole}
+use Rattle.frame_core.proofs.Cues.{stepped}
 use Rattle.frame_core.proofs.Scripts.{made_by}
 use Rattle.frame_core.proofs.script.moves.ScriptMovesMoves.give_huge.Goals as goal
 
@@ -9,3 +10,7 @@ returns c =
     c.prompt.ensures.ready
     (record { plain = refl; cues = refl; begun = refl; missed = refl; read = refl }) c.find.ensures.found refl
     (λ v. refl) c.give_huge.ensures
+
+pub invariant_of-self-clause-shows : goal.invariant_of-self-clause-shows
+invariant_of-self-clause-shows c =
+    stepped _ _ c.give_huge.new.self _ c.prompt.ensures.ready c.give_huge.ensures.keeps.same_key c.give_huge.ensures.view refl

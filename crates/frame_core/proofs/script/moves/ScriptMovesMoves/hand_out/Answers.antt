@@ -1,4 +1,6 @@
+use Rattle.std.proofs.Common.{refl}
 use Rattle.frame_model.specs.Block.{block}
+use Rattle.frame_core.proofs.Cues.{stepped}
 use Rattle.frame_core.proofs.Scripts.{out_by}
 use Rattle.frame_core.proofs.script.moves.ScriptMovesMoves.hand_out.Goals as goal
 
@@ -6,3 +8,7 @@ pub returns : goal.returns
 returns c =
     out_by c.args.self.now c.prompt.new.self c.hand_out.new.self c.prompt.ensures.ready (block c.args.frame c.args.order)
     c.hand_out.result c.hand_out.ensures
+
+pub invariant_of-self-clause-shows : goal.invariant_of-self-clause-shows
+invariant_of-self-clause-shows c =
+    stepped _ _ c.hand_out.new.self _ c.prompt.ensures.ready c.hand_out.ensures.keeps.same_key c.hand_out.ensures.view refl

@@ -1,4 +1,5 @@
 use Rattle.std.proofs.Common.{refl}
+use Rattle.frame_core.proofs.Cues.{stepped}
 use Rattle.frame_core.proofs.Scripts.{loaded_by}
 use Rattle.frame_core.proofs.script.moves.ScriptMovesMoves.load.Goals as goal
 
@@ -8,3 +9,7 @@ returns c =
     c.prompt.ensures.ready
     (record { plain = refl; cues = refl; begun = refl; missed = refl; read = refl }) c.find.ensures.found refl c.find.ensures.here
     c.find.ensures.value c.load.ensures
+
+pub invariant_of-self-clause-shows : goal.invariant_of-self-clause-shows
+invariant_of-self-clause-shows c =
+    stepped _ _ c.load.new.self _ c.prompt.ensures.ready c.load.ensures.keeps.same_key c.load.ensures.view refl

@@ -1,5 +1,6 @@
 use Rattle.std.proofs.Common.{refl}
 use Rattle.frame_model.specs.Steps.{refund}
+use Rattle.frame_core.proofs.Cues.{stepped}
 use Rattle.frame_core.proofs.Scripts.{made_by}
 use Rattle.frame_core.proofs.script.moves.ScriptMovesMoves.refund.Goals as goal
 
@@ -8,3 +9,7 @@ returns c =
     made_by c.args.self.now c.prompt.new.self _ c.find.new.self c.refund.new.self (refund c.args.child c.args.n) _
     c.prompt.ensures.ready
     (record { plain = refl; cues = refl; begun = refl; missed = refl; read = refl }) c.find.ensures.found refl (λ v. refl) c.refund.ensures
+
+pub invariant_of-self-clause-shows : goal.invariant_of-self-clause-shows
+invariant_of-self-clause-shows c =
+    stepped _ _ c.refund.new.self _ c.prompt.ensures.ready c.refund.ensures.keeps.same_key c.refund.ensures.view refl

@@ -1,5 +1,6 @@
 use Rattle.std.proofs.Common.{refl}
 use Rattle.frame_core.specs.Moves.{release_run}
+use Rattle.frame_core.proofs.Cues.{stepped}
 use Rattle.frame_core.proofs.Scripts.{made_by}
 use Rattle.frame_core.proofs.script.moves.ScriptMovesMoves.release.Goals as goal
 
@@ -9,3 +10,8 @@ returns c = λ from order e.
     c.prompt.ensures.ready
     (record { plain = refl; cues = refl; begun = refl; missed = refl; read = refl }) c.find.ensures.found refl (λ v. refl)
     (c.release.ensures from order e)
+
+pub invariant_of-self-clause-shows : goal.invariant_of-self-clause-shows
+invariant_of-self-clause-shows c =
+    let is = c.release.ensures c.requires.0 c.requires.1.0 c.requires.1.1.0 in
+    stepped _ _ c.release.new.self _ c.prompt.ensures.ready is.keeps.same_key is.view refl

@@ -1,4 +1,5 @@
 use Rattle.std.proofs.Common.{refl}
+use Rattle.frame_core.proofs.Cues.{stepped}
 use Rattle.frame_core.proofs.Scripts.{swapped_by}
 use Rattle.frame_core.proofs.script.moves.ScriptMovesMoves.swap_local.Goals as goal
 
@@ -8,3 +9,7 @@ returns c =
     c.swap_local-rest.result _
     c.prompt.ensures.ready
     (record { plain = refl; cues = refl; begun = refl; missed = refl; read = refl }) c.find.ensures.found refl c.swap_local-rest.ensures
+
+pub invariant_of-self-clause-shows : goal.invariant_of-self-clause-shows
+invariant_of-self-clause-shows c =
+    stepped _ _ c.swap_local-rest.new.self _ c.prompt.ensures.ready c.swap_local-rest.ensures.keeps.same_key c.swap_local-rest.ensures.view.2 refl

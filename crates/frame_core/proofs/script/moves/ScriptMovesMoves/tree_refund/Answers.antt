@@ -1,5 +1,6 @@
 use Rattle.std.proofs.Common.{refl}
 use Rattle.frame_model.specs.Steps.{tree_refund}
+use Rattle.frame_core.proofs.Cues.{stepped}
 use Rattle.frame_core.proofs.Scripts.{made_by}
 use Rattle.frame_core.proofs.script.moves.ScriptMovesMoves.tree_refund.Goals as goal
 
@@ -9,3 +10,7 @@ returns c =
     c.prompt.ensures.ready
     (record { plain = refl; cues = refl; begun = refl; missed = refl; read = refl }) c.find.ensures.found refl
     (λ v. refl) c.tree_refund.ensures
+
+pub invariant_of-self-clause-shows : goal.invariant_of-self-clause-shows
+invariant_of-self-clause-shows c =
+    stepped _ _ c.tree_refund.new.self _ c.prompt.ensures.ready c.tree_refund.ensures.keeps.same_key c.tree_refund.ensures.view refl
