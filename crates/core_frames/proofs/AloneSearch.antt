@@ -1,5 +1,6 @@
 -- What the search finds and leaves where nobody else steps, from what its parts do.
-use Rattle.std.proofs.Common.{◌≡◌, ◌≢◌, ◌⊎◌, inl, inr, ⊎_elim, ℕ, ◌+◌, ◌-◌, ◌%◌, ◌^◌, ◌<◌, ◌≤◌, List, length, get_or, set, Option, None, Some, refl, ap, sym, subst, ◌∙◌, arith}
+use Rattle.std.proofs.Common.{◌≡◌, ◌≢◌, ◌⊎◌, inl, inr, ⊎_elim, ℕ, ◌+◌, ◌-◌, ◌%◌, ◌^◌, ◌<◌, ◌≤◌, List, length, get_or, set, Option, None}
+use Rattle.std.proofs.Common.{Some, refl, ap, sym, subst, ◌∙◌, arith}
 use Rattle.std.specs.Prelude.{IfSome, Bool, true, false, not, slice_index}
 use Rattle.std.specs.Option.{is_some}
 use Rattle.std.proofs.lemmas.Bool.{cases_lt, cases_eq}
@@ -23,8 +24,10 @@ use Rattle.low_frames.specs.Alone.{Turns, FindsOf, WordsTake, HasNoneOfTree}
 use Rattle.low_frames.proofs.AloneLemmas.{if_known, at_known, IsFirstTry, IsSeen, exchange_made, made_first, then_found}
 use Rattle.low_frames.proofs.RoomLemmas.{FitsAlone, range_alone}
 use Rattle.core_frames.specs.Search.{IsBlockOf}
-use Rattle.core_frames.specs.Alone.{SameFrames, KeepsFrames, IsPassedBy, IsReserved, WasTried, WereTried, IsDrainedOf, IsDrained, FindsNoBlock}
-use Rattle.core_frames.proofs.KeptFrames.{IsUpper, upper_tree, upper_local, kept_after, same_frames, same_held, frames_then, turns_then, turns_as, covered_inside, keeps_then, keeps_found, keeps_then_taken}
+use Rattle.core_frames.specs.Alone.{SameFrames, KeepsFrames, IsPassedBy, IsReserved, WasTried, WereTried, IsDrainedOf, IsDrained}
+use Rattle.core_frames.specs.Alone.{FindsNoBlock}
+use Rattle.core_frames.proofs.KeptFrames.{IsUpper, upper_tree, upper_local, kept_after, same_frames, same_held, frames_then, turns_then}
+use Rattle.core_frames.proofs.KeptFrames.{turns_as, covered_inside, keeps_then, keeps_found, keeps_then_taken}
 use Rattle.core_frames.proofs.Exhausted.{exhausted}
 
 -- where nobody else steps, no try is lost
@@ -92,7 +95,8 @@ passed_first mid was tree seen free least most old now j is why load =
       h.1,
       ⊎_elim
           (λ (f : 0 < flag_in seen). inl (omega (arith, f, flag)))
-          (λ counts. inr (⊎_elim (λ (f : free < least). inl (omega (arith, f, count))) (λ (f : most < free). inr (omega (arith, f, count))) counts))
+          (λ counts. inr (⊎_elim (λ (f : free < least). inl (omega (arith, f, count)))
+          (λ (f : most < free). inr (omega (arith, f, count))) counts))
           why,
     ))
 
@@ -120,7 +124,8 @@ unreserve_back key ws us tree free r inside is =
     let value : (get_or us p 0 + (2 ^ 64 - (32768 - free))) % 2 ^ 64 ≡ get_or ws p 0 = omega (arith, found, few, whole, was) in
     ap (set us p) value ∙ ap (λ (l : List ℕ). set l p (get_or ws p 0)) is.words ∙ set-set ws p 32768 (get_or ws p 0) ∙ set-get_or ws p 0
 
-pub reserved_keeps : (key : Key) (tree free : ℕ) (old new : Option (List ℕ)) → tree < tree_count key → Turns (IsReserved key tree free) old new
+pub reserved_keeps : (key : Key) (tree free : ℕ) (old new : Option (List ℕ))
+    → tree < tree_count key → Turns (IsReserved key tree free) old new
     → KeepsFrames key old new
 reserved_keeps key tree free None new h a = tt
 reserved_keeps key tree free (Some ws) new h a = (
@@ -179,7 +184,8 @@ tried_more key now E order from i least most old mid new k bounds below here =
     (cases_lt t i))
     below here
 
-pub tried_none : (key : Key) (E : Type 0) (order from : ℕ) (old : Option (List ℕ)) → FindsOf (λ ws. E → WereTried key order from from ws) old old
+pub tried_none : (key : Key) (E : Type 0) (order from : ℕ) (old : Option (List ℕ))
+    → FindsOf (λ ws. E → WereTried key order from from ws) old old
 tried_none key E order from None = tt
 tried_none key E order from (Some ws) = (refl, λ e t l h. absurd (omega arith))
 
@@ -268,7 +274,8 @@ unfolding local_place
 local_apart key j k ne e = ne (omega arith)
 
 -- an emptied local word
-pub emptied : (now was : Key) (core : ℕ) (old new : Option (List ℕ)) → now ≡ was → core < was.cores → Changes now (swap_local core None) old new
+pub emptied : (now was : Key) (core : ℕ) (old new : Option (List ℕ))
+    → now ≡ was → core < was.cores → Changes now (swap_local core None) old new
     → Turns (IsDrainedOf was core) old new
 emptied now was core None new k h a = tt
 emptied now was core (Some ws) new k h a =
@@ -329,7 +336,8 @@ kept_taken key mid order b old one two k is a h =
     keeps_then_taken key old one two b (subst (λ i. IsBlock i b) k is.is_block) a (subst (λ i. WordsTake i one two b) k h)
 
 pub drained_keeps : (key now : Key) (old new : Option (List ℕ)) → now ≡ key → Turns (IsDrained now) old new → KeepsFrames key old new
-drained_keeps key now old new k a = turns_as (IsDrained key) (SameFrames key) old new (λ ws us d. d.frames) (subst (λ i. Turns (IsDrained i) old new) k a)
+drained_keeps key now old new k a =
+    turns_as (IsDrained key) (SameFrames key) old new (λ ws us d. d.frames) (subst (λ i. Turns (IsDrained i) old new) k a)
 
 -- The end of the search.
 

@@ -15,7 +15,8 @@ use Rattle.frame_core.specs.Block.{IsBlock}
 use Rattle.frame_core.specs.View.{counted, count_in, paid_on, NoneBut, IsIdle}
 use Rattle.frame_core.specs.Steps.{effect, reserve, collect, local_pay, local_refund, tree_refund, swap_local, unreserve, after_load}
 use Rattle.frame_core.specs.Steps.Amounts.{more, less, rest_amount, rest_tree, more_of, less_of}
-use Rattle.frame_core.specs.Steps.Conditions.{CanReserve, CanCollect, CanLocalPay, CanLocalRefund, CanTreeRefund, CanSwapLocal, CanUnreserve}
+use Rattle.frame_core.specs.Steps.Conditions.{CanReserve, CanCollect, CanLocalPay, CanLocalRefund, CanTreeRefund, CanSwapLocal}
+use Rattle.frame_core.specs.Steps.Conditions.{CanUnreserve}
 use Rattle.frame_core.specs.Moves.{after}
 use Rattle.frame_model.proofs.Amounts.{count_none, count_here, count_else}
 use Rattle.low_frames.specs.Takes.{IsAsBefore, HasHandedOut}
@@ -177,7 +178,9 @@ carried_on v u w p r k e f =
 
 -- a view that only loaded is as before
 pub loaded : (t : ℕ → ℕ) (v w : View) → w ≡ after_load t v → IsAsBefore v w
-loaded t v w e = changed v v w v.paid v.paid v.paid v.reserving v.reserving v.reserving v.lent v.lent v.lent (t v.moves) v.lost refl e refl refl refl
+loaded t v w e =
+    changed v v w v.paid v.paid v.paid v.reserving v.reserving v.reserving v.lent v.lent v.lent (t v.moves) v.lost refl e
+    refl refl refl
 
 -- a view that is left as it was, and as it was again
 pub before_twice : (v u w : View) → IsAsBefore v u → IsAsBefore u w → IsAsBefore v w
@@ -345,7 +348,8 @@ module _ (v u : View) (b : FrameBlock) (frame order tree n : ℕ) (idle : IsIdle
   given =
       settled v u (counted (tree_of b.frame) (2 ^ b.order)) (counted tree n) v.reserving v.reserving (v.lent -ℤ pos 1)
       (v.lent -ℤ pos 1) (taken_back v u b idle back)
-      (ap (λ i. counted i (2 ^ b.order)) (ap tree_of (sym at) ∙ sym there) ∙ ap (counted tree) (ap (λ i. 2 ^ i) (sym of) ∙ sym size)) refl refl
+      (ap (λ i. counted i (2 ^ b.order)) (ap tree_of (sym at) ∙ sym there) ∙ ap (counted tree) (ap (λ i. 2 ^ i) (sym of) ∙ sym size))
+      refl refl
 
   pub given_paid : u.paid ≡ counted tree n
   given_paid = ap (λ x. x.paid) given

@@ -1,5 +1,5 @@
 -- How a desk's list goes on agreeing with what its core keeps.
-use Rattle.std.proofs.Common.{◌≡◌, ◌+◌, ◌<◌, ◌≤◌, ◌^◌, ◌∙◌, ℕ, List, [], ◌∷◌, ◌++◌, refl, sym, ap, subst, arith, Ok, Err, Contains}
+use Rattle.std.proofs.Common.{◌≡◌, ◌<◌, ◌≤◌, ◌∙◌, ℕ, List, [], ◌∷◌, ◌++◌, refl, sym, subst, arith, Ok, Err, Contains}
 use Rattle.std.specs.List.{All, sum_by}
 use Rattle.std.proofs.lemmas.List.Elements.{All-nil}
 use Rattle.std.proofs.lemmas.List.Sums.{sum_by-append, sum_by-cons}
@@ -94,7 +94,13 @@ laid a d after e c is more core kept lawful free = record {
   is_core = core;
   keeps = λ f.
       rw (more, kept, blocks_append (list_of d) (e ∷ []))
-      (omega (arith, is.keeps f, sum_by-append f (blocks_of (list_of d)) (e.block ∷ []), sum_by-cons f e.block [], sum_by-cons f e.block (kept_by (core_of d))));
+      (omega (
+        arith,
+        is.keeps f,
+        sum_by-append f (blocks_of (list_of d)) (e.block ∷ []),
+        sum_by-cons f e.block [],
+        sum_by-cons f e.block (kept_by (core_of d)),
+      ));
   apart = rw more (more_lawful (memory_of a) (list_of d) e is.apart lawful free);
 }
 

@@ -136,7 +136,8 @@ module _ (A : Type 0) (key : Key) (ws : List ℕ) (v : View) (fits : FitsAlone A
         arith,
         f.1.1.0.trees_add_up t h,
         resting_none key ws t none,
-        total_none key (paid_on t) v f.1.0 (count_none t) (count_none t) (ap (count_in t) idle.paid ∙ count_none t) (λ u is rest. paid_at_rest t key u is rest)
+        total_none key (paid_on t) v f.1.0 (count_none t) (count_none t)
+            (ap (count_in t) idle.paid ∙ count_none t) (λ u is rest. paid_at_rest t key u is rest)
             f.1.1.0.each (f.1.1.1 alone),
       ))
 

@@ -1,5 +1,6 @@
 -- Steps on tree words and local words leave each frame held or free as it was.
-use Rattle.std.proofs.Common.{◌≡◌, ◌≢◌, ◌⊎◌, inl, inr, ℕ, ◌/◌, ◌<◌, max, List, get_or, set, Option, None, Some, refl, ap, sym, subst, ◌∙◌, arith}
+use Rattle.std.proofs.Common.{◌≡◌, ◌≢◌, ◌⊎◌, inl, inr, ℕ, ◌/◌, ◌<◌, max, List, get_or, set, Option, None, Some, refl, ap, sym, subst, ◌∙◌}
+use Rattle.std.proofs.Common.{arith}
 use Rattle.std.specs.Prelude.{IfSome, IfNone, Bool, true, false, slice_index}
 use Rattle.std.proofs.lemmas.List.{get_or-set_other}
 use Rattle.frame_model.specs.declared.block.FrameBlock.{FrameBlock}

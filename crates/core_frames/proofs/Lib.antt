@@ -8,6 +8,7 @@ pub mod Carried
 pub mod KeptFrames
 pub mod Exhausted
 pub mod AloneSearch
+pub mod SureSteps
 pub mod SearchSteps
 pub mod SplitLemmas
 pub mod SplitAlone

@@ -1,5 +1,6 @@
 -- What takes, gives, keeps and splits leave of an allocator for one thread.
-use Rattle.std.proofs.Common.{◌≡◌, ◌≢◌, ◌⊎◌, ⊎_elim, inl, inr, ℕ, zero, suc, ◌+◌, ◌-◌, ◌*◌, ◌^◌, ◌<◌, ◌≤◌, List, [], ◌∷◌, ◌++◌, length, get_or, set, Bool, true, false, Option, Some, Err, refl, ap, sym, subst, ◌∙◌, arith}
+use Rattle.std.proofs.Common.{◌≡◌, ◌≢◌, ◌⊎◌, ⊎_elim, inl, inr, ℕ, zero, suc, ◌+◌, ◌-◌, ◌*◌, ◌^◌, ◌<◌, ◌≤◌, List, [], ◌∷◌, ◌++◌, length}
+use Rattle.std.proofs.Common.{get_or, set, Bool, true, false, Option, Some, Err, refl, ap, sym, subst, ◌∙◌, arith}
 use Rattle.std.specs.Prelude.{ℤ, pos, ◌+ℤ◌, ◌-ℤ◌, min, if◌then◌else◌}
 use Rattle.std.specs.List.{All, sum_by, Contains}
 use Rattle.std.specs.List.Sorted.{IsPermutation}
@@ -10,7 +11,8 @@ use Rattle.std.proofs.Math.Bridge.{le_prop}
 use Rattle.std.proofs.lemmas.Bool.{cases_eq, cases_lt}
 use Rattle.std.proofs.lemmas.Nat.{pow_pos}
 use Rattle.std.proofs.lemmas.List.Sums.{sum_by-append, sum_by-cons}
-use Rattle.std.proofs.lemmas.List.Sorted.{IsPermutation-sym, IsPermutation-trans, IsPermutation-cons, IsPermutation-reverse, IsPermutation-append_left, IsPermutation-append_right, IsPermutation-middle, Contains-permutation}
+use Rattle.std.proofs.lemmas.List.Sorted.{IsPermutation-sym, IsPermutation-trans, IsPermutation-cons, IsPermutation-reverse}
+use Rattle.std.proofs.lemmas.List.Sorted.{IsPermutation-append_left, IsPermutation-append_right, IsPermutation-middle, Contains-permutation}
 use Rattle.std.proofs.lemmas.List.Elements.{All-head, All-tail, Contains-append_cases, Contains-append_left, Contains-append_right}
 use mathlib.Core.HLevel.{is_prop→PathP}
 use Rattle.frame_words.specs.Geometry.{child_frames, most_children, most_cores}
@@ -49,8 +51,11 @@ use Rattle.core_frames.specs.Search.{HasLentOne, HasTakenOne, IsBlockOf}
 use Rattle.core_frames.specs.Searches.{Brings, Refuses}
 use Rattle.core_frames.specs.Splits.{HoldsHalves, HandsOutHalves}
 use Rattle.core_frames.proofs.KeptFrames.{same_frames}
-use Rattle.core_frames.proofs.PlainBytes.{out_byte, kept_byte, out_taken, kept_taken, out_given, kept_given, out_kept, kept_kept, out_none, kept_none}
-use Rattle.core_frames.proofs.PlainHeld.{holders_cons, holders_same, by_form, halves_are, was_free, lawful_as, exact_as, lawful_more, exact_more, takes_block, none_more, lawful_less, exact_less, exact_still, none_still, lawful_halves, exact_halves, none_halves, none_above, none_at_all, finds_none}
+use Rattle.core_frames.proofs.PlainBytes.{out_byte, kept_byte, out_taken, kept_taken, out_given, kept_given, out_kept, kept_kept, out_none}
+use Rattle.core_frames.proofs.PlainBytes.{kept_none}
+use Rattle.core_frames.proofs.PlainHeld.{holders_cons, holders_same, by_form, halves_are, was_free, lawful_as, exact_as, lawful_more}
+use Rattle.core_frames.proofs.PlainHeld.{exact_more, takes_block, none_more, lawful_less, exact_less, exact_still, none_still}
+use Rattle.core_frames.proofs.PlainHeld.{lawful_halves, exact_halves, none_halves, none_above, none_at_all, finds_none}
 use Rattle.core_frames.proofs.PlainKeys.{order_over, more_over, frames_over, none_over, halves_over}
 use Rattle.core_frames.proofs.PlainSums.{covers_in, covers_above}
 
@@ -242,7 +247,8 @@ module _ (bytes : List ℕ) (b : FrameBlock) (o : ℕ) (has : Contains (out_of b
       (IsPermutation-cons u (b ∷ rest) (out_of bytes) (out_given bytes b has))))
 
   -- the halves stand among what is named, in place of the block
-  pub named_halves : IsPermutation (block b.frame o ∷ block (b.frame + 2 ^ o) o ∷ named_by (set bytes b.frame 0)) (named_by (halved bytes b.frame o))
+  pub named_halves : IsPermutation (block b.frame o ∷ block (b.frame + 2 ^ o) o ∷ named_by (set bytes b.frame 0))
+      (named_by (halved bytes b.frame o))
   named_halves =
       let u : FrameBlock = block (b.frame + 2 ^ o) o in
       let l : FrameBlock = block b.frame o in
@@ -275,7 +281,8 @@ module _ (bytes : List ℕ) (b : FrameBlock) (o : ℕ) (has : Contains (out_of b
       by : Contains (block (b.frame + 2 ^ o) o ∷ block b.frame o ∷ out_of (set bytes b.frame 0)) d → P d
       by (zero, h, e) = subst P e upper
       by (suc zero, h, e) = subst P e lower
-      by (suc (suc k), h, e) = other (Contains-append_left (out_of (set bytes b.frame 0)) (kept_of (set bytes b.frame 0)) d (k, omega arith, e))
+      by (suc (suc k), h, e) = other
+          (Contains-append_left (out_of (set bytes b.frame 0)) (kept_of (set bytes b.frame 0)) d (k, omega arith, e))
 
 -- The same allocator under other names.
 
@@ -287,12 +294,14 @@ renamed {key} {m} {ws} {habits} {least} bytes now e agree = subst (λ (l : List 
 -- under an equal geometry
 pub moved : {m : Mover Company FrameBlock} {ws bytes : List ℕ} {habits : List Habit} {least : ℕ} (g h : Geometry) (rs : List (ℕ × ℕ))
     → g ≡ h → AgreeWith (sealed_key g rs) m ws bytes habits least → AgreeWith (sealed_key h rs) m ws bytes habits least
-moved {m} {ws} {bytes} {habits} {least} g h rs e agree = subst (λ (x : Geometry). AgreeWith (sealed_key x rs) m ws bytes habits least) e agree
+moved {m} {ws} {bytes} {habits} {least} g h rs e agree =
+    subst (λ (x : Geometry). AgreeWith (sealed_key x rs) m ws bytes habits least) e agree
 
 -- under equal ranges
 pub ranged : {m : Mover Company FrameBlock} {ws bytes : List ℕ} {habits : List Habit} {least : ℕ} (g : Geometry) (rs ss : List (ℕ × ℕ))
     → rs ≡ ss → AgreeWith (sealed_key g rs) m ws bytes habits least → AgreeWith (sealed_key g ss) m ws bytes habits least
-ranged {m} {ws} {bytes} {habits} {least} g rs ss e agree = subst (λ (x : List (ℕ × ℕ)). AgreeWith (sealed_key g x) m ws bytes habits least) e agree
+ranged {m} {ws} {bytes} {habits} {least} g rs ss e agree =
+    subst (λ (x : List (ℕ × ℕ)). AgreeWith (sealed_key g x) m ws bytes habits least) e agree
 
 -- under equal words
 pub reread : {key : Key} {m : Mover Company FrameBlock} {bytes : List ℕ} {habits : List Habit} {least : ℕ} (ws us : List ℕ)
@@ -308,7 +317,8 @@ begins_as {m} g h rs ws us e known begins =
     subst (λ (x : Geometry). Begins (unsealed (sealed_key x rs)) us m) e
     (record { key = begins.key; view = begins.view; words = known; alone = begins.alone })
 
-pub opens_as : (key : Key) (ws us : List ℕ) → ◌≡◌ {A = Option (List ℕ)} (Some us) (Some ws) → IsSealedOpening key ws → IsSealedOpening key us
+pub opens_as : (key : Key) (ws us : List ℕ) → ◌≡◌ {A = Option (List ℕ)} (Some us) (Some ws)
+    → IsSealedOpening key ws → IsSealedOpening key us
 opens_as key ws us e opens =
     let same : ws ≡ us = cc in
     subst (IsSealedOpening key) same opens
@@ -600,7 +610,8 @@ module _ (key : Key) (m n : Mover Company FrameBlock) (ws us bytes : List ℕ) (
 -- a refusal that was remembered
 pub remembered : (key : Key) (m : Mover Company FrameBlock) (ws bytes : List ℕ) (habits : List Habit) (least order : ℕ)
     → AgreeWith key m ws bytes habits least → least ≤ order → order ≤ 9 → FindsNone key (held_with key bytes) (held_with key bytes) order
-remembered key m ws bytes habits least order agree h low = finds_none key ws (held_with key bytes) order agree.exact low (agree.none order h)
+remembered key m ws bytes habits least order agree h low =
+    finds_none key ws (held_with key bytes) order agree.exact low (agree.none order h)
 
 -- Of one mover.
 
@@ -654,7 +665,8 @@ module _ (key : Key) (m : Mover Company FrameBlock) (ws bytes : List ℕ) (habit
           known = agree.known;
           count = length-set bytes b.frame (first_kept + b.order) ∙ agree.count;
           are_out = λ d in_list. agree.are_out d
-              (Contains-permutation (named_by now) (named_by bytes) d (IsPermutation-sym (named_by bytes) (named_by now) held_same) in_list);
+              (Contains-permutation (named_by now) (named_by bytes) d
+              (IsPermutation-sym (named_by bytes) (named_by now) held_same) in_list);
           exact = exact_as key ws (held_with key bytes) (held_with key now) all agree.exact;
           lawful = lawful_as key (held_with key bytes) (held_with key now) all agree.lawful;
           none = agree.none;

@@ -1,5 +1,6 @@
 -- Sums over ranges of numbers: of the bits of words, and of the frames of a block.
-use Rattle.std.proofs.Common.{◌≡◌, ◌≢◌, ⊎_elim, ℕ, zero, suc, ◌+◌, ◌-◌, ◌*◌, ◌/◌, ◌%◌, ◌^◌, ◌<◌, ◌≤◌, min, max, List, length, get_or, take, drop, refl, ap, ◌∙◌, arith, get_or-drop, length-drop}
+use Rattle.std.proofs.Common.{◌≡◌, ◌≢◌, ⊎_elim, ℕ, zero, suc, ◌+◌, ◌-◌, ◌*◌, ◌/◌, ◌%◌, ◌^◌, ◌<◌, ◌≤◌, min, max, List, length, get_or, take}
+use Rattle.std.proofs.Common.{drop, refl, ap, ◌∙◌, arith, get_or-drop, length-drop}
 use Rattle.std.specs.List.{sum_by, range_with_len}
 use Rattle.std.specs.Int.{bit_at}
 use Rattle.std.specs.Int.Count.{ones, ones_step, ones-ones}

@@ -14,15 +14,19 @@ use Rattle.frame_core.specs.Words.{local_place}
 use Rattle.frame_core.specs.Steps.{Kind, place, swap_local}
 use Rattle.frame_core.specs.Moves.{place_of, Changes}
 use Rattle.frame_core.specs.Mover.{Mover, Keeps, Clears, Ticks, Loads, Tries, Makes, Swaps}
-use Rattle.low_frames.specs.Takes.{Counts, IsAsBefore}
+use Rattle.low_frames.specs.Takes.{Counts, IsAsBefore, IsSure, StaysSure}
 use Rattle.low_frames.specs.Alone.{FindsOf, WordsTake, NoneIsFree}
 use Rattle.low_frames.specs.Gives.{Gives}
 use Rattle.low_frames.specs.Outcomes.{TakesOut, TakesNothing, MayTakeOf, HasNoBootFrame}
-use Rattle.low_frames.proofs.TakeLemmas.{counts_none, counts_one, load_then, try_then, make_then, then_counts, wider, keeps_none, keeps_both, others_both, still_as_before}
+use Rattle.low_frames.proofs.TakeLemmas.{counts_none, counts_one, load_then, try_then, make_then, then_counts, wider, keeps_none}
+use Rattle.low_frames.proofs.TakeLemmas.{keeps_both, others_both, still_as_before}
+use Rattle.low_frames.proofs.Sure.{sure_none, sure_both, sure_load, sure_make}
 use Rattle.core_frames.specs.Alone.{SameFrames, KeepsFrames, IsPassedBy, IsDrained}
 use Rattle.core_frames.specs.Search.{IsBlockOf, HasLentOne, HasReserved}
-use Rattle.core_frames.specs.Searches.{GivesBy, HasMade, Brings, Misses, Searches, TriesTree, cleared, MayRefund, MaySearch}
-use Rattle.core_frames.proofs.KeptFrames.{if_some, if_none, IsUpper, upper_local, keeps_load, keeps_then, keeps_found, keeps_change, keeps_exchange, keeps_then_taken, taken_then_keeps, given_then_keeps}
+use Rattle.core_frames.specs.Searches.{GivesBy, IsKnown, HasMade, Brings, Misses, Searches, TriesTree, cleared, MayRefund, MaySearch}
+use Rattle.core_frames.proofs.KeptFrames.{if_some, if_none, IsUpper, upper_local, keeps_load, keeps_then, keeps_found, keeps_change}
+use Rattle.core_frames.proofs.KeptFrames.{keeps_exchange, keeps_then_taken, taken_then_keeps, given_then_keeps}
+use Rattle.core_frames.proofs.SureSteps.{sure_try, sure_swap}
 use Rattle.core_frames.proofs.AloneSearch.{swap_changes, reserved_keeps, drained_keeps}
 use Rattle.core_frames.proofs.KeptFrames as kept
 use Rattle.core_frames.proofs.Carried.{Carries, paid_there, then_lent, before_twice, idle_still}
@@ -41,6 +45,7 @@ module _ {T H : Type 0} {t : ℕ → ℕ} {exact : ℕ → Type 0} (ticks : Tick
   begun a = record {
     keeps = keeps_none a;
     counts = counts_none t exact ticks a;
+    sure = sure_none a;
     view = refl;
     alone = λ alone. kept.keeps_none a.key a.words;
   }
@@ -51,6 +56,7 @@ module _ {T H : Type 0} {t : ℕ → ℕ} {exact : ℕ → Type 0} (ticks : Tick
   load_brings {a} {b} {c} {p} {found} n k h calm f l = record {
     keeps = keeps_both f.keeps l.keeps;
     counts = load_then t exact ticks n k h f.counts l;
+    sure = sure_both f.sure (sure_load calm l);
     view = still_as_before a.view b.view c.view (t b.view.moves) b.view.lost f.view l.view;
     alone = λ alone.
         keeps_then a.key a.words b.words c.words (f.alone alone)
@@ -58,12 +64,15 @@ module _ {T H : Type 0} {t : ℕ → ℕ} {exact : ℕ → Type 0} (ticks : Tick
   }
 
   -- then an exchange on a word of the upper level, which turns the view so
-  pub try_brings : {a b c : Mover T H} {kind : Kind} {seen : ℕ} {made : Bool} {U : View → View → Type 0} (V : View → View → Type 0) (n k : ℕ)
+  pub try_brings : {a b c : Mover T H} {kind : Kind} {seen : ℕ} {made : Bool}
+      {U : View → View → Type 0} (V : View → View → Type 0) (n k : ℕ)
       → n + 1 ≤ k → (b.is_alone → b.is_undisturbed) → IsUpper a.key (place a.key kind) → Brings exact n U (SameFrames a.key) a b
-      → Tries t kind seen made b c → V a.view c.view → Brings exact k V (SameFrames a.key) a c
-  try_brings {a} {b} {c} {kind} {seen} {made} V n k h calm up f l v = record {
+      → (IsSure a → IsKnown (place b.key kind) seen b) → Tries t kind seen made b c
+      → V a.view c.view → Brings exact k V (SameFrames a.key) a c
+  try_brings {a} {b} {c} {kind} {seen} {made} V n k h calm up f known l v = record {
     keeps = keeps_both f.keeps l.keeps;
     counts = try_then t exact ticks n k h f.counts l;
+    sure = sure_try calm f.sure known l;
     view = v;
     alone = λ alone.
         keeps_then a.key a.words b.words c.words (f.alone alone)
@@ -77,6 +86,7 @@ module _ {T H : Type 0} {t : ℕ → ℕ} {exact : ℕ → Type 0} (ticks : Tick
   make_brings {a} {b} {c} {kind} V n k h calm up f l v = record {
     keeps = keeps_both f.keeps l.keeps;
     counts = make_then t exact ticks n k h f.counts l;
+    sure = sure_both f.sure (sure_make calm l);
     view = v;
     alone = λ alone.
         keeps_then a.key a.words b.words c.words (f.alone alone)
@@ -90,6 +100,7 @@ module _ {T H : Type 0} {t : ℕ → ℕ} {exact : ℕ → Type 0} (ticks : Tick
   brings_both {a} {b} {c} V n m k h f l v = record {
     keeps = keeps_both f.keeps l.keeps;
     counts = then_counts t exact ticks n m k h f.counts l.counts;
+    sure = sure_both f.sure l.sure;
     view = v;
     alone = λ alone.
         keeps_then a.key a.words b.words c.words (f.alone alone)
@@ -102,6 +113,7 @@ module _ {T H : Type 0} {t : ℕ → ℕ} {exact : ℕ → Type 0} (ticks : Tick
   brings_within n k h f = record {
     keeps = f.keeps;
     counts = wider t exact ticks n k h f.counts;
+    sure = f.sure;
     view = f.view;
     alone = f.alone;
   }
@@ -116,6 +128,7 @@ module _ {T H : Type 0} {t : ℕ → ℕ} {exact : ℕ → Type 0} (ticks : Tick
   swap_brings {a} {b} {c} {core} {put} {answer} V n k h calm inside f l v = record {
     keeps = keeps_both f.keeps l.keeps;
     counts = then_counts t exact ticks n 1 k h f.counts (swap_counts l);
+    sure = sure_both f.sure (sure_swap calm l);
     view = v;
     alone = λ alone.
         keeps_then a.key a.words b.words c.words (f.alone alone)
@@ -142,14 +155,17 @@ module _ {T H : Type 0} {t : ℕ → ℕ} {exact : ℕ → Type 0} (ticks : Tick
       )
 
   -- nothing was found, and no frame changed
-  pub missed_frames : {a b : Mover T H} (n : ℕ) → Brings exact n IsAsBefore (SameFrames a.key) a b → Misses exact 0 n (KeepsFrames a.key) a b
+  pub missed_frames : {a b : Mover T H} (n : ℕ) → Brings exact n IsAsBefore (SameFrames a.key) a b
+      → Misses exact 0 n (KeepsFrames a.key) a b
   missed_frames {a} {b} n f = record { view = f.view; made = made_none n f.counts; alone = f.alone }
 
-  pub none_brings : {a b : Mover T H} {In : FrameBlock → Type 0} (n : ℕ) → Keeps a b → Counts exact n a b → TakesNothing In a b
+  pub none_brings : {a b : Mover T H} {In : FrameBlock → Type 0} (n : ℕ)
+      → Keeps a b → Counts exact n a b → StaysSure a b → TakesNothing In a b
       → Brings exact n IsAsBefore (SameFrames a.key) a b
-  none_brings {a} {b} {In} n keeps counts none = record {
+  none_brings {a} {b} {In} n keeps counts sure none = record {
     keeps = keeps;
     counts = counts;
+    sure = sure;
     view = none.view;
     alone = λ alone. keeps_found a.key (NoneIsFree a.key In) a.words b.words (none.alone alone);
   }
@@ -177,7 +193,8 @@ module _ {T H : Type 0} (a b : Mover T H) (tree n : ℕ) (r : Option ℕ) (k : �
   }
 
 -- A block was taken after steps that left the frames as they were.
-pub out_after : {T H : Type 0} {block_of : H → FrameBlock} {In : FrameBlock → Type 0} {U : View → View → Type 0} {held : H} {a b c : Mover T H}
+pub out_after : {T H : Type 0} {block_of : H → FrameBlock} {In : FrameBlock → Type 0}
+    {U : View → View → Type 0} {held : H} {a b c : Mover T H}
     (V : View → View → Type 0) (order : ℕ) → Keeps a b → b.view.kept ≡ a.view.kept → (a.is_alone → KeepsFrames a.key a.words b.words)
     → IsBlockOf b.key order (block_of held) → V a.view c.view → TakesOut block_of In U held b c
     → TakesOut block_of (IsBlockOf a.key order) V held a c
@@ -195,7 +212,8 @@ out_after {T} {H} {block_of} {In} {U} {held} {a} {b} {c} V order keeps kept same
     }
 
 -- and steps that left them so came after
-pub out_still : {T H : Type 0} {block_of : H → FrameBlock} {In : FrameBlock → Type 0} {exact : ℕ → Type 0} {n : ℕ} {U X : View → View → Type 0}
+pub out_still : {T H : Type 0} {block_of : H → FrameBlock} {In : FrameBlock → Type 0}
+    {exact : ℕ → Type 0} {n : ℕ} {U X : View → View → Type 0}
     {held : H} {a b c : Mover T H} (V : View → View → Type 0) → IsBlock a.key (block_of held) → Keeps a b → TakesOut block_of In U held a b
     → Brings exact n X (SameFrames b.key) b c → V a.view c.view → TakesOut block_of In V held a c
 out_still {T} {H} {block_of} {In} {exact} {n} {U} {X} {held} {a} {b} {c} V is keeps out f v = record {
@@ -221,42 +239,44 @@ out_then {T} {H} {block_of} {order} {held} {a} {b} {c} keeps before same out =
 module _ {T H : Type 0} {t : ℕ → ℕ} {exact : ℕ → Type 0} (ticks : Ticks t exact) where
   -- two searches, of which the first missed
   pub searched_twice : {a b c : Mover T H} {block_of : H → FrameBlock} {order : ℕ} {R S : Option (List ℕ) → Option (List ℕ) → Type 0}
-      {answer : Option H} (least more all n m most : ℕ) → all ≤ least + more → n + m ≤ most → Keeps a b → Counts exact n a b
-      → Misses exact least n R a b → (a.is_alone → KeepsFrames a.key a.words b.words)
+      {answer : Option H} (least more all n m most : ℕ) → all ≤ least + more → n + m ≤ most
+      → Searches block_of exact least n order R None a b → (a.is_alone → KeepsFrames a.key a.words b.words)
       → (Q : Option (List ℕ) → Option (List ℕ) → Type 0) → (R a.words b.words → S b.words c.words → Q a.words c.words)
       → Searches block_of exact more m order S answer b c → Searches block_of exact all most order Q answer a c
-  searched_twice {a} {b} {c} {block_of} {order} {R} {S} {answer} least more all n m most enough few keeps counts missed same Q then s = record {
-    keeps = keeps_both keeps s.keeps;
-    counts = then_counts t exact ticks n m most few counts s.counts;
+  searched_twice {a} {b} {c} {block_of} {order} {R} {S} {answer} least more all n m most enough few f same Q then s = record {
+    keeps = keeps_both f.keeps s.keeps;
+    counts = then_counts t exact ticks n m most few f.counts s.counts;
+    sure = sure_both f.sure s.sure;
     some = if_some answer (λ held. TakesOut block_of (IsBlockOf b.key order) HasLentOne held b c)
-        (λ held. TakesOut block_of (IsBlockOf a.key order) HasLentOne held a c) s.some (λ held out. out_then keeps missed.view same out);
+        (λ held. TakesOut block_of (IsBlockOf a.key order) HasLentOne held a c) s.some (λ held out. out_then f.keeps f.none.view same out);
     none = if_none answer (Misses exact more m S b c) (Misses exact all most Q a c) s.none
         (λ x. record {
-          view = before_twice a.view b.view c.view missed.view x.view;
-          made = made_both ticks a b c least more all n n m most enough (omega (arith, few)) few counts missed.made x.made;
-          alone = λ alone. then (missed.alone alone) (x.alone (keeps.stays_alone alone));
+          view = before_twice a.view b.view c.view f.none.view x.view;
+          made = made_both ticks a b c least more all n n m most enough (omega (arith, few)) few f.counts f.none.made x.made;
+          alone = λ alone. then (f.none.alone alone) (x.alone (f.keeps.stays_alone alone));
         });
   }
 
   -- a part that found nothing and kept the frames
-  pub missed_brings : {a b : Mover T H} {least : ℕ} {R : Option (List ℕ) → Option (List ℕ) → Type 0} (n k : ℕ) → n ≤ k → Keeps a b
-      → Counts exact n a b → Misses exact least n R a b → (R a.words b.words → KeepsFrames a.key a.words b.words)
+  pub missed_brings : {a b : Mover T H} {block_of : H → FrameBlock} {least order : ℕ} {R : Option (List ℕ) → Option (List ℕ) → Type 0}
+      (n k : ℕ) → n ≤ k → Searches block_of exact least n order R None a b → (R a.words b.words → KeepsFrames a.key a.words b.words)
       → Brings exact k IsAsBefore (SameFrames a.key) a b
-  missed_brings n k h keeps counts missed same = record {
-    keeps = keeps;
-    counts = wider t exact ticks n k h counts;
-    view = missed.view;
-    alone = λ alone. same (missed.alone alone);
+  missed_brings n k h f same = record {
+    keeps = f.keeps;
+    counts = wider t exact ticks n k h f.counts;
+    sure = f.sure;
+    view = f.none.view;
+    alone = λ alone. same (f.none.alone alone);
   }
 
   -- a pass over all trees that found nothing
-  pub pass_brings : {a b c : Mover T H} {least : ℕ} {P : List ℕ → Type 0} (n k : ℕ) → n + 710 * tree_count a.key ≤ k
-      → Brings exact n IsAsBefore (SameFrames a.key) a b → Keeps b c → Counts exact (710 * tree_count b.key) b c
-      → Misses exact least (710 * tree_count b.key) (FindsOf P) b c → Brings exact k IsAsBefore (SameFrames a.key) a c
-  pass_brings {a} {b} {c} {least} {P} n k h f keeps counts missed =
+  pub pass_brings : {a b c : Mover T H} {block_of : H → FrameBlock} {least order : ℕ} {P : List ℕ → Type 0} (n k : ℕ)
+      → n + 710 * tree_count a.key ≤ k → Brings exact n IsAsBefore (SameFrames a.key) a b
+      → Searches block_of exact least (710 * tree_count b.key) order (FindsOf P) None b c → Brings exact k IsAsBefore (SameFrames a.key) a c
+  pass_brings {a} {b} {c} {P = P} n k h f s =
       brings_both ticks IsAsBefore n (710 * tree_count b.key) k (omega (arith, h, ap tree_count f.keeps.same_key)) f
-      (missed_brings (710 * tree_count b.key) (710 * tree_count b.key) (omega arith) keeps counts missed (keeps_found b.key P b.words c.words))
-      (before_twice a.view b.view c.view f.view missed.view)
+      (missed_brings (710 * tree_count b.key) (710 * tree_count b.key) (omega arith) s (keeps_found b.key P b.words c.words))
+      (before_twice a.view b.view c.view f.view s.none.view)
 
   -- a reserved tree, and one that was passed by
   pub got_brings : {a b : Mover T H} {tree least most free : ℕ} → tree < tree_count a.key → TriesTree exact tree least most (Some free) a b
@@ -264,6 +284,7 @@ module _ {T H : Type 0} {t : ℕ → ℕ} {exact : ℕ → Type 0} (ticks : Tick
   got_brings {a} {b} {tree} {least} {most} {free} inside f = record {
     keeps = f.gets.keeps;
     counts = f.gets.counts;
+    sure = f.gets.sure;
     view = f.gets.some.view;
     alone = λ alone. reserved_keeps a.key tree free a.words b.words inside (f.gets.alone_some alone);
   }
@@ -273,6 +294,7 @@ module _ {T H : Type 0} {t : ℕ → ℕ} {exact : ℕ → Type 0} (ticks : Tick
   passed_brings {a} {b} {tree} {least} {most} k h f = record {
     keeps = f.gets.keeps;
     counts = wider t exact ticks 8 k h f.gets.counts;
+    sure = f.gets.sure;
     view = f.gets.none;
     alone = λ alone. keeps_found a.key (IsPassedBy a.key tree least most) a.words b.words (f.gets.alone_none alone);
   }
@@ -282,7 +304,9 @@ module _ {T H : Type 0} {t : ℕ → ℕ} {exact : ℕ → Type 0} (ticks : Tick
       → Brings exact (3 * b.key.cores) IsAsBefore (IsDrained b.key) b c → Brings exact k IsAsBefore (SameFrames a.key) a c
   drained_brings {a} {b} {c} n k h f d = record {
     keeps = keeps_both f.keeps d.keeps;
-    counts = then_counts t exact ticks n (3 * b.key.cores) k (omega (arith, h, ap (λ (i : Key). i.cores) f.keeps.same_key)) f.counts d.counts;
+    counts = then_counts t exact ticks n (3 * b.key.cores) k
+        (omega (arith, h, ap (λ (i : Key). i.cores) f.keeps.same_key)) f.counts d.counts;
+    sure = sure_both f.sure d.sure;
     view = before_twice a.view b.view c.view f.view d.view;
     alone = λ alone.
         keeps_then a.key a.words b.words c.words (f.alone alone)
@@ -298,6 +322,7 @@ module _ {T H : Type 0} {t : ℕ → ℕ} {exact : ℕ → Type 0} (ticks : Tick
   pass_out {a} {b} {c} more Q n k h f s = record {
     keeps = keeps_both f.keeps s.keeps;
     counts = then_counts t exact ticks n (710 * tree_count b.key) k (omega (arith, h, ap tree_count f.keeps.same_key)) f.counts s.counts;
+    sure = sure_both f.sure s.sure;
     some = out_then f.keeps f.view f.alone s.some;
     none = tt;
   }
@@ -324,7 +349,8 @@ module _ {T H : Type 0} {exact : ℕ → Type 0} {a b c : Mover T H} (e : Clears
         (subst (λ x. exact (b.view.lost + n) → c.missed ≡ (x || nat_lt b.view.lost c.view.lost)) e.missed f.missed);
   }
 
-  pub cleared_misses : {least n : ℕ} {R : Option (List ℕ) → Option (List ℕ) → Type 0} → Misses exact least n R b c → Misses exact least n R a c
+  pub cleared_misses : {least n : ℕ} {R : Option (List ℕ) → Option (List ℕ) → Type 0}
+      → Misses exact least n R b c → Misses exact least n R a c
   cleared_misses {least} {n} {R} f = record {
     view = subst (λ v. IsAsBefore v c.view) e.view f.view;
     made = subst (λ (v : View). exact (v.moves + n) → v.moves + least ≤ c.view.moves) e.view f.made;
@@ -339,11 +365,13 @@ cleared_out {T} {H} {a} {b} {c} e out =
 
 -- A give, and what comes after it.
 
-pub given_low : {T H : Type 0} {exact : ℕ → Type 0} {n : ℕ} {a b : Mover T H} {block_of : H → FrameBlock} {held : H} {U : View → View → Type 0}
+pub given_low : {T H : Type 0} {exact : ℕ → Type 0} {n : ℕ} {a b : Mover T H}
+    {block_of : H → FrameBlock} {held : H} {U : View → View → Type 0}
     → Gives block_of exact n U held a b → GivesBy block_of exact n U held a b
 given_low g = record { keeps = g.keeps; counts = g.counts; back = g.back; alone_given = g.alone_given }
 
-pub given_then : {T H : Type 0} {t : ℕ → ℕ} {exact : ℕ → Type 0} (ticks : Ticks t exact) {a b c : Mover T H} {block_of : H → FrameBlock} {held : H}
+pub given_then : {T H : Type 0} {t : ℕ → ℕ} {exact : ℕ → Type 0}
+    (ticks : Ticks t exact) {a b c : Mover T H} {block_of : H → FrameBlock} {held : H}
     {U X : View → View → Type 0} (V : View → View → Type 0) (n m k : ℕ) → n + m ≤ k → IsBlock a.key (block_of held)
     → GivesBy block_of exact n U held a b → Brings exact m X (SameFrames b.key) b c → V a.view c.view → GivesBy block_of exact k V held a c
 given_then {T} {H} {t} {exact} ticks {a} {b} {c} {block_of} {held} V n m k h is give f v = record {

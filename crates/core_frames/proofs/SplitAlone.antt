@@ -1,5 +1,6 @@
 -- A split where nobody else steps: every frame is held or free as before, and the halves hold what the block held.
-use Rattle.std.proofs.Common.{◌≡◌, ⊎_elim, ℕ, zero, suc, ◌+◌, ◌-◌, ◌*◌, ◌/◌, ◌%◌, ◌^◌, ◌<◌, ◌≤◌, max, List, [], ◌∷◌, Option, None, Some, Bool, true, false, refl, ap, sym, subst, ◌∙◌, arith}
+use Rattle.std.proofs.Common.{◌≡◌, ⊎_elim, ℕ, zero, suc, ◌+◌, ◌-◌, ◌*◌, ◌/◌, ◌%◌, ◌^◌, ◌<◌, ◌≤◌, max, List, [], ◌∷◌, Option, None, Some}
+use Rattle.std.proofs.Common.{Bool, true, false, refl, ap, sym, subst, ◌∙◌, arith}
 use Rattle.std.specs.Prelude.{slice_index, if◌then◌else◌}
 use Rattle.std.specs.List.{All, sum_by}
 use Rattle.std.proofs.lemmas.List.Elements.{All-head, All-tail, All-cons}
@@ -226,7 +227,8 @@ both_halves key b x is some = ⊎_elim (λ (l : b.order < 9). small b.order refl
     huge n =
         let c : ℕ = b.frame / 512 in
         let there : b ≡ block (512 * c) 9 = as_child key b is n in
-        let two = ap (λ (d : FrameBlock). small_at x (block d.frame (d.order - 1)) + small_at x (block (d.frame + 2 ^ (d.order - 1)) (d.order - 1))) there in
+        let two = ap (λ (d : FrameBlock). small_at x (block d.frame (d.order - 1))
+        + small_at x (block (d.frame + 2 ^ (d.order - 1)) (d.order - 1))) there in
         let whole = ap (whole_at (x / 512)) there in
         ⊎_elim
         (λ (e : x / 512 ≡ c). omega (
@@ -351,7 +353,8 @@ pub halved_words : (key last : Key) (b first second : FrameBlock) (v w : View) (
 halved_words key last b first second v w A B None mid new k is are idle lent calm still fits later lost same = tt
 halved_words key last b first second v w A B (Some ws) mid new k is are idle lent calm still fits later lost same =
     let us : List ℕ = lost.0 in
-    let there : (vs : List ℕ) × ((new ≡ Some vs) × (vs ≡ us)) = at_known mid (λ l. (vs : List ℕ) × ((new ≡ Some vs) × (vs ≡ l))) us lost.1.0 same in
+    let there : (vs : List ℕ) × ((new ≡ Some vs) × (vs ≡ us)) =
+    at_known mid (λ l. (vs : List ℕ) × ((new ≡ Some vs) × (vs ≡ l))) us lost.1.0 same in
     let known : new ≡ Some us = there.1.0 ∙ ap (λ l. Some l) there.1.1 in
     let after : FitsAlone B key us w = subst (λ (i : Key). FitsAlone B i us w) k (later us known) in (
       us,

@@ -1,5 +1,6 @@
 -- A split, step by step.
-use Rattle.std.proofs.Common.{◌≡◌, ⊎_elim, ℕ, zero, suc, ◌+◌, ◌-◌, ◌*◌, ◌/◌, ◌%◌, ◌^◌, ◌<◌, ◌≤◌, List, [], ◌∷◌, refl, ap, sym, subst, ◌∙◌, arith}
+use Rattle.std.proofs.Common.{◌≡◌, ⊎_elim, ℕ, zero, suc, ◌+◌, ◌-◌, ◌*◌, ◌/◌, ◌%◌, ◌^◌, ◌<◌, ◌≤◌, List, [], ◌∷◌, refl, ap, sym, subst, ◌∙◌}
+use Rattle.std.proofs.Common.{arith}
 use Rattle.std.specs.Prelude.{Some, ℤ, pos, ◌+ℤ◌, ◌-ℤ◌}
 use Rattle.std.proofs.lemmas.Bool.{cases_eq}
 use Rattle.std.proofs.lemmas.Bool.Decides.{nat_tests}
@@ -17,7 +18,8 @@ use Rattle.frame_core.specs.Seats.{hand_in, CanHandOut, joined_by, left_by}
 use Rattle.frame_core.specs.Moves.{after, drop_whole, hand_out_block}
 use Rattle.frame_core.specs.Without.{without, HasFrames}
 use Rattle.frame_model.proofs.Amounts.{names_put, names_here, names_else}
-use Rattle.frame_model.proofs.Blocks.{smalls_none, wholes_none, smalls_cons, wholes_cons, not_whole, halves, child_is_block, half_is_block, other_half_is_block, whole_here}
+use Rattle.frame_model.proofs.Blocks.{smalls_none, wholes_none, smalls_cons, wholes_cons, not_whole, halves, child_is_block, half_is_block}
+use Rattle.frame_model.proofs.Blocks.{other_half_is_block, whole_here}
 use Rattle.frame_model.proofs.Without.{without_leaves, without_itself, leaves_nothing}
 use Rattle.std.proofs.lemmas.Int.{ints}
 use Rattle.std.proofs.lemmas.Nat.{pow_pos}
@@ -98,7 +100,8 @@ module _ (key : Key) (f o : ℕ) (blocks : List FrameBlock) (two : MakeTwo key f
     wholes = λ nine. absurd (omega (arith, two.small, nine));
   }
 
-  pub high_leaves : Leaves key (without (block f o) blocks) (block (f + 2 ^ o) o) (without (block (f + 2 ^ o) o) (without (block f o) blocks))
+  pub high_leaves : Leaves key (without (block f o) blocks) (block (f + 2 ^ o) o)
+      (without (block (f + 2 ^ o) o) (without (block f o) blocks))
   high_leaves = without_leaves key (block (f + 2 ^ o) o) (without (block f o) blocks) two.upper low_leaves.are_blocks high_left
 
   pub none_left : without (block (f + 2 ^ o) o) (without (block f o) blocks) ≡ []
@@ -143,9 +146,17 @@ two_of_huge key c h =
       small = omega arith;
       lower = half_is_block key c h;
       upper = other_half_is_block key c h;
-      are_blocks = All-cons (IsBlock key) low (high ∷ []) (half_is_block key c h) (All-cons (IsBlock key) high [] (other_half_is_block key c h) (All-nil (IsBlock key)));
+      are_blocks = All-cons (IsBlock key) low (high ∷ []) (half_is_block key c h)
+          (All-cons (IsBlock key) high [] (other_half_is_block key c h) (All-nil (IsBlock key)));
       smalls = λ x. omega (arith, smalls_cons x low (high ∷ []), smalls_cons x high [], smalls_none x);
-      wholes = λ d. omega (arith, wholes_cons d low (high ∷ []), wholes_cons d high [], wholes_none d, not_whole d low (omega arith), not_whole d high (omega arith));
+      wholes = λ d. omega (
+        arith,
+        wholes_cons d low (high ∷ []),
+        wholes_cons d high [],
+        wholes_none d,
+        not_whole d low (omega arith),
+        not_whole d high (omega arith),
+      );
     }
 
 pub two_small : (key : Key) (f o : ℕ) → 0 < o → o < 9 → IsBlock key (block f o) → MakeTwo key f (o - 1) (block f o ∷ [])
@@ -260,7 +271,8 @@ both_out t key v u w f o n two size e g =
     (t v.moves) v.lost refl e refl refl refl in
     bears v u w (without low v.own) (without (block (f + n) o) u.own) [] v.filled u.filled v.filled (v.lent +ℤ pos 1)
     (u.lent +ℤ pos 1) (v.lent +ℤ pos 1 +ℤ pos 1) (t u.moves) u.lost first g
-    (ap (λ k. without (block (f + k) o) u.own) size ∙ ap (λ (x : View). without (block (f + 2 ^ o) o) x.own) e ∙ none_left key f o v.own two)
+    (ap (λ k. without (block (f + k) o) u.own) size
+    ∙ ap (λ (x : View). without (block (f + 2 ^ o) o) x.own) e ∙ none_left key f o v.own two)
     (ap (λ x. x.filled) e) (ap (λ x. x.lent +ℤ pos 1) e)
 
 lent_one : (z : ℤ) → (z -ℤ pos 1) +ℤ pos 1 +ℤ pos 1 ≡ z +ℤ pos 1

@@ -1,5 +1,6 @@
 -- What the search, the give and their parts ask, and how they may end.
-use Rattle.std.specs.Prelude.{◌≡◌, ℕ, ◌+◌, ◌^◌, ◌<◌, ◌≤◌, List, Option, Some, IfSome, IfNone, Result, IfOk, IfErr, Bool, true, false, nat_lt}
+use Rattle.std.specs.Prelude.{◌≡◌, ℕ, ◌+◌, ◌^◌, ◌<◌, ◌≤◌, List, Option, Some}
+use Rattle.std.specs.Prelude.{IfSome, IfNone, Result, IfOk, IfErr, Bool, true, false, nat_lt, slice_index}
 use Rattle.frame_words.specs.declared.fault.TakeFault.{TakeFault}
 use Rattle.frame_words.specs.declared.fault.TakeFault.TheVariants.{BadOrder, NoBlock, Contended}
 use Rattle.frame_words.specs.Words.{rest_in}
@@ -9,7 +10,7 @@ use Rattle.frame_core.specs.Key.{tree_count}
 use Rattle.frame_core.specs.Words.{local_place, IsRest}
 use Rattle.frame_core.specs.View.{counted, IsIdle}
 use Rattle.frame_core.specs.Mover.{Mover, Keeps, KeepsOthers}
-use Rattle.low_frames.specs.Takes.{Counts, IsAsBefore}
+use Rattle.low_frames.specs.Takes.{Counts, IsAsBefore, IsSure, StaysSure}
 use Rattle.low_frames.specs.Alone.{Turns, WordsGive}
 use Rattle.low_frames.specs.Outcomes.{TakesOut}
 use Rattle.low_frames.specs.Parts.{Gets}
@@ -56,13 +57,6 @@ pub record MaySearchTrees {T H : Type 0} (k n from to : ℕ) (m : Mover T H) : T
   pub ends : to ≤ tree_count m.key
   pub idle : IsIdle m.view
 
--- and the local word of the core was seen so
-pub record MayPayOwn {T H : Type 0} (k word : ℕ) (m : Mover T H) : Type 0 where
-  pub core : k < m.key.cores
-  pub seen : m.read (local_place m.key k) ≡ Some word
-  pub rest : IsRest m.key (rest_in word)
-  pub idle : IsIdle m.view
-
 -- n frames of the tree, all that are, are paid
 pub record MayRefund {T H : Type 0} (k t n : ℕ) (m : Mover T H) : Type 0 where
   pub core : k < m.key.cores
@@ -94,14 +88,20 @@ pub record Brings {T H : Type 0} (exact : ℕ → Type 0) (most : ℕ) (V : View
     (W : List ℕ → List ℕ → Type 0) (old new : Mover T H) : Type 0 where
   pub keeps : Keeps old new
   pub counts : Counts exact most old new
+  pub sure : StaysSure old new
   pub view : V old.view new.view
   pub alone : old.is_alone → Turns W old.words new.words
+
+-- the words are known, and this one of them is so
+abbrev pub IsKnown : {T H : Type 0} → ℕ → ℕ → Mover T H → Type 0
+IsKnown place word m = (ws : List ℕ) × ((m.words ≡ Some ws) × (slice_index ws place ≡ word))
 
 -- all is as before, each frame is held or free as before, and the local word of the core is this one
 pub record LoadsOwn {T H : Type 0} (exact : ℕ → Type 0) (k word : ℕ) (old new : Mover T H)
     : Type 0 where
   pub brings : Brings exact 19 IsAsBefore (SameFrames old.key) old new
   pub seen : new.read (local_place new.key k) ≡ Some word
+  pub known : IsSure old → IsKnown (local_place new.key k) word new
   pub rest : IsRest old.key (rest_in word)
 
 -- an attempt to reserve the tree where it counts from so many to so many free frames: they are paid;
@@ -126,6 +126,7 @@ pub record Searches {T H : Type 0} (block_of : H → FrameBlock) (exact : ℕ �
     (old new : Mover T H) : Type 0 where
   pub keeps : Keeps old new
   pub counts : Counts exact most old new
+  pub sure : StaysSure old new
   pub some : IfSome answer (λ held.
       TakesOut block_of (IsBlockOf old.key n) HasLentOne held old new)
   pub none : IfNone answer (Misses exact least most R old new)
@@ -158,11 +159,13 @@ Refuses exact n BadOrder old new = (9 < n) × IsUntouched old new
 Refuses exact n NoBlock old new = FindsNoneBy exact n false old new
 Refuses exact n Contended old new = FindsNoneBy exact n true old new
 
--- a take of a block of the order: one is out and lent; or it is refused
+-- a take of a block of the order: one is out and lent; or it is refused; who is sure of the words
+-- loses no exchange
 pub record TakesBy {T H : Type 0} (block_of : H → FrameBlock) (exact : ℕ → Type 0) (n : ℕ)
     (answer : Result H TakeFault) (old new : Mover T H) : Type 0 where
   pub keeps : Keeps old new
   pub counts : n ≤ 9 → Counts exact (most_moves old.key) (cleared old) new
+  pub sure : n ≤ 9 → StaysSure (cleared old) new
   pub ok : IfOk answer (λ held.
       TakesOut block_of (IsBlockOf old.key n) HasLentOne held old new)
   pub err : IfErr answer (λ fault. Refuses exact n fault old new)

@@ -1,4 +1,4 @@
-use Rattle.std.proofs.Common.{◌≡◌, ◌⊎◌, inl, inr, Some, ◌+◌, ◌*◌, ◌<◌, refl, ap, sym, subst, ◌∙◌, arith, rules}
+use Rattle.std.proofs.Common.{◌≡◌, ◌⊎◌, inl, inr, ◌+◌, ◌*◌, ◌<◌, refl, ap, sym, subst, ◌∙◌, arith, rules}
 use Rattle.frame_words.specs.Words.{flag_in}
 use Rattle.low_frames.specs.Takes.{IsAsBefore}
 use Rattle.low_frames.proofs.TakeLemmas.{still_as_before, load_then, try_then, wider, keeps_both, apart_as}
@@ -9,9 +9,12 @@ use Rattle.low_frames.proofs.AloneLemmas.{IsSeen, seen_first}
 use Rattle.low_frames.proofs.Sure.{sure_where, sure_both, sure_load, sure_made}
 use Rattle.core_frames.proofs.AloneSearch.{none_lost, lost_first, reserved_first, passed_first}
 use Rattle.core_frames.specs.Alone.{IsPassedBy}
+use Rattle.core_frames.proofs.SureSteps.{read_here}
 use Rattle.core_frames.proofs.SearchSteps.{made_one, made_none, made_both}
 use Rattle.core_frames.proofs.attempts.try_reserve.Goals as goal
-use Rattle.core_frames.proofs.attempts.try_reserve.Goals.{then-tree_reserved-via-then-tree_reserved, then-tree_reserved-via-else-tree_reserved+then-free-least, then-tree_reserved-via-else-tree_reserved+else-free-least+then-free-most}
+use Rattle.core_frames.proofs.attempts.try_reserve.Goals.{then-tree_reserved-via-then-tree_reserved}
+use Rattle.core_frames.proofs.attempts.try_reserve.Goals.{then-tree_reserved-via-else-tree_reserved+then-free-least}
+use Rattle.core_frames.proofs.attempts.try_reserve.Goals.{then-tree_reserved-via-else-tree_reserved+else-free-least+then-free-most}
 
 pub reserve-requires : goal.reserve-requires
 reserve-requires g c =
@@ -23,8 +26,7 @@ reserve-requires g c =
     let flag : flag_in c.load-seen.result ≡ 0 = unset (flag_in c.load-seen.result) c.if-tree_reserved.ensures.set.1 in
     record {
       share = (idle_still v w c.requires.idle before).share;
-      seen = subst (λ k. (M.at c.load-seen.new.self).read (tree_place k c.args.tree) ≡ Some c.load-seen.result) (sym c.load-seen.ensures.keeps.same_key)
-          c.load-seen.ensures.here;
+      seen = read_here c.load-seen.ensures;
       may = can_reserve (M.at c.load-seen.new.self).key (M.at c.args.m.now).key v w c.args.tree c.load-seen.result
           (c.load-seen.ensures.keeps.same_key ∙ c.loop-i.invariant.keeps.same_key) c.requires.tree c.requires.idle before flag;
     }
@@ -94,7 +96,8 @@ returns-then-tree_reserved g c =
             let mid = was.keeps.stays_alone alone in
             let seen = seen_first c.loop-i._i (tree_place u.key c.args.tree) c.load-seen.result m.words u.words w.words (was.first alone)
             (c.load-seen.ensures.words (g.met.M.Moves.stays_alone c.loop-i.m mid)) in
-            let why : (0 < flag_in c.load-seen.result) ⊎ ((c.tree_free-free.result < c.args.least) ⊎ (c.args.most < c.tree_free-free.result)) =
+            let free = c.tree_free-free.result in
+            let why : (0 < flag_in c.load-seen.result) ⊎ ((free < c.args.least) ⊎ (c.args.most < free)) =
             elim c.then-tree_reserved.branch [
               | then-tree_reserved-via-then-tree_reserved w ↦ inl (w.if-tree_reserved.ensures.set.0 refl)
               | then-tree_reserved-via-else-tree_reserved+then-free-least w ↦ inr (inl w.if-free-least.true)
@@ -124,7 +127,8 @@ returns g c =
         none = was.view;
         alone_some = λ alone. tt;
         alone_none = λ alone.
-            none_lost c.loop-i._i (IsPassedBy m.key c.args.tree c.args.least c.args.most) m.words u.words (omega (arith, c.loop-i-test.false))
+            none_lost c.loop-i._i (IsPassedBy m.key c.args.tree c.args.least c.args.most)
+            m.words u.words (omega (arith, c.loop-i-test.false))
             (was.first alone);
       };
       made = λ h. omega (arith, was.made h, c.loop-i-test.false);
@@ -145,8 +149,10 @@ loop-i-preserved g c =
       keeps = keeps_both was.keeps (keeps_both c.load-seen.ensures.keeps c.reserve.ensures.keeps);
       view = search rules;
       counts = try_then M.tick M.is_exact ticks (2 * i + 1) (2 * (i + 1)) (omega arith) loads c.reserve.ensures;
-      made = made_both ticks m w x (2 * i + 1) 1 (2 * (i + 1)) (2 * i + 1) 8 1 8 (omega arith) (omega arith) (omega (arith, c.loop-i-test.true)) loads
-          (made_both ticks m u w (2 * i) 1 (2 * i + 1) (2 * i) 8 1 8 (omega arith) (omega arith) (omega (arith, c.loop-i-test.true)) was.counts was.made
+      made = made_both ticks m w x (2 * i + 1) 1 (2 * (i + 1)) (2 * i + 1) 8 1 8
+          (omega arith) (omega arith) (omega (arith, c.loop-i-test.true)) loads
+          (made_both ticks m u w (2 * i) 1 (2 * i + 1) (2 * i) 8 1 8 (omega arith)
+          (omega arith) (omega (arith, c.loop-i-test.true)) was.counts was.made
           (made_one ticks u w (ap (λ v. v.moves) c.load-seen.ensures.view)))
           (made_one ticks w x (ap (λ v. v.moves) c.if-reserve.ensures.view));
       first = λ alone.

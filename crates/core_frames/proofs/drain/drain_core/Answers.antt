@@ -6,9 +6,12 @@ use Rattle.std.specs.Prelude.{List, slice_index}
 use Rattle.frame_core.specs.Words.{local_place}
 use Rattle.frame_core.specs.Steps.{swap_local, unreserve}
 use Rattle.low_frames.specs.Takes.{IsAsBefore}
+use Rattle.low_frames.proofs.Sure.{sure_both, sure_load, sure_make}
 use Rattle.low_frames.proofs.TakeLemmas.{counts_none, load_then, make_then, then_counts, keeps_both}
-use Rattle.core_frames.proofs.Carried.{loaded, idle_still, before_twice, put_down_idle, swapped_none, swapped_some, can_take_out, can_unreserve, unreserved}
+use Rattle.core_frames.proofs.Carried.{loaded, idle_still, before_twice, put_down_idle, swapped_none, swapped_some, can_take_out}
+use Rattle.core_frames.proofs.Carried.{can_unreserve, unreserved}
 use Rattle.core_frames.proofs.AloneSearch.{is_nothing, nothing_there, loaded_then, emptied, drained_then, swap_changes}
+use Rattle.core_frames.proofs.SureSteps.{sure_swap}
 use Rattle.core_frames.proofs.SearchSteps.{swap_counts}
 use Rattle.core_frames.proofs.drain.drain_core.Goals as goal
 
@@ -47,6 +50,7 @@ returns-then-is_none g c =
     record {
       keeps = c.load-seen.ensures.keeps;
       counts = load_then M.tick M.is_exact ticks 0 3 (omega arith) (counts_none M.tick M.is_exact ticks m) c.load-seen.ensures;
+      sure = sure_load (g.met.M.Moves.stays_alone c.args.m.now) c.load-seen.ensures;
       view = loaded M.tick m.view u.view c.load-seen.ensures.view;
       alone = λ alone.
           nothing_there m.key m.key c.args.core c.load-seen.result m.words u.words refl
@@ -68,6 +72,8 @@ returns-in_default g c =
       counts = then_counts M.tick M.is_exact ticks 1 1 3 (omega arith)
           (load_then M.tick M.is_exact ticks 0 1 (omega arith) (counts_none M.tick M.is_exact ticks m) c.load-seen.ensures)
           (swap_counts ticks c.in_default.ensures);
+      sure = sure_both (sure_load (g.met.M.Moves.stays_alone c.args.m.now) c.load-seen.ensures)
+          (sure_swap (g.met.M.Moves.stays_alone c.load-seen.new.self) c.in_default.ensures);
       view = before_twice m.view u.view w.view before
           (put_down_idle u.view w.view (idle_still m.view u.view c.requires.idle before)
           (swapped_none M.tick c.args.core found.0 None u.view w.view found.1 found.2));
@@ -75,7 +81,8 @@ returns-in_default g c =
           loaded_then m.key m.key c.args.core c.load-seen.result m.words u.words w.words
           (c.load-seen.ensures.words (g.met.M.Moves.stays_alone c.args.m.now alone))
           (emptied u.key m.key c.args.core u.words w.words c.load-seen.ensures.keeps.same_key c.requires.core
-          (swap_changes u.key (swap_local c.args.core None) (λ (ws : List ℕ). rest_in (slice_index ws (local_place u.key c.args.core)) ≡ None) u.words w.words
+          (swap_changes u.key (swap_local c.args.core None)
+          (λ (ws : List ℕ). rest_in (slice_index ws (local_place u.key c.args.core)) ≡ None) u.words w.words
           (c.in_default.ensures.words (g.met.M.Moves.stays_alone c.load-seen.new.self (c.load-seen.ensures.keeps.stays_alone alone)))));
     }
 
@@ -97,10 +104,14 @@ returns g c =
           (load_then M.tick M.is_exact ticks 0 1 (omega arith) (counts_none M.tick M.is_exact ticks m) c.load-seen.ensures)
           (swap_counts ticks c.in-Some.ensures))
           c.unreserve.ensures;
+      sure = sure_both (sure_load (g.met.M.Moves.stays_alone c.args.m.now) c.load-seen.ensures)
+          (sure_both (sure_swap (g.met.M.Moves.stays_alone c.load-seen.new.self) c.in-Some.ensures)
+          (sure_make (g.met.M.Moves.stays_alone c.swap_local.new.self) c.unreserve.ensures));
       view = before_twice m.view u.view x.view before
           (put_down_idle u.view x.view (idle_still m.view u.view c.requires.idle before)
           (unreserved M.tick u.view w.view x.view c.in-Some.tree c.in-Some.count u.view.lent
-          (swapped_some M.tick c.args.core found.0 c.in-Some.tree c.in-Some.count None u.view w.view found.1 found.2) c.unreserve.ensures.view));
+          (swapped_some M.tick c.args.core found.0 c.in-Some.tree c.in-Some.count None u.view w.view found.1 found.2)
+          c.unreserve.ensures.view));
       alone = λ alone.
           let mid = c.load-seen.ensures.keeps.stays_alone alone in
           drained_then m.key w.key c.args.core (unreserve c.in-Some.tree c.in-Some.count) c.in-Some.tree m.words w.words x.words
@@ -108,7 +119,8 @@ returns g c =
           (loaded_then m.key m.key c.args.core c.load-seen.result m.words u.words w.words
           (c.load-seen.ensures.words (g.met.M.Moves.stays_alone c.args.m.now alone))
           (emptied u.key m.key c.args.core u.words w.words c.load-seen.ensures.keeps.same_key c.requires.core
-          (swap_changes u.key (swap_local c.args.core None) (λ (ws : List ℕ). rest_in (slice_index ws (local_place u.key c.args.core)) ≡ _) u.words w.words
+          (swap_changes u.key (swap_local c.args.core None)
+          (λ (ws : List ℕ). rest_in (slice_index ws (local_place u.key c.args.core)) ≡ _) u.words w.words
           (c.in-Some.ensures.words (g.met.M.Moves.stays_alone c.load-seen.new.self mid)))))
           (c.unreserve.ensures.words (g.met.M.Moves.stays_alone c.swap_local.new.self (c.in-Some.ensures.keeps.stays_alone mid)));
     }

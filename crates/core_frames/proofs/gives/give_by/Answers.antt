@@ -3,7 +3,8 @@ use Rattle.frame_model.specs.declared.key.Key.{Key}
 use Rattle.frame_model.specs.declared.view.View.{View}
 use Rattle.frame_core.specs.Key.{tree_of, tree_count}
 use Rattle.core_frames.specs.Search.{HasRefunded, HasTakenOne}
-use Rattle.core_frames.proofs.Carried.{none_but_none, given_paid, given_own, given_to_tree, taken_one_still, idle_taken_one, can_refund_tree, in_a_tree, refunded_tree}
+use Rattle.core_frames.proofs.Carried.{none_but_none, given_paid, given_own, given_to_tree, taken_one_still, idle_taken_one}
+use Rattle.core_frames.proofs.Carried.{can_refund_tree, in_a_tree, refunded_tree}
 use Rattle.core_frames.proofs.KeptFrames.{upper_tree}
 use Rattle.core_frames.proofs.SearchSteps.{given_low, make_brings, given_then}
 use Rattle.core_frames.proofs.gives.give_by.Goals as goal
@@ -24,7 +25,8 @@ try_refund_own-requires g c =
     let M = g.M.Moves in
     let m = M.at c.args.m.now in
     let b = g.M.Held.HeldBlock.block_of c.args.held in
-    let inside : tree_of b.frame < tree_count m.key = in_a_tree m.key b (g.met.M.Moves.outs_are_blocks c.args.m.now c.args.held c.requires.held) in
+    let inside : tree_of b.frame < tree_count m.key =
+    in_a_tree m.key b (g.met.M.Moves.outs_are_blocks c.args.m.now c.args.held c.requires.held) in
     let tree : c.tree_of-tree.result ≡ tree_of b.frame = c.tree_of-tree.ensures ∙ ap tree_of c.frame.ensures in
     record {
       core = subst (λ (i : Key). c.args.habit.now.core < i.cores) (sym c.give_low.ensures.keeps.same_key) c.requires.core;
@@ -53,7 +55,8 @@ tree_refund-requires g c =
     let u = M.at c.give_low.new.m in
     let w = M.at c.try_refund_own.new.m in
     let b = g.M.Held.HeldBlock.block_of c.args.held in
-    let inside : tree_of b.frame < tree_count m.key = in_a_tree m.key b (g.met.M.Moves.outs_are_blocks c.args.m.now c.args.held c.requires.held) in
+    let inside : tree_of b.frame < tree_count m.key =
+    in_a_tree m.key b (g.met.M.Moves.outs_are_blocks c.args.m.now c.args.held c.requires.held) in
     let tree : c.tree_of-tree.result ≡ tree_of b.frame = c.tree_of-tree.ensures ∙ ap tree_of c.frame.ensures in
     record {
       share = omega (
@@ -78,11 +81,15 @@ reserve_own-requires g c =
     let w = M.at c.try_refund_own.new.m in
     let x = M.at c.tree_refund.new.self in
     let b = g.M.Held.HeldBlock.block_of c.args.held in
-    let k : x.key ≡ m.key = c.tree_refund.ensures.keeps.same_key ∙ c.if-try_refund_own.ensures.keeps.same_key ∙ c.give_low.ensures.keeps.same_key in
-    let inside : tree_of b.frame < tree_count m.key = in_a_tree m.key b (g.met.M.Moves.outs_are_blocks c.args.m.now c.args.held c.requires.held) in
+    let k : x.key ≡ m.key =
+    c.tree_refund.ensures.keeps.same_key ∙ c.if-try_refund_own.ensures.keeps.same_key
+    ∙ c.give_low.ensures.keeps.same_key in
+    let inside : tree_of b.frame < tree_count m.key =
+    in_a_tree m.key b (g.met.M.Moves.outs_are_blocks c.args.m.now c.args.held c.requires.held) in
     let tree : c.tree_of-tree.result ≡ tree_of b.frame = c.tree_of-tree.ensures ∙ ap tree_of c.frame.ensures in
     record {
-      core = subst (λ (i : Key). c.counts.new.self.core < i.cores) (sym k) (subst (λ n. n < m.key.cores) (sym c.counts.ensures.core) c.requires.core);
+      core = subst (λ (i : Key). c.counts.new.self.core < i.cores) (sym k)
+          (subst (λ n. n < m.key.cores) (sym c.counts.ensures.core) c.requires.core);
       tree = subst (λ (i : Key). c.tree_of-tree.result < tree_count i) (sym k) (subst (λ t. t < tree_count m.key) (sym tree) inside);
       idle = idle_taken_one m.view x.view c.requires.idle
           (given_to_tree m.view u.view b c.frame.result c.order.result c.tree_of-tree.result c.frames_of-n.result c.requires.idle
@@ -105,7 +112,8 @@ returns-else-counts-clause-gives g c =
     let paid = given_paid m.view u.view b c.frame.result c.order.result c.tree_of-tree.result c.frames_of-n.result c.requires.idle
     c.give_low.ensures.back c.frame.ensures c.order.ensures c.tree_of-tree.ensures c.frames_of-n.ensures.value in
     let rest = make_brings ticks HasRefunded 8 9 (omega arith) (g.met.M.Moves.stays_alone c.try_refund_own.new.m)
-    (upper_tree u.key c.tree_of-tree.result (subst (λ (i : Key). c.tree_of-tree.result < tree_count i) (sym c.give_low.ensures.keeps.same_key) inside))
+    (upper_tree u.key c.tree_of-tree.result
+    (subst (λ (i : Key). c.tree_of-tree.result < tree_count i) (sym c.give_low.ensures.keeps.same_key) inside))
     c.if-try_refund_own.ensures c.tree_refund.ensures
     (refunded_tree M.tick u.view w.view x.view c.if-try_refund_own.ensures.view c.tree_of-tree.result c.frames_of-n.result paid
     c.tree_refund.ensures.view) in
@@ -129,7 +137,8 @@ returns-then-counts-clause-gives g c =
     let paid = given_paid m.view u.view b c.frame.result c.order.result c.tree_of-tree.result c.frames_of-n.result c.requires.idle
     c.give_low.ensures.back c.frame.ensures c.order.ensures c.tree_of-tree.ensures c.frames_of-n.ensures.value in
     let rest = make_brings ticks HasRefunded 8 9 (omega arith) (g.met.M.Moves.stays_alone c.try_refund_own.new.m)
-    (upper_tree u.key c.tree_of-tree.result (subst (λ (i : Key). c.tree_of-tree.result < tree_count i) (sym c.give_low.ensures.keeps.same_key) inside))
+    (upper_tree u.key c.tree_of-tree.result
+    (subst (λ (i : Key). c.tree_of-tree.result < tree_count i) (sym c.give_low.ensures.keeps.same_key) inside))
     c.if-try_refund_own.ensures c.tree_refund.ensures
     (refunded_tree M.tick u.view w.view x.view c.if-try_refund_own.ensures.view c.tree_of-tree.result c.frames_of-n.result paid
     c.tree_refund.ensures.view) in

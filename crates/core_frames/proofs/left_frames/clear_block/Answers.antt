@@ -16,7 +16,8 @@ returns c =
     let b = block c.args.frame c.args.order in
     let run = c.clear_run.ensures in
     let end = ap (λ n. c.args.frame + n) c.frames_of.ensures.value in
-    cleared_run b left.bits.items c.clear_run.new.bits.items left.huge.items (omega (arith, c.requires.order, c.if-order-eq-HUGE_ORDER.false))
+    cleared_run b left.bits.items c.clear_run.new.bits.items left.huge.items
+    (omega (arith, c.requires.order, c.if-order-eq-HUGE_ORDER.false))
     c.requires.shown run.count
     (λ x l h. run.cleared x l (omega (arith, end, h)))
     (λ x out. run.others x (⊎_elim (λ l. inl l) (λ h. inr (omega (arith, end, h))) out))

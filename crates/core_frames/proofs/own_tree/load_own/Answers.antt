@@ -2,9 +2,11 @@ use Rattle.std.proofs.Common.{◌≡◌, ◌<◌, Some, sym, subst, ◌∙◌, a
 use Rattle.frame_words.specs.Words.{rest_in}
 use Rattle.frame_model.specs.declared.key.Key.{Key}
 use Rattle.frame_core.specs.Key.{tree_count}
-use Rattle.frame_core.specs.Words.{local_place, IsRest}
+use Rattle.frame_core.specs.Words.{IsRest}
 use Rattle.low_frames.specs.Takes.{IsAsBefore}
 use Rattle.core_frames.proofs.Carried.{loaded, idle_still, before_twice}
+use Rattle.low_frames.proofs.Sure.{sure_none, sure_both}
+use Rattle.core_frames.proofs.SureSteps.{read_here, known_load}
 use Rattle.core_frames.proofs.SearchSteps.{begun, load_brings, brings_both}
 use Rattle.core_frames.proofs.own_tree.load_own.Goals as goal
 
@@ -19,8 +21,8 @@ returns-in_default g c =
     record {
       brings = load_brings g.met.M.Moves.ticks 0 19 (omega arith) (g.met.M.Moves.stays_alone c.args.m.now) (begun g.met.M.Moves.ticks m)
           c.load-seen.ensures;
-      seen = subst (λ k. u.read (local_place k c.args.core) ≡ Some c.load-seen.result) (sym c.load-seen.ensures.keeps.same_key)
-          c.load-seen.ensures.here;
+      seen = read_here c.load-seen.ensures;
+      known = known_load (g.met.M.Moves.stays_alone c.args.m.now) (sure_none m) c.load-seen.ensures;
       rest = c.load-seen.ensures.layout;
     }
 
@@ -32,8 +34,8 @@ returns-then-resting-n g c =
     record {
       brings = load_brings g.met.M.Moves.ticks 0 19 (omega arith) (g.met.M.Moves.stays_alone c.args.m.now) (begun g.met.M.Moves.ticks m)
           c.load-seen.ensures;
-      seen = subst (λ k. u.read (local_place k c.args.core) ≡ Some c.load-seen.result) (sym c.load-seen.ensures.keeps.same_key)
-          c.load-seen.ensures.here;
+      seen = read_here c.load-seen.ensures;
+      known = known_load (g.met.M.Moves.stays_alone c.args.m.now) (sure_none m) c.load-seen.ensures;
       rest = c.load-seen.ensures.layout;
     }
 
@@ -59,7 +61,8 @@ load-requires g c =
     let w = M.at c.collect_own.new.m in
     let before : IsAsBefore m.view u.view = loaded M.tick m.view u.view c.load-seen.ensures.view in
     record {
-      inside = subst (λ (k : Key). c.args.core < k.cores) (sym (c.collect_own.ensures.keeps.same_key ∙ c.load-seen.ensures.keeps.same_key)) c.requires.core;
+      inside = subst (λ (k : Key). c.args.core < k.cores)
+          (sym (c.collect_own.ensures.keeps.same_key ∙ c.load-seen.ensures.keeps.same_key)) c.requires.core;
       share = (idle_still m.view w.view c.requires.idle (before_twice m.view u.view w.view before c.collect_own.ensures.view)).share;
     }
 
@@ -78,6 +81,7 @@ returns g c =
           (brings_both ticks IsAsBefore 1 17 18 (omega arith) one c.collect_own.ensures
           (before_twice m.view u.view w.view one.view c.collect_own.ensures.view))
           c.load.ensures;
-      seen = subst (λ i. x.read (local_place i c.args.core) ≡ Some c.load.result) (sym c.load.ensures.keeps.same_key) c.load.ensures.here;
+      seen = read_here c.load.ensures;
+      known = known_load (g.met.M.Moves.stays_alone c.collect_own.new.m) (sure_both one.sure c.collect_own.ensures.sure) c.load.ensures;
       rest = subst (λ i. IsRest i (rest_in c.load.result)) k c.load.ensures.layout;
     }

@@ -28,4 +28,5 @@ returns g c =
     let w = M.at c.tree_refund.new.self in
     make_brings g.met.M.Moves.ticks HasRefunded 8 9 (omega arith) (g.met.M.Moves.stays_alone c.try_refund_own.new.m)
     (upper_tree m.key c.args.tree c.requires.tree) c.if-try_refund_own.ensures c.tree_refund.ensures
-    (refunded_tree M.tick m.view u.view w.view c.if-try_refund_own.ensures.view c.args.tree c.args.n c.requires.paid c.tree_refund.ensures.view)
+    (refunded_tree M.tick m.view u.view w.view c.if-try_refund_own.ensures.view c.args.tree c.args.n c.requires.paid
+    c.tree_refund.ensures.view)

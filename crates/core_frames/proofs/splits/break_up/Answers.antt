@@ -1,5 +1,6 @@
 use Rattle.std.proofs.Common.{◌+◌, ◌*◌, ap, refl, ◌∙◌, arith}
 use Rattle.frame_model.specs.declared.view.View.{View}
+use Rattle.low_frames.proofs.Sure.{sure_both, sure_make}
 use Rattle.low_frames.proofs.TakeLemmas.{keeps_both, make_then}
 use Rattle.core_frames.proofs.SplitAlone.{filled_same, dropped_same}
 use Rattle.core_frames.proofs.SplitLemmas.{huge_own, can_fill, filled_more, filled_one, can_drop, dropped}
@@ -11,7 +12,8 @@ fill_word-requires g c =
     let was = c.loop-i.invariant.brings in
     record {
       share = omega (arith, ap (λ (x : View). x.share) was.view, c.requires.share);
-      may = can_fill (M.at c.loop-i.m).key (M.at c.args.m.now).key (M.at c.loop-i.m).view c.args.child c.loop-i.i (8 * c.args.child + c.loop-i.i)
+      may = can_fill (M.at c.loop-i.m).key (M.at c.args.m.now).key
+          (M.at c.loop-i.m).view c.args.child c.loop-i.i (8 * c.args.child + c.loop-i.i)
           was.keeps.same_key c.requires.child (omega arith) refl (ap (λ (x : View). x.own) was.view ∙ c.requires.own);
     }
 
@@ -28,10 +30,12 @@ loop-i-preserved g c =
       brings = record {
         keeps = keeps_both was.keeps now.keeps;
         counts = make_then M.tick M.is_exact g.met.M.Moves.ticks c.loop-i.i (c.loop-i.i + 1) (omega arith) was.counts now;
+        sure = sure_both was.sure (sure_make (g.met.M.Moves.stays_alone c.loop-i.m) now);
         view = filled_one M.tick m.view u.view w.view word was.view now.view;
         alone = λ a.
             filled_same u.key m.key u.view u.is_alone c.args.child word m.words u.words w.words was.keeps.same_key c.requires.child
-            (omega arith) (huge_own u.view c.args.child (ap (λ (x : View). x.own) was.view ∙ c.requires.own)) (g.met.M.Moves.fits c.loop-i.m)
+            (omega arith) (huge_own u.view c.args.child (ap (λ (x : View). x.own) was.view ∙ c.requires.own))
+            (g.met.M.Moves.fits c.loop-i.m)
             (now.words (g.met.M.Moves.stays_alone c.loop-i.m (was.keeps.stays_alone a))) (was.alone a);
       };
       filled = filled_more M.tick u.view w.view (8 * c.args.child) c.loop-i.i word now.view refl c.loop-i.invariant.filled;
@@ -59,6 +63,7 @@ returns g c =
     record {
       keeps = keeps_both was.keeps now.keeps;
       counts = make_then M.tick M.is_exact g.met.M.Moves.ticks c.loop-i.i 9 (omega arith) was.counts now;
+      sure = sure_both was.sure (sure_make (g.met.M.Moves.stays_alone c.loop-i.m) now);
       view = dropped M.tick m.key m.view u.view w.view c.args.child c.requires.child c.requires.own was.view now.view;
       alone = λ a.
           dropped_same u.key m.key u.view u.is_alone c.args.child m.words u.words w.words was.keeps.same_key c.requires.child

@@ -53,12 +53,14 @@ returns g c =
       keeps = others_both c.hand_in.ensures.keeps now.keeps;
       counts = in_then M.tick M.is_exact ticks 9 10 (omega arith) c.hand_in.ensures now.counts;
       view = broken_up m.view u.view w.view b w.view.own (g.met.M.Moves.fills_own c.args.m.now c.requires.idle.own) came
-          (own_borne u.view w.view (block (512 * c.child_of.result) 8 ∷ block (512 * c.child_of.result + 256) 8 ∷ []) [] u.view.lent now.view);
+          (own_borne u.view w.view (block (512 * c.child_of.result) 8 ∷ block (512 * c.child_of.result + 256) 8 ∷ [])
+          [] u.view.lent now.view);
       two = two_huge m.key b c.child_of.result w.view.own is (omega (arith, c.order-order.ensures, c.if-order-lt-HUGE_ORDER.false))
           at (omega (arith, at, child_inside m.key b is)) (ap (λ (x : View). x.own) now.view);
       alone = λ a.
           then_lost m.key u.key b c.child_of.result m.words u.words w.words c.hand_in.ensures.keeps.same_key
           (c.hand_in.ensures.words (g.met.M.Moves.stays_alone c.args.m.now a))
-          (as_child m.key b is (omega (arith, c.order-order.ensures, c.if-order-lt-HUGE_ORDER.false)) ∙ ap (λ n. block (512 * n) 9) (sym at))
+          (as_child m.key b is (omega (arith, c.order-order.ensures, c.if-order-lt-HUGE_ORDER.false))
+          ∙ ap (λ n. block (512 * n) 9) (sym at))
           (now.alone (c.hand_in.ensures.keeps.stays_alone a));
     }

@@ -4,6 +4,7 @@ use Rattle.frame_model.specs.declared.view.View.{View}
 use Rattle.frame_core.specs.Block.{block}
 use Rattle.frame_core.specs.Seats.{CanHandOut}
 use Rattle.frame_core.specs.Without.{without}
+use Rattle.low_frames.proofs.Sure.{sure_both, sure_out}
 use Rattle.low_frames.proofs.TakeLemmas.{keeps_both, counts_none, out_then}
 use Rattle.core_frames.proofs.SplitAlone.{still_same}
 use Rattle.core_frames.proofs.SplitLemmas.{can_hand_out_low, can_hand_out_high, both_out}
@@ -20,9 +21,11 @@ hand_out-upper-requires g c =
     let m = M.at c.args.m.now in
     let u = (M.at c.hand_out-lower.new.self).view in
     let step = c.hand_out-lower.ensures.view in
-    subst (λ n. CanHandOut (M.at c.hand_out-lower.new.self).key u (block (c.args.frame + n) c.args.order) (without (block (c.args.frame + n) c.args.order) u.own))
+    subst (λ n. CanHandOut (M.at c.hand_out-lower.new.self).key u
+    (block (c.args.frame + n) c.args.order) (without (block (c.args.frame + n) c.args.order) u.own))
     (sym c.frames_of.ensures.value)
-    (subst (λ (k : Key). CanHandOut k u (block (c.args.frame + 2 ^ c.args.order) c.args.order) (without (block (c.args.frame + 2 ^ c.args.order) c.args.order) u.own))
+    (subst (λ (k : Key). CanHandOut k u (block (c.args.frame + 2 ^ c.args.order) c.args.order)
+    (without (block (c.args.frame + 2 ^ c.args.order) c.args.order) u.own))
     (sym c.hand_out-lower.ensures.keeps.same_key)
     (can_hand_out_high m.key c.args.frame c.args.order m.view.own c.requires.two u
     (omega (arith, ap (λ (x : View). x.share) step, c.requires.share)) (ap (λ (x : View). x.own) step)))
@@ -39,8 +42,12 @@ returns g c =
     record {
       brings = record {
         keeps = keeps_both low.keeps high.keeps;
-        counts = out_then M.tick M.is_exact ticks 1 2 (omega arith) (out_then M.tick M.is_exact ticks 0 1 (omega arith) (counts_none M.tick M.is_exact ticks m) low) high;
-        view = both_out M.tick m.key m.view u.view w.view c.args.frame c.args.order c.frames_of.result c.requires.two c.frames_of.ensures.value low.view high.view;
+        counts = out_then M.tick M.is_exact ticks 1 2 (omega arith)
+            (out_then M.tick M.is_exact ticks 0 1 (omega arith) (counts_none M.tick M.is_exact ticks m) low) high;
+        sure = sure_both (sure_out (g.met.M.Moves.stays_alone c.args.m.now) low)
+            (sure_out (g.met.M.Moves.stays_alone c.hand_out-lower.new.self) high);
+        view = both_out M.tick m.key m.view u.view w.view c.args.frame c.args.order
+            c.frames_of.result c.requires.two c.frames_of.ensures.value low.view high.view;
         alone = λ a.
             still_same m.words w.words
             (high.words (g.met.M.Moves.stays_alone c.hand_out-lower.new.self (low.keeps.stays_alone a))

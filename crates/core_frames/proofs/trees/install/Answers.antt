@@ -20,7 +20,8 @@ unreserve-requires g c =
     let m = M.at c.args.m.now in
     let u = M.at c.swap_local.new.self in
     let found = c.in-Some.ensures.view in
-    let holds = swapped_some M.tick c.args.core found.0 c.in-Some.last c.in-Some.count (Some (c.args.tree, c.args.resting)) m.view u.view found.1 found.2 in
+    let holds = swapped_some M.tick c.args.core found.0 c.in-Some.last c.in-Some.count
+    (Some (c.args.tree, c.args.resting)) m.view u.view found.1 found.2 in
     record {
       share = omega (arith, c.requires.reserves.share, ap (λ (x : View). x.share) holds);
       may = can_unreserve u.key m.key m.view u.view c.in-Some.last c.in-Some.count m.view.lent c.in-Some.ensures.keeps.same_key
@@ -45,10 +46,12 @@ returns g c =
     let u = M.at c.swap_local.new.self in
     let w = M.at c.unreserve.new.self in
     let found = c.in-Some.ensures.view in
-    let holds = swapped_some M.tick c.args.core found.0 c.in-Some.last c.in-Some.count (Some (c.args.tree, c.args.resting)) m.view u.view found.1 found.2 in
+    let holds = swapped_some M.tick c.args.core found.0 c.in-Some.last c.in-Some.count
+    (Some (c.args.tree, c.args.resting)) m.view u.view found.1 found.2 in
     make_brings ticks HasPutDown 1 2 (omega arith) (g.met.M.Moves.stays_alone c.swap_local.new.self)
     (upper_tree m.key c.in-Some.last c.in-Some.ensures.is_rest.0)
-    (swap_brings ticks (HasReserved c.in-Some.last c.in-Some.count) 0 1 (omega arith) (g.met.M.Moves.stays_alone c.args.m.now) c.requires.core
+    (swap_brings ticks (HasReserved c.in-Some.last c.in-Some.count) 0 1
+    (omega arith) (g.met.M.Moves.stays_alone c.args.m.now) c.requires.core
     (begun ticks m) c.in-Some.ensures holds)
     c.unreserve.ensures
     (unreserved M.tick m.view u.view w.view c.in-Some.last c.in-Some.count m.view.lent holds c.unreserve.ensures.view)

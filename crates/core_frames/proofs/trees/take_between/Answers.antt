@@ -1,6 +1,7 @@
 use Rattle.std.proofs.Common.{◌≡◌, ◌≤◌, ◌<◌, ℕ, ◌*◌, ◌-◌, ◌+◌, List, sym, subst, ◌∙◌, arith}
 use Rattle.frame_model.specs.declared.key.Key.{Key}
 use Rattle.frame_core.specs.Key.{tree_count}
+use Rattle.low_frames.proofs.Sure.{sure_both}
 use Rattle.low_frames.proofs.TakeLemmas.{keeps_both, then_counts, wider}
 use Rattle.core_frames.specs.declared.trees.Pass.TheVariants.{AnyFree}
 use Rattle.core_frames.specs.Alone.{WereTried}
@@ -18,7 +19,8 @@ take_in-requires g c =
     let was = c.loop-tree.invariant in
     record {
       core = subst (λ (i : Key). c.args.core < i.cores) (sym was.keeps.same_key) c.requires.core;
-      tree = subst (λ (i : Key). c.loop-tree.tree < tree_count i) (sym was.keeps.same_key) (omega (arith, c.loop-tree-test.true, c.requires.ends));
+      tree = subst (λ (i : Key). c.loop-tree.tree < tree_count i) (sym was.keeps.same_key)
+          (omega (arith, c.loop-tree-test.true, c.requires.ends));
       order = c.requires.order;
       enough = omega (arith, c.bounds-least.ensures.enough, c.frames_of.ensures.value);
       idle = idle_still m.view u.view c.requires.idle was.misses.view;
@@ -39,9 +41,11 @@ loop-tree-preserved g c =
     record {
       keeps = keeps_both was.keeps now.keeps;
       counts = then_counts M.tick M.is_exact ticks (710 * i) 710 (710 * j) (omega (arith, next)) was.counts now.counts;
+      sure = sure_both was.sure now.sure;
       misses = record {
         view = before_twice m.view u.view w.view was.misses.view now.none.view;
-        made = made_both ticks m u w i 1 j (710 * i) (710 * i) 710 (710 * j) (omega (arith, next)) (omega (arith, next)) (omega (arith, next))
+        made = made_both ticks m u w i 1 j (710 * i) (710 * i) 710 (710 * j)
+            (omega (arith, next)) (omega (arith, next)) (omega (arith, next))
             was.counts was.misses.made now.none.made;
         alone = λ alone.
             tried_more m.key u.key (c.args.pass ≡ AnyFree) c.args.order c.args.from c.loop-tree.tree c.bounds-least.result.0
@@ -64,8 +68,10 @@ returns-in-Some g c =
     record {
       keeps = keeps_both was.keeps now.keeps;
       counts = then_counts M.tick M.is_exact g.met.M.Moves.ticks (710 * i) 710 (710 * n) (omega (arith, more)) was.counts now.counts;
+      sure = sure_both was.sure now.sure;
       some = out_then was.keeps was.misses.view
-          (λ alone. keeps_found m.key (λ (ws : List ℕ). c.args.pass ≡ AnyFree → WereTried m.key c.args.order c.args.from c.loop-tree.tree ws)
+          (λ alone. keeps_found m.key
+          (λ (ws : List ℕ). c.args.pass ≡ AnyFree → WereTried m.key c.args.order c.args.from c.loop-tree.tree ws)
           m.words u.words (was.misses.alone alone))
           now.some;
       none = tt;
@@ -85,13 +91,16 @@ returns g c =
     record {
       keeps = was.keeps;
       counts = wider M.tick M.is_exact ticks (710 * i) (710 * n) (omega (arith, most)) was.counts;
+      sure = was.sure;
       some = tt;
       none = record {
         view = was.misses.view;
-        made = made_both ticks m u u i 0 n (710 * i) (710 * i) 0 (710 * n) (omega (arith, least)) (omega (arith, most)) (omega (arith, most))
+        made = made_both ticks m u u i 0 n (710 * i) (710 * i) 0 (710 * n)
+            (omega (arith, least)) (omega (arith, most)) (omega (arith, most))
             was.counts was.misses.made (λ h. omega arith);
         alone = λ alone.
-            tried_as_far m.key (c.args.pass ≡ AnyFree) c.args.order c.args.from c.loop-tree.tree c.args.to m.words u.words c.loop-tree-test.false
+            tried_as_far m.key (c.args.pass ≡ AnyFree) c.args.order c.args.from
+            c.loop-tree.tree c.args.to m.words u.words c.loop-tree-test.false
             (was.misses.alone alone);
       };
     }

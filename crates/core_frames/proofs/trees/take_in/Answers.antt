@@ -3,6 +3,7 @@ use Rattle.frame_model.specs.declared.key.Key.{Key}
 use Rattle.frame_model.specs.declared.view.View.{View}
 use Rattle.frame_core.specs.Key.{tree_count}
 use Rattle.frame_core.specs.View.{counted}
+use Rattle.low_frames.proofs.Sure.{sure_both, sure_make}
 use Rattle.low_frames.proofs.TakeLemmas.{counts_none, keeps_both, make_then, then_counts, wider}
 use Rattle.core_frames.specs.Search.{HasLentOne}
 use Rattle.core_frames.proofs.Carried.{carried_on, put_down_idle, can_unreserve, unreserved, reserves_less, lent_and_put_down}
@@ -48,7 +49,8 @@ install-requires g c =
       core = subst (λ (i : Key). c.args.core < i.cores) (sym k) c.requires.core;
       tree = subst (λ (i : Key). c.args.tree < tree_count i) (sym k) c.requires.tree;
       reserves = reserves_less m.view u.view w.view c.args.tree c.args.order c.in-Some.free c.frames_of.result c.requires.idle got.some.view
-          c.frames_of.ensures.value (omega (arith, got.some.enough, c.requires.enough)) got.some.few c.in-Some-take_in_tree.ensures.some.view;
+          c.frames_of.ensures.value (omega (arith, got.some.enough, c.requires.enough))
+          got.some.few c.in-Some-take_in_tree.ensures.some.view;
     }
 
 pub returns-in_default : goal.returns-in_default
@@ -61,6 +63,7 @@ returns-in_default g c =
     record {
       keeps = got.keeps;
       counts = wider M.tick M.is_exact ticks 8 710 (omega arith) got.counts;
+      sure = got.sure;
       some = tt;
       none = record {
         view = got.none;
@@ -80,11 +83,13 @@ returns-in_default-take_in_tree g c =
     let x = M.at c.unreserve.new.self in
     let got = c.in-Some.ensures.gets in
     let low = c.in_default-take_in_tree.ensures in
-    let holds = carried_on m.view u.view w.view (counted c.args.tree c.in-Some.free) (Some c.args.tree) m.view.lent got.some.view low.none.view in
+    let holds = carried_on m.view u.view w.view (counted c.args.tree c.in-Some.free)
+    (Some c.args.tree) m.view.lent got.some.view low.none.view in
     let rest = make_then M.tick M.is_exact ticks 700 701 (omega arith) low.counts c.unreserve.ensures in
     record {
       keeps = keeps_both got.keeps (keeps_both low.keeps c.unreserve.ensures.keeps);
       counts = then_counts M.tick M.is_exact ticks 8 701 710 (omega arith) got.counts rest;
+      sure = sure_both got.sure (sure_both low.sure (sure_make (g.met.M.Moves.stays_alone c.take_in_tree.new.m) c.unreserve.ensures));
       some = tt;
       none = record {
         view = put_down_idle m.view x.view c.requires.idle
@@ -93,7 +98,8 @@ returns-in_default-take_in_tree g c =
             (made_none ticks 701 rest);
         alone = λ alone.
             let mid = got.keeps.stays_alone alone in
-            reserved_tried m.is_alone m.key u.key w.key m.view c.args.order c.args.least c.args.most c.args.tree c.in-Some.free m.words u.words
+            reserved_tried m.is_alone m.key u.key w.key m.view c.args.order
+            c.args.least c.args.most c.args.tree c.in-Some.free m.words u.words
             w.words x.words (g.met.M.Moves.fits c.args.m.now) got.keeps.same_key (low.keeps.same_key ∙ got.keeps.same_key) c.requires.tree
             (got.alone_some alone) (low.none.alone mid)
             (c.unreserve.ensures.words (g.met.M.Moves.stays_alone c.take_in_tree.new.m (low.keeps.stays_alone mid)));
@@ -117,6 +123,7 @@ returns g c =
       keeps = keeps_both got.keeps (keeps_both low.keeps c.install.ensures.keeps);
       counts = then_counts M.tick M.is_exact ticks 708 2 710 (omega arith)
           (then_counts M.tick M.is_exact ticks 8 700 708 (omega arith) got.counts low.counts) c.install.ensures.counts;
+      sure = sure_both got.sure (sure_both low.sure c.install.ensures.sure);
       some = out_still HasLentOne out.is_one.is_block (keeps_both got.keeps low.keeps) out c.install.ensures
           (lent_and_put_down m.view u.view w.view x.view c.args.tree c.args.order c.in-Some.free c.requires.idle got.some.view low.some.view
           c.install.ensures.view);

@@ -1,5 +1,4 @@
-use Rattle.std.proofs.Common.{List, ap, sym, subst, rules}
-use Rattle.frame_model.specs.declared.block.FrameBlock.{FrameBlock}
+use Rattle.std.proofs.Common.{ap, sym, subst, rules}
 use Rattle.frame_model.specs.declared.key.Key.{Key}
 use Rattle.frame_model.specs.declared.view.View.{View}
 use Rattle.frame_core.specs.Openings.{held_blocks}

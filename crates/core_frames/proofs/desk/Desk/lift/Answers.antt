@@ -1,4 +1,4 @@
-use Rattle.std.proofs.Common.{refl, sym, ap}
+use Rattle.std.proofs.Common.{sym, ap}
 use Rattle.frame_model.specs.declared.view.View.{View}
 use Rattle.held_blocks.specs.Desk.{GivesFirst}
 use Rattle.core_frames.proofs.DeskLemmas.{is_kept, lifted}
@@ -11,7 +11,8 @@ recall-requires-clause-kept c =
 pub returns-in-Some-clause-desk : goal.returns-in-Some-clause-desk
 returns-in-Some-clause-desk c = record {
   is_desk =
-      lifted c.args.allocator.now c.args.self.now c.remove_oldest.new.self c.in-Some.oldest _ c.recall.new.core c.requires c.in-Some.ensures.taken
+      lifted c.args.allocator.now c.args.self.now c.remove_oldest.new.self
+      c.in-Some.oldest _ c.recall.new.core c.requires c.in-Some.ensures.taken
       c.recall.ensures.core.is_core (ap (λ (v : View). v.kept) c.recall.ensures.recalls);
   same_number = c.recall.ensures.core.same_number;
 }

@@ -46,7 +46,8 @@ returns-in-Ok-clause-desk c =
       is_desk =
           laid c.args.allocator.now c.args.self.now c.add.new.self _ c.keep-frame.new.core c.requires
           (rw c.reserve.ensures.entries at c.add.ensures.entries) c.keep-frame.ensures.core.is_core
-          (ap (λ (v : View). v.kept) c.keep-frame.ensures.keeps ∙ ap (λ (bs : List FrameBlock). block_in c.in-Ok.block ∷ bs) c.in-Ok.ensures.takes.kept
+          (ap (λ (v : View). v.kept) c.keep-frame.ensures.keeps
+          ∙ ap (λ (bs : List FrameBlock). block_in c.in-Ok.block ∷ bs) c.in-Ok.ensures.takes.kept
           ∙ ap (λ (b : FrameBlock). b ∷ kept_by (core_of c.args.self.now)) (sym (same step)))
           (is step) (free step);
       same_number = c.keep-frame.ensures.core.same_number ∙ c.in-Ok.ensures.core.same_number;

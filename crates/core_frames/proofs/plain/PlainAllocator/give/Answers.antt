@@ -16,7 +16,8 @@ give_by-requires c =
     let key = sealed_key a.moves.geometry a.ranges.items in
     let b : FrameBlock = c.args.block in
     let has : Contains (out_of a.starts.items) b = subst (λ (s : PlainState). Contains s.out b) (sym c.self.view_is) c.requires.out in
-    let inside : c.args.core < a.moves.geometry.cores = omega (arith, c.requires.core, ap (λ (s : PlainState). s.geometry.cores) c.self.view_is) in
+    let inside : c.args.core < a.moves.geometry.cores =
+    omega (arith, c.requires.core, ap (λ (s : PlainState). s.geometry.cores) c.self.view_is) in
     let same = ap (λ (h : Habit). h.core) c.index.ensures ∙ c.self.invariant.cores.1 c.args.core c.index.result.now inside in
     record {
       core = omega (arith, same, inside);

@@ -41,7 +41,8 @@ invariant_of-self c =
     let key = sealed_key a.moves.geometry a.ranges.items in
     let b : FrameBlock = c.args.block in
     let has : Contains (out_of a.starts.items) b = subst (λ (s : PlainState). Contains s.out b) (sym c.self.view_is) c.requires.out in
-    renamed (set a.starts.items b.frame (first_kept + b.order)) (set a.starts.items c.frame-frame.result c.kept_byte.result) (sym (bytes_are c))
+    renamed (set a.starts.items b.frame (first_kept + b.order))
+    (set a.starts.items c.frame-frame.result c.kept_byte.result) (sym (bytes_are c))
     (keeps key _ a.moves.words.items a.starts.items a.habits.items a.refused c.self.invariant b has)
 
 pub returns-clause-out : goal.returns-clause-out

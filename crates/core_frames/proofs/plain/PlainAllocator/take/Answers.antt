@@ -7,7 +7,8 @@ use Rattle.frame_core.specs.QuietTake.{QuietTake, TakesBlock, FindsNone}
 use Rattle.core_frames.specs.PlainAgree.{held_with}
 use Rattle.core_frames.specs.PlainBytes.{out_of, kept_of, first_out}
 use Rattle.core_frames.specs.PlainState.{PlainState, memory_by, held_by}
-use Rattle.core_frames.proofs.PlainCalls.{renamed, moved, state_of, same_geometry, same_state, drained, remembered, refused_by, quiet_refused, taken, quiet_take, out_more, kept_same}
+use Rattle.core_frames.proofs.PlainCalls.{renamed, moved, state_of, same_geometry, same_state, drained, remembered, refused_by}
+use Rattle.core_frames.proofs.PlainCalls.{quiet_refused, taken, quiet_take, out_more, kept_same}
 use Rattle.core_frames.proofs.plain.PlainAllocator.take.Goals as goal
 
 -- An order that was refused before.
@@ -75,7 +76,8 @@ returns-in-Err-clause-quiet c =
     let rs = a.ranges.items in
     let bytes = a.starts.items in
     let key = sealed_key m.geometry rs in
-    subst (λ (s : PlainState). QuietTake (memory_by s) (held_by s) (held_by (state_of n.geometry rs bytes)) c.args.order (Err c.in-Err.fault))
+    subst (λ (s : PlainState). QuietTake (memory_by s) (held_by s)
+    (held_by (state_of n.geometry rs bytes)) c.args.order (Err c.in-Err.fault))
     c.self.view_is
     (subst (λ (g : Geometry). QuietTake key (held_with key bytes) (held_by (state_of g rs bytes)) c.args.order (Err c.in-Err.fault))
     (sym (missed_stays c))
