@@ -1,5 +1,6 @@
 -- The cores that records name.
-use Rattle.std.proofs.Common.{◌≡◌, ◌≤◌, ◌<◌, ℕ, List, [], ◌∷◌, ◌++◌, length, get_or, max, zero, suc, arith, refl}
+use Rattle.std.proofs.Common.{◌≡◌, ◌≤◌, ◌<◌, ℕ, List, [], ◌∷◌, ◌++◌, length, get_or, max, zero, suc}
+use Rattle.std.proofs.Common.{arith, refl}
 use Rattle.llfree_trace.specs.declared.line.Line.{Line}
 use Rattle.llfree_trace.specs.Trace.{core_count, cores_in}
 

@@ -1,5 +1,6 @@
 -- How the list of one core goes on agreeing with the allocator.
-use Rattle.std.proofs.Common.{◌≡◌, ◌∙◌, ℕ, List, [], ◌∷◌, ◌++◌, refl, sym, ap, subst, arith, Err, Contains, IsPermutation}
+use Rattle.std.proofs.Common.{◌≡◌, ◌∙◌, ℕ, List, [], ◌∷◌, ◌++◌, refl, sym, ap, subst, arith, Err}
+use Rattle.std.proofs.Common.{Contains, IsPermutation}
 use Rattle.std.specs.List.{sum_by}
 use Rattle.std.proofs.lemmas.List.Sorted.{sum_by_pushed}
 use Rattle.std.proofs.lemmas.List.Sums.{sum_by-append}
@@ -107,7 +108,11 @@ agrees_moved a held left e P agrees takes = record {
   out = λ f.
       let same = rw takes.was at (agrees.out f) in
       let split = sum_split f takes.front takes.back e in
-      rw (takes.stays, blocks_append (takes.front ++ takes.back) (e ∷ []), sum_by-append f (blocks_of (takes.front ++ takes.back)) (e.block ∷ []))
+      rw (
+        takes.stays,
+        blocks_append (takes.front ++ takes.back) (e ∷ []),
+        sum_by-append f (blocks_of (takes.front ++ takes.back)) (e.block ∷ []),
+      )
       (omega (arith, same, split));
 }
 

@@ -1,5 +1,7 @@
 -- What desks hold at the end of a run is just what the closed memory holds.
-use Rattle.std.proofs.Common.{◌≡◌, ⊎_elim, ◌+◌, ◌<◌, ◌≤◌, ◌∙◌, max, ℕ, zero, suc, pos, List, [], ◌∷◌, ◌++◌, Bool, true, false, length, map, replicate, refl, sym, ap, subst, arith}
+use Rattle.std.proofs.Common.{◌≡◌, ⊎_elim, ◌+◌, ◌<◌, ◌≤◌, ◌∙◌, max, ℕ, zero, suc, pos, List, []}
+use Rattle.std.proofs.Common.{◌∷◌, ◌++◌, Bool, true, false, length, map, replicate, refl, sym, ap}
+use Rattle.std.proofs.Common.{subst, arith}
 use Rattle.std.specs.Prelude.{if◌then◌else◌}
 use Rattle.std.specs.List.{All, sum_by}
 use Rattle.std.proofs.lemmas.Bool.{cases_lt}
@@ -143,7 +145,12 @@ module _ (a : Allocator) (ds : List Desk) (image : Contents) (sealed : (memory_o
   lists_hold : (x : ℕ) → holders x (all_blocks (lists_at ds))
       ≡ smalls x (kept_through (seats_at ds)) + wholes (child_of x) (kept_through (seats_at ds))
   lists_hold x =
-      omega (arith, holders_are (memory_of a) x (all_blocks (lists_at ds)) (lists_lawful a ds all), smalls_same a x ds all, wholes_same a (child_of x) ds all)
+      omega (
+        arith,
+        holders_are (memory_of a) x (all_blocks (lists_at ds)) (lists_lawful a ds all),
+        smalls_same a x ds all,
+        wholes_same a (child_of x) ds all,
+      )
 
   pub lists_apart : IsHolding (memory_of a) (all_blocks (lists_at ds))
   lists_apart = record {

@@ -1,5 +1,6 @@
 -- How a run of all cores goes on.
-use Rattle.std.proofs.Common.{◌≡◌, ◌+◌, ◌<◌, ◌≤◌, ◌∙◌, max, ℕ, List, [], ◌∷◌, ◌++◌, ◌-◌, length, take, drop, length-drop, refl, sym, ap, subst, arith}
+use Rattle.std.proofs.Common.{◌≡◌, ◌+◌, ◌<◌, ◌≤◌, ◌∙◌, max, ℕ, List, [], ◌∷◌, ◌++◌, ◌-◌, length}
+use Rattle.std.proofs.Common.{take, drop, length-drop, refl, sym, ap, subst, arith}
 use Rattle.std.specs.List.{All}
 use Rattle.std.proofs.lemmas.List.{append-nil, append_assoc, take_all}
 use Rattle.held_blocks.specs.Desk.{MayRefuse}
@@ -43,7 +44,8 @@ goes_both a n m xs ys p q r next one two = record {
   runs =
       runs_append MayRefuse (memory_of a) n (lists_at p.desks.items) xs one.answers (lists_at q.desks.items) ys two.answers
       (lists_at r.desks.items) one.runs
-      (subst (λ (k : ℕ). Runs MayRefuse (memory_of a) k (lists_at q.desks.items) ys two.answers (lists_at r.desks.items)) (sym next) two.runs);
+      (subst (λ (k : ℕ). Runs MayRefuse (memory_of a) k (lists_at q.desks.items) ys two.answers (lists_at r.desks.items)) (sym next)
+      two.runs);
   desks = two.desks;
   width = two.width ∙ one.width;
   lent = two.lent ∙ one.lent;

@@ -1,5 +1,7 @@
 -- What each core answers in a round, as one run of the lines in their order.
-use Rattle.std.proofs.Common.{◌≡◌, ◌≢◌, ◌==◌, ◌+◌, ◌<◌, ◌≤◌, ◌∙◌, ℕ, List, [], ◌∷◌, zero, suc, true, false, length, get_or, set, map, refl, sym, ap, ap₂, subst, arith, inl, inr}
+use Rattle.std.proofs.Common.{◌≡◌, ◌≢◌, ◌==◌, ◌+◌, ◌<◌, ◌≤◌, ◌∙◌, ℕ, List, [], ◌∷◌, zero, suc, true}
+use Rattle.std.proofs.Common.{false, length, get_or, set, map, refl, sym, ap, ap₂, subst, arith}
+use Rattle.std.proofs.Common.{inl, inr}
 use Rattle.std.specs.List.{All}
 use Rattle.std.proofs.Math.ListN.{length-set}
 use Rattle.std.proofs.lemmas.Bool.Decides.{nat_tests, eqb_tells}
@@ -16,7 +18,8 @@ use Rattle.frame_core.specs.Holding.{IsHolding}
 use Rattle.frame_model.specs.declared.key.Key.{Key}
 use Rattle.llfree_trace.proofs.Running.{step_lawful}
 use Rattle.llfree_trace.specs.Outcome.{Runs, core_list}
-use Rattle.llfree_trace.specs.Rounds.{Ask, DeskRun, IsAsk, answers_by, asks_from, asks_by, ask_spot, spot, RoundRan}
+use Rattle.llfree_trace.specs.Rounds.{Ask, DeskRun, IsAsk, answers_by, asks_from, asks_by, ask_spot}
+use Rattle.llfree_trace.specs.Rounds.{spot, RoundRan}
 use Rattle.llfree_trace.specs.Trace.{cores_in}
 use Rattle.llfree_trace.specs.declared.line.Line.{Line}
 use Rattle.llfree_trace.specs.declared.line.Line.TheVariants as line
@@ -82,7 +85,8 @@ rest_apart key old ask asks a answers new mid apart inside holds run =
             | inr s ↦ rw (get_or-set_other old core k mid [] (λ q. s.1 (sym q))) (apart.lawful k (omega (arith, lt, width)))
           ];
       runs = λ k lt.
-          let P : ℕ → Type 0 = λ h. DeskRun key (core_list (set old core mid) h) (asks_by h asks) (answers_by h answers) (core_list new h) in
+          let P : ℕ → Type 0 = λ h. DeskRun key (core_list (set old core mid) h) (asks_by h asks) (answers_by h answers)
+          (core_list new h) in
           elim (eqb_tells core k) [
             | inl s ↦ subst P s.1 (rw own run)
             | inr s ↦

@@ -2,6 +2,7 @@ pub mod Fields
 pub mod Cores
 pub mod Ranges
 pub mod Parsing
+pub mod PlainRows
 pub mod Desks
 pub mod Moving
 pub mod Running

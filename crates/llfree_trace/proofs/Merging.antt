@@ -1,11 +1,14 @@
 -- How the answers of a round are put into the order of its lines.
 use Rattle.std.specs.List.{All}
-use Rattle.std.proofs.Common.{◌≡◌, ◌≢◌, ◌==◌, ◌+◌, ◌<◌, ◌∙◌, ℕ, zero, suc, List, [], ◌∷◌, ◌++◌, true, false, length, take, drop, set, get_or, map, refl, sym, ap, ap₂, subst, arith, length-append, zero-add, add-zero, inl, inr, ◌+ℤ◌}
+use Rattle.std.proofs.Common.{◌≡◌, ◌≢◌, ◌==◌, ◌+◌, ◌<◌, ◌∙◌, ℕ, zero, suc, List, [], ◌∷◌, ◌++◌}
+use Rattle.std.proofs.Common.{true, false, length, take, drop, set, get_or, map, refl, sym, ap, ap₂}
+use Rattle.std.proofs.Common.{subst, arith, length-append, zero-add, add-zero, inl, inr, ◌+ℤ◌}
 use Rattle.std.proofs.Math.ListN.{get_or-map, length-set}
 use Rattle.std.proofs.Math.Seq.{get_or-append_seam}
 use Rattle.std.proofs.lemmas.Bool.Decides.{nat_tests, eqb_tells}
 use Rattle.std.proofs.lemmas.Grind.{get_or-set_at, common_steps}
-use Rattle.std.proofs.lemmas.List.{append-nil, append_assoc, get_or_default, get_or-set_other, length-map, map-append, take_more, take-append-drop}
+use Rattle.std.proofs.lemmas.List.{append-nil, append_assoc, get_or_default, get_or-set_other}
+use Rattle.std.proofs.lemmas.List.{length-map, map-append, take_more, take-append-drop}
 use Rattle.std.proofs.lemmas.List.Elements.{filter_more, filter-append}
 use Rattle.held_blocks.specs.declared.labelled_block.LabelledBlock.{LabelledBlock}
 use Rattle.core_frames.specs.Desks.{list_of}
@@ -19,14 +22,17 @@ use Rattle.llfree_trace.specs.declared.lines.Done.{Done}
 use Rattle.llfree_trace.proofs.Workers.{ask_core_is, ask_count}
 use Rattle.llfree_trace.specs.declared.line.Line.{Line}
 use Rattle.llfree_trace.specs.declared.line.Request.TheVariants as request
-use Rattle.llfree_trace.specs.Rounds.{IsAsk, ask_core, asks_from, Ask, DeskRun, Fitting, Merged, Ran, RanAll, RoundRan, answers_by, asks_by, lent_by_desks, ask_spot, spot}
+use Rattle.llfree_trace.specs.Rounds.{IsAsk, ask_core, asks_from, Ask, DeskRun, Fitting, Merged}
+use Rattle.llfree_trace.specs.Rounds.{Ran, RanAll, RoundRan, answers_by, asks_by, lent_by_desks}
+use Rattle.llfree_trace.specs.Rounds.{ask_spot, spot}
 
 -- the answers to the first i lines stand in order, and of each core as many are used as it has lines among them
 pub record Merging (lines : List Ask) (done : List Done) (i : ℕ) (next : List ℕ) (all : List Answer) : Type 0 where
   pub width : length next ≡ length done
   pub used : (k : ℕ) → k < length done → get_or next k 0 ≡ length (asks_by k (take i lines))
   pub spots : map spot all ≡ map ask_spot (take i lines)
-  pub each : (k : ℕ) (d : Done) → k < length done → answers_by k all ≡ take (length (asks_by k (take i lines))) (get_or done k d).answers.items
+  pub each : (k : ℕ) (d : Done) → k < length done → answers_by k all
+      ≡ take (length (asks_by k (take i lines))) (get_or done k d).answers.items
 
 -- the lines of a core among the first i + 1, and its answers among those with one more
 own_lines : (k : ℕ) (lines : List Ask) (i : ℕ) (d : Ask) → i < length lines → (get_or lines i d).core ≡ k
@@ -58,7 +64,8 @@ own_split k lines i d lt own =
     let rest = asks_by k (drop (i + 1) lines) in
     ap (asks_by k) (sym (take-append-drop (i + 1) lines))
     ∙ (filter-append (λ (l : Ask). l.core == k) (take (i + 1) lines) (drop (i + 1) lines)
-    ∙ (ap (λ (xs : List Ask). xs ++ rest) (own_lines k lines i d lt own) ∙ append_assoc (asks_by k (take i lines)) (get_or lines i d ∷ []) rest))
+    ∙ (ap (λ (xs : List Ask). xs ++ rest) (own_lines k lines i d lt own)
+    ∙ append_assoc (asks_by k (take i lines)) (get_or lines i d ∷ []) rest))
 
 -- a core has as many answers as lines
 same_count : (lines : List Ask) (done : List Done) (k : ℕ) (e : Done) → Fitting lines done → k < length done
@@ -74,11 +81,18 @@ room lines done i next all d e fit m lt =
     let k = (get_or lines i d).core in
     let inside = fit.inside i d lt in
     let rest = asks_by k (drop (i + 1) lines) in
-    omega (arith, m.used k inside, same_count lines done k e fit inside, ap length (own_split k lines i d lt refl), length-append (asks_by k (take i lines)) (get_or lines i d ∷ rest))
+    omega (
+      arith,
+      m.used k inside,
+      same_count lines done k e fit inside,
+      ap length (own_split k lines i d lt refl),
+      length-append (asks_by k (take i lines)) (get_or lines i d ∷ rest),
+    )
 
 pub spot_is : (lines : List Ask) (done : List Done) (i : ℕ) (next : List ℕ) (all : List Answer) (d : Ask) (e : Done) (b : Answer)
     → Fitting lines done → Merging lines done i next all → i < length lines
-    → spot (get_or (get_or done (get_or lines i d).core e).answers.items (get_or next (get_or lines i d).core 0) b) ≡ ask_spot (get_or lines i d)
+    → spot (get_or (get_or done (get_or lines i d).core e).answers.items (get_or next (get_or lines i d).core 0) b)
+    ≡ ask_spot (get_or lines i d)
 spot_is lines done i next all d e b fit m lt =
     let l = get_or lines i d in
     let k = l.core in
@@ -88,23 +102,28 @@ spot_is lines done i next all d e b fit m lt =
     let front = map ask_spot (asks_by k (take i lines)) in
     let back = map ask_spot (asks_by k (drop (i + 1) lines)) in
     let all_spots : map spot answers ≡ front ++ ask_spot l ∷ back =
-    fit.fits k e inside ∙ (ap (map ask_spot) (own_split k lines i d lt refl) ∙ map-append ask_spot (asks_by k (take i lines)) (l ∷ asks_by k (drop (i + 1) lines))) in
+    fit.fits k e inside ∙ (ap (map ask_spot) (own_split k lines i d lt refl)
+    ∙ map-append ask_spot (asks_by k (take i lines)) (l ∷ asks_by k (drop (i + 1) lines))) in
     let at : length front ≡ n = length-map (asks_by k (take i lines)) ask_spot ∙ sym (m.used k inside) in
     let P : ℕ → Type 0 = λ j. get_or (front ++ ask_spot l ∷ back) j (spot b) ≡ ask_spot l in
-    sym (get_or-map spot answers n b) ∙ (ap (λ (xs : List (ℕ × ℕ)). get_or xs n (spot b)) all_spots ∙ subst P at (get_or-append_seam front (ask_spot l) back (spot b)))
+    sym (get_or-map spot answers n b) ∙ (ap (λ (xs : List (ℕ × ℕ)). get_or xs n (spot b)) all_spots
+    ∙ subst P at (get_or-append_seam front (ask_spot l) back (spot b)))
 
 pub at_zero : (lines : List Ask) (done : List Done) (i : ℕ) (next : List ℕ) (all : List Answer) (d : Ask) (at : ℕ)
-    → Fitting lines done → Merging lines done i next all → i < length lines → at ≡ get_or next (get_or lines i d).core at → at ≡ get_or next (get_or lines i d).core 0
+    → Fitting lines done → Merging lines done i next all → i < length lines → at ≡ get_or next (get_or lines i d).core at
+    → at ≡ get_or next (get_or lines i d).core 0
 at_zero lines done i next all d at fit m lt is =
     let inside = fit.inside i d lt in
     let wide : (get_or lines i d).core < length next = omega (arith, m.width, inside) in
     is ∙ get_or_default next (get_or lines i d).core at 0 wide
 
-pub starts : (lines : List Ask) (done : List Done) (next : List ℕ) → length next ≡ length done → ((k : ℕ) → k < length done → get_or next k 0 ≡ 0)
+pub starts : (lines : List Ask) (done : List Done) (next : List ℕ) → length next ≡ length done
+    → ((k : ℕ) → k < length done → get_or next k 0 ≡ 0)
     → Merging lines done 0 next []
 starts lines done next width zeros = record { width = width; used = λ k lt. zeros k lt; spots = refl; each = λ k d lt. refl }
 
-pub ends : (lines : List Ask) (done : List Done) (next : List ℕ) (all : List Answer) → Fitting lines done → Merging lines done (length lines) next all
+pub ends : (lines : List Ask) (done : List Done) (next : List ℕ) (all : List Answer) → Fitting lines done
+    → Merging lines done (length lines) next all
     → Merged lines done all
 ends lines done next all fit m =
     let whole : take (length lines) lines ≡ lines = grind (arith, common_steps) in
@@ -135,8 +154,10 @@ goes_on lines done i next all d e b fit m lt =
     let count : length (asks_by k (take (i + 1) lines)) ≡ n + 1 =
     ap length own ∙ omega (arith, length-append (asks_by k (take i lines)) (l ∷ []), m.used k inside) in
     let wide : k < length next = omega (arith, m.width, inside) in
-    let used_own : get_or (set next k (n + 1)) k 0 ≡ length (asks_by k (take (i + 1) lines)) = get_or-set_at next k k (n + 1) 0 refl wide ∙ sym count in
-    let each_own : (f : Done) → answers_by k (all ++ a ∷ []) ≡ take (length (asks_by k (take (i + 1) lines))) (get_or done k f).answers.items =
+    let used_own : get_or (set next k (n + 1)) k 0 ≡ length (asks_by k (take (i + 1) lines)) =
+    get_or-set_at next k k (n + 1) 0 refl wide ∙ sym count in
+    let each_own : (f : Done) → answers_by k (all ++ a ∷ [])
+    ≡ take (length (asks_by k (take (i + 1) lines))) (get_or done k f).answers.items =
     λ f.
     let ans = (get_or done k f).answers.items in
     let same : get_or done k e ≡ get_or done k f = get_or_default done k e f inside in
@@ -159,12 +180,14 @@ goes_on lines done i next all d e b fit m lt =
       spots = map-append spot all (a ∷ []) ∙ (ap₂ ◌++◌ m.spots (ap (λ (x : ℕ × ℕ). x ∷ []) is)
           ∙ (sym (map-append ask_spot (take i lines) (l ∷ [])) ∙ ap (map ask_spot) (sym (take_more lines i d lt))));
       each = λ j f small.
-          let P : ℕ → Type 0 = λ h. answers_by h (all ++ a ∷ []) ≡ take (length (asks_by h (take (i + 1) lines))) (get_or done h f).answers.items in
+          let P : ℕ → Type 0 = λ h. answers_by h (all ++ a ∷ [])
+          ≡ take (length (asks_by h (take (i + 1) lines))) (get_or done h f).answers.items in
           elim (eqb_tells k j) [
             | inl s ↦ subst P s.1 (each_own f)
             | inr s ↦
                 other_answer j all a (λ q. s.1 (sym core ∙ q))
-                ∙ (m.each j f small ∙ ap (λ (ls : List Ask). take (length ls) (get_or done j f).answers.items) (sym (other_lines j lines i d lt s.1)))
+                ∙ (m.each j f small ∙ ap (λ (ls : List Ask). take (length ls) (get_or done j f).answers.items)
+                (sym (other_lines j lines i d lt s.1)))
           ];
     }
 
@@ -190,7 +213,8 @@ ran_at al core (b ∷ desks) lines (f ∷ done) (suc k) d e all lt =
     let less : k < length done = omega arith in
     rw same at (ran_at al (core + 1) desks lines done k d e all.1 less)
 
-pub same_width : (al : Allocator) (core : ℕ) (desks : List Desk) (lines : List Ask) (done : List Done) → RanAll al core desks lines done → length done ≡ length desks
+pub same_width : (al : Allocator) (core : ℕ) (desks : List Desk) (lines : List Ask) (done : List Done)
+    → RanAll al core desks lines done → length done ≡ length desks
 same_width al core [] lines [] all = refl
 same_width al core [] lines (f ∷ done) all = absurd all
 same_width al core (b ∷ desks) lines [] all = absurd all
@@ -203,7 +227,8 @@ fitting al desks lines done all inside = record {
   inside = λ i d lt. omega (arith, inside i d lt, same_width al 0 desks lines done all);
   fits = λ k e lt.
       let ran = rw zero-add at (ran_at al 0 desks lines done k e.desk e all lt) in
-      run_spots (memory_of al) (list_of (get_or desks k e.desk)) (asks_by k lines) (get_or done k e).answers.items (list_of (get_or done k e).desk) ran.run;
+      run_spots (memory_of al) (list_of (get_or desks k e.desk)) (asks_by k lines) (get_or done k e).answers.items
+      (list_of (get_or done k e).desk) ran.run;
 }
 
 -- what stands at one place of the list

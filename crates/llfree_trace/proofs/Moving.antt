@@ -6,7 +6,8 @@ use Rattle.frame_model.specs.declared.key.Key.{Key}
 use Rattle.held_blocks.specs.Desk.{blocks_of}
 use Rattle.held_blocks.specs.LabelledBlocks.{BeginsAt, HasNone, TakesFirst}
 use Rattle.held_blocks.specs.declared.labelled_block.LabelledBlock.{LabelledBlock}
-use Rattle.held_blocks.proofs.HeldLemmas.{all_split, begins_apart, blocks_append, less_lawful, more_lawful, sum_split}
+use Rattle.held_blocks.proofs.HeldLemmas.{all_split, begins_apart, blocks_append, less_lawful}
+use Rattle.held_blocks.proofs.HeldLemmas.{more_lawful, sum_split}
 
 -- what is left of a holding shares no frame with a block that left
 free_of_others : (key : Key) (front back : List LabelledBlock) (e : LabelledBlock)

@@ -1,5 +1,6 @@
 -- What desks answer, as replies to requests.
-use Rattle.std.proofs.Common.{◌≡◌, ◌≢◌, ◌<◌, ◌≤◌, ℕ, List, Result, Ok, Err, refl, true, sym, subst, ap, arith, ◌∙◌}
+use Rattle.std.proofs.Common.{◌≡◌, ◌≢◌, ◌<◌, ◌≤◌, ℕ, List, Result, Ok, Err, refl, true, sym, subst}
+use Rattle.std.proofs.Common.{ap, arith, ◌∙◌}
 use Rattle.std.specs.Prelude.{IfOk, if◌then◌else◌, Bool, false}
 use Rattle.frame_core.specs.Block.{block, covers, IsBlock}
 use Rattle.frame_core.specs.Holding.{IsFreeBlock, holders}

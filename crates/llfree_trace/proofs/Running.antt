@@ -1,5 +1,6 @@
 -- How the answers to a trace grow by one.
-use Rattle.std.proofs.Common.{◌≡◌, ◌⊎◌, inl, inr, ◌+◌, ◌-◌, ◌≤◌, ℕ, zero, suc, max, List, [], ◌∷◌, ◌++◌, length, replicate, refl, subst, arith, Result, Ok, Err}
+use Rattle.std.proofs.Common.{◌≡◌, ◌⊎◌, inl, inr, ◌+◌, ◌-◌, ◌≤◌, ℕ, zero, suc, max, List, [], ◌∷◌}
+use Rattle.std.proofs.Common.{◌++◌, length, replicate, refl, subst, arith, Result, Ok, Err}
 use Rattle.std.proofs.lemmas.List.{append-nil}
 use Rattle.std.proofs.lemmas.List.Elements.{All-nil}
 use Rattle.frame_core.specs.Block.{IsBlock}

@@ -1,12 +1,14 @@
 -- Why a command that can be done was refused.
-use Rattle.std.proofs.Common.{◌≡◌, inl, inr, ℕ, List, Option, Some, None, refl, sym, subst, IfSome, IsErr, Err}
+use Rattle.std.proofs.Common.{◌≡◌, inl, inr, ℕ, List, Option, Some, None, refl, sym, subst, IfSome}
+use Rattle.std.proofs.Common.{IsErr, Err}
 use Rattle.std.specs.Prelude.{IsSomeAnd}
 use Rattle.frame_words.specs.declared.fault.Fault.{Fault}
 use Rattle.frame_words.specs.declared.fault.Fault.TheVariants as fault
 use Rattle.frame_words.specs.declared.geometry.Geometry.{Geometry}
 use Rattle.frame_image.specs.ImageText.{image_of}
 use Rattle.llfree_trace.specs.ImageStreams.{IsImageFault}
-use Rattle.llfree_trace.specs.Program.{AreLawful, CanDo, Does, EndsCommand, IsOfSizes, IsRefused, IsUnlawful}
+use Rattle.llfree_trace.specs.Program.{AreLawful, CanDo, Does, EndsCommand, IsOfSizes, IsRefused}
+use Rattle.llfree_trace.specs.Program.{IsUnlawful}
 use Rattle.llfree_trace.specs.Streams.{HasBadRanges, IsRunFault}
 use Rattle.llfree_trace.specs.TraceText.{trace_of}
 use Rattle.llfree_trace.specs.declared.command.Command.{Command}

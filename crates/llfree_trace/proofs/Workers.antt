@@ -1,5 +1,7 @@
 -- How the answers of a desk grow by one.
-use Rattle.std.proofs.Common.{◌≡◌, ◌≢◌, ◌==◌, ◌+◌, ◌<◌, ◌∙◌, ℕ, List, [], ◌∷◌, ◌++◌, true, false, length, take, get_or, refl, sym, subst, ap, arith, add-zero, zero-add, ap₂, zero, suc, ◌≤◌}
+use Rattle.std.proofs.Common.{◌≡◌, ◌≢◌, ◌==◌, ◌+◌, ◌<◌, ◌∙◌, ℕ, List, [], ◌∷◌, ◌++◌, true, false}
+use Rattle.std.proofs.Common.{length, take, get_or, refl, sym, subst, ap, arith, add-zero, zero-add}
+use Rattle.std.proofs.Common.{ap₂, zero, suc, ◌≤◌}
 use Rattle.std.proofs.lemmas.Bool.Decides.{nat_tests}
 use Rattle.std.specs.List.{All}
 use Rattle.std.proofs.lemmas.List.{append-nil, take_more}
@@ -19,10 +21,12 @@ use Rattle.llfree_trace.specs.declared.line.Line.TheVariants as line
 use Rattle.llfree_trace.specs.declared.line.Request.{Request}
 use Rattle.llfree_trace.specs.declared.lines.Done.{Done}
 use Rattle.llfree_trace.specs.Trace.{cores_in}
-use Rattle.llfree_trace.specs.Rounds.{Ask, DeskRun, IsAsk, IsNoAskOf, Ran, RanAll, ask_core, asks_from, asks_by}
+use Rattle.llfree_trace.specs.Rounds.{Ask, DeskRun, IsAsk, IsNoAskOf, Ran, RanAll, ask_core}
+use Rattle.llfree_trace.specs.Rounds.{asks_from, asks_by}
 
 -- one more line with its answer
-pub run_more : (key : Key) (old : List LabelledBlock) (lines : List Ask) (answers : List Answer) (mid new : List LabelledBlock) (line : Ask) (a : Answer)
+pub run_more : (key : Key) (old : List LabelledBlock) (lines : List Ask) (answers : List Answer) (mid new : List LabelledBlock)
+    (line : Ask) (a : Answer)
     → DeskRun key old lines answers mid → a.line ≡ line.number → a.core ≡ line.core → DeskStep MayRefuse key mid line.request a.reply new
     → DeskRun key old (lines ++ line ∷ []) (answers ++ a ∷ []) new
 unfolding DeskRun
@@ -33,7 +37,8 @@ run_more key old (l ∷ lines) (b ∷ answers) mid new line a run n k step =
     (run.0, run.1, run.2, run.3, run_more key run.2 lines answers mid new line a run.4 n k step)
 
 -- the next line is the core's own
-pub line_ran : (core : ℕ) (lines : List Ask) (i : ℕ) (d : Ask) (key : Key) (old : List LabelledBlock) (answers : List Answer) (mid new : List LabelledBlock) (a : Answer)
+pub line_ran : (core : ℕ) (lines : List Ask) (i : ℕ) (d : Ask) (key : Key) (old : List LabelledBlock) (answers : List Answer)
+    (mid new : List LabelledBlock) (a : Answer)
     → DeskRun key old (asks_by core (take i lines)) answers mid → i < length lines → (get_or lines i d).core ≡ core
     → a.line ≡ (get_or lines i d).number → a.core ≡ core → DeskStep MayRefuse key mid (get_or lines i d).request a.reply new
     → DeskRun key old (asks_by core (take (i + 1) lines)) (answers ++ a ∷ []) new
@@ -44,7 +49,8 @@ line_ran core lines i d key old answers mid new a run lt own n k step =
     rw (more, test) (run_more key old (asks_by core (take i lines)) answers mid new line a run n (k ∙ sym own) step)
 
 -- the next line is another core's
-pub line_skipped : (core : ℕ) (lines : List Ask) (i : ℕ) (d : Ask) (key : Key) (old : List LabelledBlock) (answers : List Answer) (mid : List LabelledBlock)
+pub line_skipped : (core : ℕ) (lines : List Ask) (i : ℕ) (d : Ask) (key : Key) (old : List LabelledBlock) (answers : List Answer)
+    (mid : List LabelledBlock)
     → DeskRun key old (asks_by core (take i lines)) answers mid → i < length lines → (get_or lines i d).core ≢ core
     → DeskRun key old (asks_by core (take (i + 1) lines)) answers mid
 line_skipped core lines i d key old answers mid run lt other =
@@ -120,7 +126,8 @@ front_desks al all front last is home = by front (rw is at home)
 
 -- a last desk joins those before it, at the place after them
 pub last_ran : (al : Allocator) (desks front : List Desk) (lines : List Ask) (done all : List Done) (core : ℕ) (d : Desk) (e : Done)
-    → desks ≡ front ++ d ∷ [] → core ≡ length front → all ≡ done ++ e ∷ [] → RanAll al 0 front lines done → Ran al core d lines e → RanAll al 0 desks lines all
+    → desks ≡ front ++ d ∷ [] → core ≡ length front → all ≡ done ++ e ∷ [] → RanAll al 0 front lines done → Ran al core d lines e
+    → RanAll al 0 desks lines all
 last_ran al desks front lines done all core d e is place more ran one =
     let at : Ran al (0 + length front) d lines e = rw (zero-add, ← place) one in
     rw (is, more) (one_more al 0 front lines done d e ran at)

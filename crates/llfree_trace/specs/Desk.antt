@@ -1,5 +1,5 @@
 -- The list of one core beside the allocator that its blocks came from.
-use Rattle.std.specs.Prelude.{ℕ, ◌≡◌, List, [], ◌∷◌, Option}
+use Rattle.std.specs.Prelude.{ℕ, ◌+◌, ◌≡◌, List, [], ◌∷◌, length, Option}
 use Rattle.std.specs.List.{sum_by}
 use Rattle.std.specs.Option.{option_to_list}
 use Rattle.core_frames.specs.PlainState.{PlainState}
@@ -14,6 +14,7 @@ use Rattle.llfree_trace.specs.Outcome.{Moves, MustRefuseHere, Runs}
 use Rattle.llfree_trace.specs.declared.line.Line.{Line}
 use Rattle.llfree_trace.specs.declared.reply.Answer.{Answer}
 use Rattle.llfree_trace.specs.declared.reply.Reply.{Reply}
+use Rattle.llfree_trace.specs.declared.reply.Reply.TheVariants as reply
 
 -- a memory, the ranges that its opening held back, and the list of what its one core holds
 pub record DeskState : Type 0 where
@@ -32,6 +33,20 @@ IsLawful desk = IsHolding (desk_key desk) (blocks_of desk.list)
 -- the memory and its ranges are the same
 abbrev pub IsSameMemory : DeskState → DeskState → Type 0
 IsSameMemory old new = (new.geometry ≡ old.geometry) × (new.ranges ≡ old.ranges)
+
+-- how many blocks a reply tells to have come
+abbrev pub came_by : Reply → ℕ
+came_by (reply.Taken frame order) = 1
+came_by _ = 0
+
+-- how many blocks a reply tells to have gone
+abbrev pub went_by : Reply → ℕ
+went_by (reply.Given frame order) = 1
+went_by _ = 0
+
+-- the list has as many blocks more or fewer as the reply tells
+abbrev pub CountsBy : List LabelledBlock → List LabelledBlock → Reply → Type 0
+CountsBy old new r = length new + went_by r ≡ length old + came_by r
 
 -- exactly the blocks of the list are out
 pub record HasOut (allocator : PlainState) (held : List LabelledBlock) : Type 0 where

@@ -1,14 +1,14 @@
 //! The text of answers.
 
-ghost use Rattle.std.specs.Prelude.{◌≡◌, ◌++◌, ◌∷◌, [], decimal, IfErr, IfOk, OnOk};
-ghost use Rattle.csv.specs.Writing.{default_writer, row_text};
+ghost use Rattle.std.specs.Prelude.{◌≡◌, ◌≤◌, ◌++◌, ◌∷◌, [], decimal, false, length};
+ghost use Rattle.std.specs.Prelude.{IfErr, IfOk, OnOk};
+ghost use Rattle.csv.specs.Writing.{default_writer, needs_quotes, row_text};
 ghost use Rattle.llfree_trace.specs.AnswerText.{answer_row, answers_of, closing_row};
 ghost use Rattle.llfree_trace.specs.AnswerText.{word_of as the_word_of};
 
 use crate::reply::{Answer, Reply};
-use frame_image::RecordWriter;
+use crate::row::Row;
 use frame_words::Fault;
-use itoa::Buffer;
 use std::alloc::Global;
 
 // The text of answers, and of how many frames are held and free after them.
@@ -22,77 +22,95 @@ pub(crate) fn answers_text(
     ensures text { IfOk result (λ text. text.items ≡ answers_of answers.now held free) }
     ensures fault { IfErr result (λ e. e ≡ Fault.NoMemory) }
 {
-    let mut writer = RecordWriter::new(alloc);
+    let mut text = Vec::new(alloc);
     for answer in answers {
-        write_answer(&mut writer, *answer)?;
+        write_answer(&mut text, *answer)?;
     }
-    write_closing(&mut writer, held, free)?;
-    writer.finish()
+    write_closing(&mut text, held, free)?;
+    Ok(text)
 }
 
 // Adds an answer to the text.
-fn write_answer(writer: &mut RecordWriter, answer: Answer) -> Result<(), Fault>
+fn write_answer(text: &mut Vec<u8>, answer: Answer) -> Result<(), Fault>
     ensures text { OnOk result
-        (writer.new ≡ writer.old ++ row_text default_writer (answer_row answer)) }
+        (text.new.items ≡ text.old.items ++ row_text default_writer (answer_row answer)) }
     ensures fault { IfErr result (λ e. e ≡ Fault.NoMemory) }
 {
     match answer.reply {
-        Reply::Taken(frame, order) => write_block(writer, answer, b"Taken", frame, order),
-        Reply::Given(frame, order) => write_block(writer, answer, b"Given", frame, order),
-        Reply::Moved(frame, order) => write_block(writer, answer, b"Moved", frame, order),
-        Reply::Refused(fault) => write_refusal(writer, answer, fault),
+        Reply::Taken(frame, order) => write_block(text, answer, b"Taken", frame, order),
+        Reply::Given(frame, order) => write_block(text, answer, b"Given", frame, order),
+        Reply::Moved(frame, order) => write_block(text, answer, b"Moved", frame, order),
+        Reply::Refused(fault) => write_refusal(text, answer, fault),
     }
 }
 
-// Adds an answer that names a block.
+// Adds an answer that names a block. None of its fields calls for quotes.
 fn write_block(
-    writer: &mut RecordWriter,
+    text: &mut Vec<u8>,
     answer: Answer,
-    word: &[u8],
+    word: &[u8; 5],
     frame: u32,
     order: u8,
 ) -> Result<(), Fault>
-    ensures text { OnOk result (writer.new ≡ writer.old ++ row_text default_writer
+    requires plain { needs_quotes default_writer word.now ≡ false }
+    ensures text { OnOk result (text.new.items ≡ text.old.items ++ row_text default_writer
         (decimal answer.line ∷ decimal answer.core ∷ word.now ∷ decimal frame ∷ decimal order
         ∷ [])) }
     ensures fault { IfErr result (λ e. e ≡ Fault.NoMemory) }
 {
-    let (mut line_text, mut core_text) = (Buffer::new(), Buffer::new());
-    let (mut frame_text, mut order_text) = (Buffer::new(), Buffer::new());
-    let line = line_text.format(answer.line).as_bytes();
-    let core = core_text.format(answer.core).as_bytes();
-    let frame = frame_text.format(frame).as_bytes();
-    let order = order_text.format(order).as_bytes();
-    writer.add(&[line, core, word, frame, order])
+    let mut row = Row::new();
+    row.put_byte(b'\n');
+    row.put_number(u32::from(order));
+    row.put_byte(b',');
+    row.put_number(frame);
+    row.put_byte(b',');
+    row.put_word(word.as_slice());
+    row.put_byte(b',');
+    row.put_number(answer.core);
+    row.put_byte(b',');
+    row.put_number(answer.line);
+    text.extend_from_slice(row.as_slice())?;
+    Ok(())
 }
 
-// Adds an answer that names no block.
-fn write_refusal(writer: &mut RecordWriter, answer: Answer, fault: Fault) -> Result<(), Fault>
-    ensures text { OnOk result (writer.new ≡ writer.old ++ row_text default_writer
+// Adds an answer that names no block. None of its fields calls for quotes.
+fn write_refusal(text: &mut Vec<u8>, answer: Answer, fault: Fault) -> Result<(), Fault>
+    ensures text { OnOk result (text.new.items ≡ text.old.items ++ row_text default_writer
         (decimal answer.line ∷ decimal answer.core ∷ the_word_of fault ∷ [] ∷ [] ∷ [])) }
     ensures fault { IfErr result (λ e. e ≡ Fault.NoMemory) }
 {
-    let (mut line_text, mut core_text) = (Buffer::new(), Buffer::new());
-    let line = line_text.format(answer.line).as_bytes();
-    let core = core_text.format(answer.core).as_bytes();
-    writer.add(&[line, core, word_of(fault), b"", b""])
+    let mut row = Row::new();
+    row.put_word(b",,\n");
+    row.put_word(word_of(fault));
+    row.put_byte(b',');
+    row.put_number(answer.core);
+    row.put_byte(b',');
+    row.put_number(answer.line);
+    text.extend_from_slice(row.as_slice())?;
+    Ok(())
 }
 
 // Adds how many frames are held and free at the end.
-fn write_closing(writer: &mut RecordWriter, held: u32, free: u32) -> Result<(), Fault>
+fn write_closing(text: &mut Vec<u8>, held: u32, free: u32) -> Result<(), Fault>
     ensures text { OnOk result
-        (writer.new ≡ writer.old ++ row_text default_writer (closing_row held free)) }
+        (text.new.items ≡ text.old.items ++ row_text default_writer (closing_row held free)) }
     ensures fault { IfErr result (λ e. e ≡ Fault.NoMemory) }
 {
-    let (mut held_text, mut free_text) = (Buffer::new(), Buffer::new());
-    let held = held_text.format(held).as_bytes();
-    let free = free_text.format(free).as_bytes();
-    writer.add(&[b"end", b"", b"Closed", held, free])
+    let mut row = Row::new();
+    row.put_byte(b'\n');
+    row.put_number(free);
+    row.put_byte(b',');
+    row.put_number(held);
+    row.put_word(b"end,,Closed,");
+    text.extend_from_slice(row.as_slice())?;
+    Ok(())
 }
 
 // The word for a refusal.
 fn word_of(fault: Fault) -> &'static [u8]
-    ensures { result.now ≡ the_word_of fault }
+    ensures value { result.now ≡ the_word_of fault }
+    ensures plain { needs_quotes default_writer result.now ≡ false }
+    ensures short { length result.now ≤ 9 }
 {
     match fault {
         Fault::BadOrder => b"BadOrder",

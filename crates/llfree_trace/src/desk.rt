@@ -3,11 +3,13 @@
 ghost use Rattle.std.specs.Prelude.{◌≡◌, ◌≤◌, ◌<◌, ◌∷◌, ◌++◌, [], IfErr, IfOk};
 ghost use Rattle.std.specs.Prelude.{Contains, IsPermutation};
 ghost use Rattle.core_frames.specs.Ranges.{IsUnopenedFor, MayHoldBack};
-ghost use Rattle.llfree_trace.specs.Desk.{desk_key, IsLawful, IsSameMemory, MovesToEnd, RunsOne};
+ghost use Rattle.llfree_trace.specs.Desk.{desk_key, CountsBy, IsLawful, IsSameMemory, MovesToEnd};
+ghost use Rattle.llfree_trace.specs.Desk.{RunsOne};
 ghost use Rattle.llfree_trace.specs.Trace.{cores_in};
 
 use crate::line::{Line, Request};
 use crate::reply::{Answer, Reply};
+use crate::transfers::moved;
 use core_frames::{Label, LabelledBlock, LabelledBlocks, PlainAllocator};
 use frame_core::{HeldBlock, Image};
 use frame_words::{Fault, Geometry, HUGE_ORDER};
@@ -61,6 +63,7 @@ impl PlainDesk {
     }
 
     // Runs a record, and gives the answer to it, if there is one.
+    #[tactic(auto, using(crate::proofs::Running::unanswered))]
     pub(crate) fn run(&mut self, number: u32, line: &Line) -> Result<Option<Answer>, Fault>
         requires core { cores_in line.now ≤ 1 }
         requires lawful { IsLawful self.old }
@@ -102,6 +105,7 @@ impl PlainDesk {
         ensures step { IfOk result (SaysTaken (λ o. TakesUnder MustRefuseHere
             (desk_key self.old) self.old.list label.now order o self.new.list
             × LeavesBootFrames (desk_key self.old) o)) }
+        ensures count { IfOk result (CountsBy self.old.list self.new.list) }
         ensures memory { IsSameMemory self.old self.new }
         ensures fault { IfErr result (λ e. e ≡ Fault.NoMemory) }
     {
@@ -124,6 +128,7 @@ impl PlainDesk {
     fn give(&mut self, label: &Label) -> Reply
         ensures step { SaysGiven (λ o. GivesOldest self.old.list label.now o self.new.list)
             result }
+        ensures count { CountsBy self.old.list self.new.list result }
         ensures memory { IsSameMemory self.old self.new }
     {
         match self.list.remove_oldest(label) {
@@ -136,6 +141,7 @@ impl PlainDesk {
     fn give_at(&mut self, frame: u32, order: u8) -> Reply
         ensures step { SaysGiven (λ o. GivesExactly self.old.list frame order o self.new.list)
             result }
+        ensures count { CountsBy self.old.list self.new.list result }
         ensures memory { IsSameMemory self.old self.new }
     {
         if order > HUGE_ORDER {
@@ -152,6 +158,7 @@ impl PlainDesk {
     fn move_to_end(&mut self, label: &Label) -> Result<Reply, Fault>
         requires { IsLawful self.old }
         ensures step { IfOk result (λ r. MovesToEnd self.old.list label.now r self.new.list) }
+        ensures count { IfOk result (CountsBy self.old.list self.new.list) }
         ensures lawful { IfOk result (λ _. IsLawful self.new) }
         ensures memory { IsSameMemory self.old self.new }
         ensures fault { IfErr result (λ e. e ≡ Fault.NoMemory) }
@@ -160,7 +167,7 @@ impl PlainDesk {
         let Some(held) = self.list.remove_oldest(label) else {
             return Ok(Reply::Refused(Fault::NotHeld));
         };
-        let reply = Reply::Moved(held.block.frame(), held.block.order());
+        let reply = moved(&held.block);
         self.list.add(held);
         Ok(reply)
     }

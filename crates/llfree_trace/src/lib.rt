@@ -17,6 +17,7 @@ mod program;
 mod progress;
 mod reply;
 mod rounds;
+mod row;
 mod seating;
 mod streams;
 mod transfers;

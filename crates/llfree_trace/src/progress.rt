@@ -1,6 +1,7 @@
 //! A run on threads so far: its desks, and its answers.
 
-ghost use Rattle.std.specs.Prelude.{◌≡◌, ◌+◌, ◌<◌, ◌≤◌, ℕ, true, length, take, vec_len, IfOk, IfErr, ◌∷◌, []};
+ghost use Rattle.std.specs.Prelude.{◌≡◌, ◌+◌, ◌<◌, ◌≤◌, ℕ, true, length, take, vec_len};
+ghost use Rattle.std.specs.Prelude.{IfOk, IfErr, ◌∷◌, ◌++◌, []};
 ghost use Rattle.std.specs.Prelude.{slice_index_or};
 ghost use Rattle.std.specs.List.{All};
 ghost use Rattle.core_frames.specs.Cores.{memory_of};
@@ -47,12 +48,20 @@ pub(crate) fn run_all<G: Gate, R: Threads + Wait>(
     let mut progress = start;
     let mut done = 0;
     while done < lines.len() {
-        let number = done as u32 + 1;
+        let number = number_after(done);
         let (next, count) = run_part(rt, alloc, allocator, gate, progress, number, &lines[done..])?;
         progress = next;
         done += count;
     }
     Ok(progress)
+}
+
+// The number of the record behind so many.
+fn number_after(count: usize) -> u32
+    requires { count < most_records }
+    ensures { result ≡ count + 1 }
+{
+    count as u32 + 1
 }
 
 // Runs the first records: the round of all requests that come first, or a record that is none.
@@ -131,10 +140,23 @@ fn run_asks<G: Gate, R: Threads + Wait>(
     ensures goes { IfOk result (λ p. GoesOn allocator.now number lines.now progress p) }
     ensures fault { IfErr result (λ e. e ≡ Fault.NoMemory) }
 {
-    let Progress { desks, mut answers } = progress;
+    let Progress { desks, answers } = progress;
     let (desks, more) = answer_round(rt, alloc, allocator, gate, desks, number, lines)?;
-    answers.extend_from_slice(more.as_slice())?;
+    let answers = joined(answers, more)?;
     Ok(Progress { desks, answers })
+}
+
+// The answers so far, and then those of a round.
+fn joined(answers: Vec<Answer>, more: Vec<Answer>) -> Result<Vec<Answer>, Fault>
+    ensures answers { IfOk result (λ all. all.items ≡ answers.items ++ more.items) }
+    ensures fault { IfErr result (λ e. e ≡ Fault.NoMemory) }
+{
+    if answers.is_empty() {
+        return Ok(more);
+    }
+    let mut all = answers;
+    all.extend_from_slice(more.as_slice())?;
+    Ok(all)
 }
 
 // Runs a record that is no request.

@@ -1,6 +1,7 @@
 mod images;
 mod records;
 mod threads;
+mod worked;
 
 use super::*;
 use crate::answers::answers_text;
@@ -32,84 +33,80 @@ fn runs(
     for word in words {
         list.push(String::from_str(alloc, word)?)?;
     }
+    runs_by(rt, alloc, list.as_slice(), text)
+}
+
+// The same, of words that are held.
+fn runs_by(
+    rt: &(impl Threads + Wait),
+    alloc: Global,
+    words: &[String],
+    text: &[u8],
+) -> Result<(u8, Vec<u8>, Vec<u8>), AllocError> {
     let mut taken = Vec::new(alloc);
     let mut errors = Vec::new(alloc);
     let status = {
         let mut input = Watched::new(text);
         let mut output = Watched::new(&mut taken);
-        run_program(
-            rt,
-            alloc,
-            list.as_slice(),
-            &mut input,
-            &mut output,
-            &mut errors,
-        )
+        run_program(rt, alloc, words, &mut input, &mut output, &mut errors)
     };
     Ok((status, taken, errors))
 }
 
-// Checks what a run of a trace prints.
-fn answers(
-    rt: &(impl Abort + Threads + Wait),
+// What a run on threads writes.
+fn shows<Rt: Threads + Wait, G: Gate>(
+    rt: &Rt,
     alloc: Global,
-    words: &[&str],
-    text: &str,
-    want: &str,
-) -> Result<(), AllocError> {
-    let (status, output, errors) = runs(rt, alloc, words, text.as_bytes())?;
-    assert_eq!(rt; status, 0, "on {text}");
-    assert_eq!(rt; output.as_slice(), want.as_bytes(), "on {text}");
-    assert!(rt; errors.is_empty());
-    Ok(())
+    geometry: Geometry,
+    show: Show,
+    gate: &G,
+    text: &[u8],
+) -> Result<Vec<u8>, Fault> {
+    let mut input = Watched::new(text);
+    let mut taken = Vec::new(alloc);
+    {
+        let mut output = Watched::new(&mut taken);
+        run_many_over(rt, alloc, geometry, show, gate, &mut input, &mut output)?;
+    }
+    Ok(taken)
 }
 
-#[test]
-fn worked_traces_are_answered(rt: HostRuntime) -> Result<(), Fail> {
-    for (text, want) in [
-        ("", "end,,Closed,0,512\n"),
-        ("0,take,a,0", "1,0,Taken,0,0\nend,,Closed,1,511\n"),
-        (
-            "0,take,a,0\n0,take,b,3\n0,take,c,0\n",
-            "1,0,Taken,0,0\n2,0,Taken,8,3\n3,0,Taken,1,0\nend,,Closed,10,502\n",
-        ),
-        (
-            "0,take,a,0\n0,take,b,6\n0,take,c,7\n0,take,d,8\n0,take,e,9\n0,take,f,0\n",
-            "1,0,Taken,0,0\n2,0,Taken,64,6\n3,0,Taken,128,7\n4,0,Taken,256,8\n\
-             5,0,NoBlock,,\n6,0,Taken,1,0\nend,,Closed,450,62\n",
-        ),
-        (
-            "0,take,a,9\n0,take,b,0\n0,give,a,\n0,take,b,0\n",
-            "1,0,Taken,0,9\n2,0,NoBlock,,\n3,0,Given,0,9\n4,0,Taken,0,0\nend,,Closed,1,511\n",
-        ),
-        ("0,take,a,10\n", "1,0,BadOrder,,\nend,,Closed,0,512\n"),
-        ("0,take,a,255\n", "1,0,BadOrder,,\nend,,Closed,0,512\n"),
-        (
-            "0,take,a,1\n0,giveat,0,0\n0,giveat,0,1\n0,giveat,0,1\n0,giveat,0,10\n0,give,a,\n",
-            "1,0,Taken,0,1\n2,0,NotHeld,,\n3,0,Given,0,1\n4,0,NotHeld,,\n5,0,BadOrder,,\n\
-             6,0,NotHeld,,\nend,,Closed,0,512\n",
-        ),
-    ] {
-        answers(&rt, rt.alloc(), &["run", "1", "1"], text, want)?;
+// What the program writes of a trace, with so many children, cores and frames. A run on threads writes
+// the same.
+fn shown_alike(
+    rt: &(impl Abort + Threads + Wait),
+    alloc: Global,
+    sizes: (u32, u32, u32),
+    show: Show,
+    text: &str,
+) -> Result<Vec<u8>, Fault> {
+    let mut words = Vec::new(alloc);
+    words.push(match show {
+        Show::Answers => String::from_str(alloc, "run")?,
+        Show::Picture => String::from_str(alloc, "image")?,
+    })?;
+    for size in [sizes.0, sizes.1, sizes.2] {
+        words.push(format!(in alloc; "{size}")?)?;
     }
-    answers(
-        &rt,
-        rt.alloc(),
-        &["run", "2", "1"],
-        "0,take,a,0\n0,take,b,9\n",
-        "1,0,Taken,0,0\n2,0,Taken,512,9\nend,,Closed,513,511\n",
-    )?;
-    answers(
-        &rt,
-        rt.alloc(),
-        &["run", "16", "1"],
-        "0,take,a,9\n0,take,b,9\n0,take,c,9\n0,take,d,9\n0,take,e,9\n0,take,f,9\n0,take,g,9\n\
-         0,take,h,9\n0,take,i,9\n0,give,a,\n0,give,b,\n0,give,c,\n0,give,d,\n",
-        "1,0,Taken,0,9\n2,0,Taken,512,9\n3,0,Taken,1024,9\n4,0,Taken,1536,9\n5,0,Taken,2048,9\n\
-         6,0,Taken,2560,9\n7,0,Taken,3072,9\n8,0,Taken,3584,9\n9,0,Taken,4096,9\n\
-         10,0,Given,0,9\n11,0,Given,512,9\n12,0,Given,1024,9\n13,0,Given,1536,9\n\
-         end,,Closed,2560,5632\n",
-    )?;
+    let (status, output, errors) = runs_by(rt, alloc, words.as_slice(), text.as_bytes())?;
+    assert_eq!(rt; status, 0, "on {text}");
+    assert!(rt; errors.is_empty());
+    let geometry = Geometry::with_frames(sizes.0, sizes.1, sizes.2)?;
+    let shown = shows(rt, alloc, geometry, show, &OpenGate, text.as_bytes())?;
+    assert_eq!(rt; shown.as_slice(), output.as_slice(), "on {text}");
+    Ok(output)
+}
+
+// Checks what a trace is answered, by the program and on threads.
+fn is_answered(
+    rt: &(impl Abort + Threads + Wait),
+    alloc: Global,
+    sizes: (u32, u32, u32),
+    text: &str,
+    want: &str,
+) -> Result<(), Fault> {
+    let output = shown_alike(rt, alloc, sizes, Show::Answers, text)?;
+    assert_eq!(rt; output.as_slice(), want.as_bytes(), "on {text}");
     Ok(())
 }
 
@@ -124,19 +121,19 @@ fn quotes_marks_and_zeros_are_read_as_csv_reads_them(rt: HostRuntime) -> Result<
         "0,take,a,00000000000000000000\n",
         "00000000000000000000,take,a,0\n",
     ] {
-        answers(
+        is_answered(
             &rt,
             rt.alloc(),
-            &["run", "1", "1"],
+            (1, 1, 512),
             text,
             "1,0,Taken,0,0\nend,,Closed,1,511\n",
         )?;
     }
     for text in ["0,giveat,4294967295,0\n", "0,giveat,512,9\n"] {
-        answers(
+        is_answered(
             &rt,
             rt.alloc(),
-            &["run", "1", "1"],
+            (1, 1, 512),
             text,
             "1,0,NotHeld,,\nend,,Closed,0,512\n",
         )?;
@@ -268,75 +265,6 @@ fn command_lines_have_their_statuses(rt: HostRuntime) -> Result<(), Fail> {
     assert_eq!(rt; answer, 2);
     assert!(rt; output.is_empty());
     assert_eq!(rt; errors.as_slice(), USAGE.as_bytes());
-    Ok(())
-}
-
-#[test]
-fn several_cores_are_served(rt: HostRuntime) -> Result<(), Fail> {
-    let moved = "0,take,a,0\n,round,,\n0,move,a,1\n1,give,a,\n";
-    for (text, want) in [
-        (
-            moved,
-            "1,0,Taken,0,0\n3,0,Moved,0,0\n4,1,Given,0,0\nend,,Closed,0,4096\n",
-        ),
-        (
-            "0,take,a,0\n,round,,\n1,take,b,0\n",
-            "1,0,Taken,0,0\n3,1,Taken,1,0\nend,,Closed,2,4094\n",
-        ),
-        ("", "end,,Closed,0,4096\n"),
-    ] {
-        answers(&rt, rt.alloc(), &["run", "8", "2"], text, want)?;
-    }
-    let image = runs(&rt, rt.alloc(), &["image", "8", "2"], moved.as_bytes())?;
-    assert_eq!(rt; image.0, 0);
-    assert!(rt;
-        image
-            .1
-            .ends_with(b"tree,0,1,1,\ncore,0,0,4095,\ncore,1,,,\n")
-    );
-    Ok(())
-}
-
-#[test]
-fn a_full_child_is_given_block_by_block(rt: HostRuntime) -> Result<(), Fail> {
-    let alloc = rt.alloc();
-    let mut text = String::new(alloc);
-    let mut want = String::new(alloc);
-    for record in 1..=513u32 {
-        text.push_str("0,take,a,0\n")?;
-        if record <= 512 {
-            write!(want, "{record},0,Taken,{},0\n", record - 1)?;
-        } else {
-            write!(want, "{record},0,NoBlock,,\n")?;
-        }
-    }
-    for record in 514..=1025u32 {
-        text.push_str("0,give,a,\n")?;
-        write!(want, "{record},0,Given,{},0\n", record - 514)?;
-    }
-    text.push_str("0,take,z,9\n")?;
-    want.push_str("1026,0,Taken,0,9\nend,,Closed,512,0\n")?;
-    answers(&rt, alloc, &["run", "1", "1"], text.as_str(), want.as_str())?;
-    Ok(())
-}
-
-#[test]
-fn every_second_frame_leaves_no_pair(rt: HostRuntime) -> Result<(), Fail> {
-    let alloc = rt.alloc();
-    let mut text = String::new(alloc);
-    let mut want = String::new(alloc);
-    for frame in 0..512u32 {
-        text.push_str("0,take,a,0\n")?;
-        write!(want, "{},0,Taken,{frame},0\n", frame + 1)?;
-    }
-    for half in 0..256u32 {
-        let frame = 2 * half + 1;
-        write!(text, "0,giveat,{frame},0\n")?;
-        write!(want, "{},0,Given,{frame},0\n", 513 + half)?;
-    }
-    text.push_str("0,take,b,1\n")?;
-    want.push_str("769,0,NoBlock,,\nend,,Closed,256,256\n")?;
-    answers(&rt, alloc, &["run", "1", "1"], text.as_str(), want.as_str())?;
     Ok(())
 }
 

@@ -30,9 +30,16 @@ pub(crate) fn move_block(
         Ok(block) => block,
         Err(refusal) => return Ok(Reply::Refused(refusal)),
     };
-    let (frame, order) = (block.frame(), block.order());
+    let reply = moved(&block);
     let Ok(()) = desks[to as usize].lay(allocator, label.again(), block) else {
         return Err(Fault::NoMemory);
     };
-    Ok(Reply::Moved(frame, order))
+    Ok(reply)
+}
+
+/// The reply that tells which block was moved.
+pub(crate) fn moved<B: HeldBlock>(block: &B) -> Reply
+    ensures { result ≡ Reply.Moved (B.block_of block.now).frame (B.block_of block.now).order }
+{
+    Reply::Moved(block.frame(), block.order())
 }

@@ -1,6 +1,6 @@
 //! Images that the program prints, rebuilds and reports.
 
-use super::{SlowReader, SlowWriter, USAGE, runs};
+use super::{SlowReader, SlowWriter, USAGE, is_answered, runs};
 use crate::{rebuild_over, report_over};
 use frame_image::Watched;
 use frame_words::Fault;
@@ -19,7 +19,7 @@ const REPORT: &str = "tree,0,3,509,509,254,127,63,31,15,7,3,1,0\n\
     all,,3,509,509,254,127,63,31,15,7,3,1,0\n";
 
 // 112 zeros stand in place of the braces.
-fn spelled(alloc: Global, short: &str) -> Result<Vec<u8>, Fail> {
+pub(super) fn spelled(alloc: Global, short: &str) -> Result<Vec<u8>, Fail> {
     let mut text = Vec::new(alloc);
     for byte in short.as_bytes() {
         match *byte {
@@ -161,14 +161,14 @@ fn sizes_are_looked_at_before_anything_is_read(rt: HostRuntime) -> Result<(), Fa
 #[test]
 fn a_memory_may_end_inside_a_child(rt: HostRuntime) -> Result<(), Fail> {
     let alloc = rt.alloc();
-    let takes = b"0,take,a,8\n0,take,b,8\n0,take,c,9\n0,take,d,5\n".as_slice();
-    let answers = "1,0,Taken,0,8\n2,0,NoBlock,,\n3,0,NoBlock,,\n4,0,Taken,256,5\n\
+    let takes = "0,take,a,8\n0,take,b,8\n0,take,c,9\n0,take,d,5\n";
+    let want = "1,0,Taken,0,8\n2,0,NoBlock,,\n3,0,NoBlock,,\n4,0,Taken,256,5\n\
         end,,Closed,500,12\n";
-    prints(&rt, alloc, &["run", "1", "1", "300"], takes, answers)?;
-    let two = b"0,take,a,0\n0,take,b,0\n0,give,a,\n0,giveat,1,0\n0,take,c,0\n".as_slice();
-    let answers = "1,0,Taken,0,0\n2,0,NoBlock,,\n3,0,Given,0,0\n4,0,NotHeld,,\n5,0,Taken,0,0\n\
+    is_answered(&rt, alloc, (1, 1, 300), takes, want)?;
+    let one = "0,take,a,0\n0,take,b,0\n0,give,a,\n0,giveat,1,0\n0,take,c,0\n";
+    let want = "1,0,Taken,0,0\n2,0,NoBlock,,\n3,0,Given,0,0\n4,0,NotHeld,,\n5,0,Taken,0,0\n\
         end,,Closed,512,0\n";
-    prints(&rt, alloc, &["run", "1", "1", "1"], two, answers)?;
+    is_answered(&rt, alloc, (1, 1, 1), one, want)?;
     let ends = "0000000000000000000000000000000000000000000000000000000000000000\
         fffff00000000000ffffffffffffffffffffffffffffffffffffffffffffffff";
     let image = String::from_str(alloc, "llfree,2,1,1,300\nchild,0,300,0,")?;

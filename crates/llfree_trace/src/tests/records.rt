@@ -22,7 +22,7 @@ fn rounds_and_moves_of_one_core_are_answered(rt: HostRuntime) -> Result<(), Fail
             "3,0,Taken,0,9\nend,,Closed,512,0\n",
         ),
     ] {
-        answers(&rt, rt.alloc(), &["run", "1", "1"], text, want)?;
+        is_answered(&rt, rt.alloc(), (1, 1, 512), text, want)?;
     }
     Ok(())
 }
@@ -47,12 +47,12 @@ fn ranges_are_held_from_the_start(rt: HostRuntime) -> Result<(), Fail> {
             "3,0,NotHeld,,\n4,0,Taken,0,0\nend,,Closed,512,0\n",
         ),
     ] {
-        answers(&rt, rt.alloc(), &["run", "1", "1"], text, want)?;
+        is_answered(&rt, rt.alloc(), (1, 1, 512), text, want)?;
     }
-    answers(
+    is_answered(
         &rt,
         rt.alloc(),
-        &["run", "1", "1", "300"],
+        (1, 1, 300),
         ",reserve,256,44\n0,take,a,8\n0,take,b,0\n",
         "2,0,Taken,0,8\n3,0,NoBlock,,\nend,,Closed,512,0\n",
     )?;
@@ -93,10 +93,10 @@ fn a_trace_holds_back_1024_ranges_at_most(rt: HostRuntime) -> Result<(), Fail> {
     for range in 0..1_024u32 {
         write!(text, ",reserve,{},1\n", 2 * range)?;
     }
-    let words = ["run", "5", "1"];
-    answers(&rt, alloc, &words, text.as_str(), "end,,Closed,1024,1536\n")?;
+    let want = "end,,Closed,1024,1536\n";
+    is_answered(&rt, alloc, (5, 1, 2_560), text.as_str(), want)?;
     text.push_str(",reserve,2048,1\n")?;
-    let (status, output, errors) = runs(&rt, alloc, &words, text.as_bytes())?;
+    let (status, output, errors) = runs(&rt, alloc, &["run", "5", "1"], text.as_bytes())?;
     assert_eq!(rt; status, 1);
     assert!(rt; output.is_empty());
     assert_eq!(rt; errors.as_slice(), b"llfree: bad range\n".as_slice());

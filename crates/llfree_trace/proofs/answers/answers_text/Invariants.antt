@@ -6,4 +6,4 @@ use Rattle.llfree_trace.proofs.answers.answers_text.Given as goal
 
 abbrev pub invariant-loop-answer : goal.invariant-loop-answer
 invariant-loop-answer l =
-    l.writer ≡ flat_map (λ a. row_text default_writer (answer_row a)) (take l.answer-index l.answers)
+    l.text.items ≡ flat_map (λ a. row_text default_writer (answer_row a)) (take l.answer-index l.answers)

@@ -1,10 +1,12 @@
-use Rattle.std.proofs.Common.{◌≡◌, ◌+◌, ◌<◌, ◌≤◌, ◌∷◌, ◌++◌, ◌-◌, ◌∙◌, [], length, replicate, take, true, refl, arith, rules}
+use Rattle.std.proofs.Common.{◌≡◌, ◌+◌, ◌<◌, ◌≤◌, ◌∷◌, ◌++◌, ◌-◌, ◌∙◌, [], length, replicate, take}
+use Rattle.std.proofs.Common.{true, refl, arith, rules}
 use Rattle.std.specs.Result.{is_ok}
 use Rattle.std.specs.Option.{option_to_list}
 use Rattle.std.proofs.lemmas.List.{append-nil, length-take, take_all, take_more}
 use Rattle.llfree_trace.specs.Outcome.{Runs}
 use Rattle.llfree_trace.proofs.Cores.{cores_in_at}
-use Rattle.llfree_trace.proofs.Running.{blocks_of_one, first_list, may_runs, none_lawful, renumbered, runs_append}
+use Rattle.llfree_trace.proofs.Running.{blocks_of_one, first_list, may_runs, none_lawful}
+use Rattle.llfree_trace.proofs.Running.{renumbered, runs_append}
 use Rattle.llfree_trace.proofs.one_core.run_one.Goals as goal
 use Rattle.llfree_trace.proofs.one_core.run_one.Goals.{in-Some+in_ok-push, in_default}
 

@@ -6,7 +6,6 @@ use Rattle.llfree_trace.proofs.progress.run_asks.Goals as goal
 
 pub returns-clause-goes : goal.returns-clause-goes
 returns-clause-goes g c =
-    let grown : c.extend_from_slice.new.self.items ≡ c.args.progress.answers.items ++ c.in_ok-desks.more.items =
-    rw c.as_slice.ensures.value at c.in_ok-extend_from_slice.ensures.items in
     goes_round c.args.allocator.now c.args.number c.args.lines.now c.args.progress _ c.in_ok-desks.more.items c.requires.desks
-    c.requires.asks (λ k d lt. omega (arith, c.requires.inside k d lt, c.args.progress.desks.ok)) c.in_ok-desks.ensures.round grown
+    c.requires.asks (λ k d lt. omega (arith, c.requires.inside k d lt, c.args.progress.desks.ok))
+    c.in_ok-desks.ensures.round c.in_ok-answers.ensures.answers

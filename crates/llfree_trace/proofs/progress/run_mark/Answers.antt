@@ -17,4 +17,5 @@ returns-in_ok-push-in-Move-clause-goes c =
 pub returns-in-Round-clause-goes : goal.returns-in-Round-clause-goes
 returns-in-Round-clause-goes c =
     goes_unanswered c.args.allocator.now c.args.number c.args.line.now c.args.progress c.requires.desks
-    (unanswered MayRefuse (memory_of c.args.allocator.now) c.args.number (lists_at c.args.progress.desks.items) c.args.line.now c.in-Round.is)
+    (unanswered MayRefuse (memory_of c.args.allocator.now) c.args.number (lists_at c.args.progress.desks.items) c.args.line.now
+    c.in-Round.is)

@@ -28,7 +28,7 @@ pub returns-clause-step : goal.returns-clause-step
 unfolding Moves
 returns-clause-step c = λ others.
     let takes = rw c.reserve.ensures.entries at c.in-Some.ensures.taken in
-    rw (← c.self.view_is, c.frame.ensures, c.order.ensures) (record {
+    rw (← c.self.view_is, c.moved-reply.ensures) (record {
       entry = c.in-Some.held;
       left = c.remove_oldest.new.self.entries;
       is_block = refl;

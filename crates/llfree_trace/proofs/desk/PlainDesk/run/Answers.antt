@@ -1,4 +1,4 @@
-use Rattle.llfree_trace.proofs.Running.{asked, moved, step_lawful, unanswered}
+use Rattle.llfree_trace.proofs.Running.{asked, moved, step_lawful}
 use Rattle.llfree_trace.proofs.desk.PlainDesk.run.Goals as goal
 
 pub returns-in_ok-reply-in-Ask-clause-run : goal.returns-in_ok-reply-in-Ask-clause-run
@@ -18,12 +18,6 @@ returns-in_ok-reply-in-Move-clause-run c = λ others.
     rw c.in-Move.is
     (moved _ _ c.args.number c.in-Move.core c.in-Move.label c.in-Move.to _ _ c.answer_to-in-Move.result others first made.line made.core
     lawful (rw made.reply (c.in_ok-reply-in-Move.ensures.step others)))
-
-pub returns-in-Round-clause-run : goal.returns-in-Round-clause-run
-returns-in-Round-clause-run c = λ others. unanswered _ _ _ _ _ c.in-Round.is
-
-pub returns-in-Round-2-clause-run : goal.returns-in-Round-2-clause-run
-returns-in-Round-2-clause-run c = λ others. unanswered _ _ _ _ _ c.in-Round.is
 
 pub returns-in_ok-reply-in-Ask-clause-lawful : goal.returns-in_ok-reply-in-Ask-clause-lawful
 returns-in_ok-reply-in-Ask-clause-lawful c =

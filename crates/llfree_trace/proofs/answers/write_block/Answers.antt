@@ -1,0 +1,17 @@
+use Rattle.std.proofs.Common.{◌≡◌, ◌∷◌, [], arith, decimal, rules, true}
+use Rattle.std.specs.Result.{is_ok}
+use Rattle.csv.specs.Writing.{default_writer, row_text}
+use Rattle.llfree_trace.proofs.PlainRows.{number_is_plain, plain_row}
+use Rattle.llfree_trace.proofs.answers.write_block.Goals as goal
+
+pub returns-clause-text : goal.returns-clause-text
+returns-clause-text c =
+    let made = plain_row (decimal c.args.answer.line) (decimal c.args.answer.core) c.args.word.now
+    (decimal c.args.frame) (decimal c.args.order)
+    (number_is_plain _ (omega arith)) (number_is_plain _ (omega arith)) c.requires.plain
+    (number_is_plain _ (omega arith)) (number_is_plain _ (omega arith)) in
+    let row : c.as_slice-2.result.now
+    ≡ row_text default_writer (decimal c.args.answer.line ∷ decimal c.args.answer.core ∷ c.args.word.now
+    ∷ decimal c.args.frame ∷ decimal c.args.order ∷ []) = cc made in
+    let good : is_ok c.extend_from_slice.result ≡ true = search rules in
+    rw (good, row) at c.extend_from_slice.ensures.items
