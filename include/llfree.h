@@ -3,10 +3,11 @@
  * A frame is 4 KiB, by its number from 0 on; a block of order o (0 to 9) is 2^o frames from a multiple
  * of 2^o on; a child is 512 frames. The library counts frames: it touches none of their memory.
  *
- * Whatever numbers are passed as children, frame and order, each call is safe, and a wrong one is
+ * Whatever numbers are passed as frames, ranges and orders, each call is safe, and a wrong one is
  * refused. What a caller has to uphold, and nothing checks:
  *  1. Each pointer is to memory of its type, aligned, that nobody else reads or writes during the
- *     call. Two pointers of one call do not overlap.
+ *     call: to as many elements as the count beside it says, and to anything, NULL too, where that is
+ *     0. Two pointers of one call do not overlap.
  *  2. A handle starts as LLFREE_CLOSED, or with all bytes 0. After that no code reads, writes or
  *     copies its bytes but the functions below. It may be moved where the old bytes are never used
  *     again.
@@ -35,12 +36,29 @@ enum llfree_status {
     LLFREE_NOT_HELD = 3,      /* no such block is held: of another order, given before, never taken */
     LLFREE_CLOSED_HANDLE = 4, /* nothing is behind the handle */
     LLFREE_NO_MEMORY = 5,
-    LLFREE_BAD_GEOMETRY = 6,  /* a memory has 1 to 4096 children and 1 to 64 cores */
+    LLFREE_BAD_GEOMETRY = 6,  /* a memory has 1 to 2097152 frames and 1 to 64 cores */
     LLFREE_OPEN_HANDLE = 7,   /* something is behind the handle already */
-    LLFREE_CONTENDED = 8      /* other cores were in the way: as NO_BLOCK, but a block may be free */
+    LLFREE_CONTENDED = 8,     /* other cores were in the way: as NO_BLOCK, but a block may be free */
+    LLFREE_BAD_RANGE = 9,     /* more than 1024 ranges, or one is empty, ends past the end of memory, or
+                                 begins before the end of the one before it */
+    LLFREE_NO_ROOM = 10       /* the image has more numbers than the buffer */
 };
 
 #define LLFREE_CLOSED { false, NULL }
+
+/* So many frames from the first on. */
+typedef struct llfree_range {
+    uint32_t first;
+    uint32_t frames;
+} llfree_range;
+
+/* How many numbers the image of so many frames has: nine for each child, of which the last may be cut;
+ * 0 where no memory has so many frames. What the numbers words[9 * c] to words[9 * c + 8] of child c
+ * say:
+ *  - words[9 * c]: how many of its frames are free, and 32768 where it is held as one block of order 9.
+ *  - words[9 * c + 1 + w], w from 0 to 7: bit b is set where frame 512 * c + 64 * w + b is held by a
+ *    smaller block, lies in a range that is never given out, or past the end of memory. */
+size_t llfree_image_words(uint32_t frames);
 
 /* A core of an allocator for several threads. Each thread (or CPU) has one, best with a cache line of
  * its own. Any core gives and splits what any core took, by its frame and order. */
@@ -49,10 +67,13 @@ typedef struct llfree_core {
     void *state;
 } llfree_core;
 
-/* Opens an allocator of so many children, all frames free, with a core behind each of the closed
- * handles. Beside the words of the allocator it has 32 bytes a frame. On OPEN_HANDLE (of any handle),
- * BAD_GEOMETRY and NO_MEMORY the handles are as they were. */
-uint32_t llfree_open(llfree_core *handles, size_t cores, uint32_t children);
+/* Opens an allocator of so many frames, with a core behind each of the closed handles. All frames are
+ * free but those of the ranges, which are never given out: what a kernel keeps, holes of the memory.
+ * Ranges ascend and do not overlap; NULL and 0 are none. Beside the words of the allocator it has 32
+ * bytes a frame. On OPEN_HANDLE (of any handle), BAD_GEOMETRY, BAD_RANGE and NO_MEMORY the handles are
+ * as they were. */
+uint32_t llfree_open(llfree_core *handles, size_t cores, uint32_t frames, const llfree_range *ranges,
+                     size_t count);
 
 /* Takes a block of the order, and writes its first frame. NO_BLOCK where all of memory was looked at
  * and no other core was in the way, CONTENDED, BAD_ORDER, CLOSED_HANDLE: then *frame is as it was, and
@@ -71,6 +92,9 @@ uint32_t llfree_give(llfree_core *handle, uint32_t frame, uint8_t order);
  * needs no memory, and neither locks nor waits. */
 uint32_t llfree_split(llfree_core *handle, uint32_t frame, uint8_t order);
 
+/* The frames of the memory behind the handle, those of the ranges too; 0 of a closed one. */
+uint32_t llfree_frames(llfree_core *handle);
+
 /* Closes the handle of a core; it does nothing to a closed one. The last handle of an allocator frees
  * it, blocks that are held and all. */
 void llfree_close(llfree_core *handle);
@@ -82,9 +106,10 @@ typedef struct llfree_plain {
     void *state;
 } llfree_plain;
 
-/* Opens an allocator of so many children, all frames free, behind a closed handle. On OPEN_HANDLE,
- * BAD_GEOMETRY and NO_MEMORY the handle is as it was. */
-uint32_t llfree_plain_open(llfree_plain *handle, uint32_t children);
+/* Opens an allocator of so many frames behind a closed handle. All are free but those of the ranges,
+ * as above. On OPEN_HANDLE, BAD_GEOMETRY, BAD_RANGE and NO_MEMORY the handle is as it was. */
+uint32_t llfree_plain_open(llfree_plain *handle, uint32_t frames, const llfree_range *ranges,
+                           size_t count);
 
 /* Takes a block of the order, and writes its first frame. NO_BLOCK exactly where none of the order is
  * free, BAD_ORDER, CLOSED_HANDLE: then *frame is as it was. Needs no memory. */
@@ -97,6 +122,14 @@ uint32_t llfree_plain_give(llfree_plain *handle, uint32_t frame, uint8_t order);
  * (frame, order - 1) and (frame + 2^(order - 1), order - 1). NOT_HELD, BAD_ORDER where the order is 0,
  * CLOSED_HANDLE: then nothing changes. Needs no memory. */
 uint32_t llfree_plain_split(llfree_plain *handle, uint32_t frame, uint8_t order);
+
+/* The frames of the memory behind the handle, those of the ranges too; 0 of a closed one. */
+uint32_t llfree_plain_frames(llfree_plain *handle);
+
+/* Writes the numbers of the memory's image, as many as llfree_image_words says, in which just the
+ * blocks that are out and the ranges are held; then as llfree_plain_close. NO_ROOM where the buffer has fewer, NO_MEMORY, CLOSED_HANDLE: then nothing
+ * changes. */
+uint32_t llfree_plain_close_image(llfree_plain *handle, uint64_t *words, size_t count);
 
 /* Frees what is behind the handle, blocks that are held and all, and closes it. It does nothing to a
  * closed handle. */

@@ -33,16 +33,16 @@ static void statuses(void)
     CHECK(llfree_give(&h[0], 0, 0) == LLFREE_CLOSED_HANDLE);
     CHECK(llfree_split(&h[0], 0, 1) == LLFREE_CLOSED_HANDLE);
     llfree_close(&h[0]);
-    CHECK(llfree_open(h, 0, 3) == LLFREE_BAD_GEOMETRY);
-    CHECK(llfree_open(many, 65, 3) == LLFREE_BAD_GEOMETRY);
-    CHECK(llfree_open(h, 2, 0) == LLFREE_BAD_GEOMETRY);
-    CHECK(llfree_open(h, 2, 4097) == LLFREE_BAD_GEOMETRY);
-    CHECK(llfree_open(h, 2, UINT32_MAX) == LLFREE_BAD_GEOMETRY);
-    CHECK(llfree_open(h + 1, 1, 1) == LLFREE_OK);
-    CHECK(llfree_open(h, 2, 3) == LLFREE_OPEN_HANDLE);
+    CHECK(llfree_open(h, 0, 3 * 512, NULL, 0) == LLFREE_BAD_GEOMETRY);
+    CHECK(llfree_open(many, 65, 3 * 512, NULL, 0) == LLFREE_BAD_GEOMETRY);
+    CHECK(llfree_open(h, 2, 0, NULL, 0) == LLFREE_BAD_GEOMETRY);
+    CHECK(llfree_open(h, 2, 4096 * 512 + 1, NULL, 0) == LLFREE_BAD_GEOMETRY);
+    CHECK(llfree_open(h, 2, UINT32_MAX, NULL, 0) == LLFREE_BAD_GEOMETRY);
+    CHECK(llfree_open(h + 1, 1, 512, NULL, 0) == LLFREE_OK);
+    CHECK(llfree_open(h, 2, 3 * 512, NULL, 0) == LLFREE_OPEN_HANDLE);
     CHECK(llfree_take(&h[0], 0, &f) == LLFREE_CLOSED_HANDLE);
     llfree_close(&h[1]);
-    CHECK(llfree_open(h, 2, 3) == LLFREE_OK);
+    CHECK(llfree_open(h, 2, 3 * 512, NULL, 0) == LLFREE_OK);
     CHECK(llfree_take(&h[0], 10, &f) == LLFREE_BAD_ORDER && f == 77);
     CHECK(llfree_take(&h[0], 255, &f) == LLFREE_BAD_ORDER && f == 77);
     CHECK(llfree_take(&h[0], 3, &f) == LLFREE_OK && f % 8 == 0 && f < 3 * 512);
@@ -62,6 +62,54 @@ static void statuses(void)
     llfree_close(&h[1]);
 }
 
+/* A memory that ends inside a child, with ranges: just the other frames are given out, once, and blocks
+ * of every order are given beside the holes. */
+static void holes(void)
+{
+    enum { END = 5 * 512 + 77 };
+    static const llfree_range kept[] = { { 0, 1 }, { 600, 8 }, { 1024, 512 }, { END - 3, 2 } };
+    static const llfree_range bad[] = { { 3, 2 }, { 4, 1 } };
+    static unsigned char held_back[END], seen[END];
+    llfree_core h[2] = { LLFREE_CLOSED, LLFREE_CLOSED };
+    uint32_t f = 0;
+
+    for (size_t i = 0; i < 4; i++)
+        memset(held_back + kept[i].first, 1, kept[i].frames);
+    CHECK(llfree_frames(&h[0]) == 0);
+    CHECK(llfree_open(h, 2, END, bad, 2) == LLFREE_BAD_RANGE);
+    CHECK(llfree_open(h, 2, 4, bad, 1) == LLFREE_BAD_RANGE);
+    CHECK(llfree_open(h, 2, 5, bad, 1) == LLFREE_OK);
+    CHECK(llfree_frames(&h[1]) == 5);
+    llfree_close(&h[0]);
+    llfree_close(&h[1]);
+    CHECK(llfree_open(h, 2, END, kept, 4) == LLFREE_OK);
+    CHECK(llfree_frames(&h[0]) == END && llfree_frames(&h[1]) == END);
+    for (f = 0; f < END; f++)
+        for (uint8_t order = 0; order <= LARGEST; order++)
+            CHECK(llfree_give(&h[0], f, order) == LLFREE_NOT_HELD);
+    for (uint8_t order = 0; order <= LARGEST; order++) {
+        uint32_t blocks = 0;
+        memcpy(seen, held_back, END);
+        while (llfree_take(&h[blocks % 2], order, &f) == LLFREE_OK) {
+            CHECK(f % (1u << order) == 0 && f + (1u << order) <= END);
+            for (uint32_t i = f; i < f + (1u << order); i++)
+                CHECK(!seen[i]++);
+            blocks++;
+        }
+        /* no aligned block is left over, and each is given */
+        for (f = 0; f + (1u << order) <= END; f += 1u << order) {
+            bool hole = false;
+            for (uint32_t i = f; i < f + (1u << order); i++)
+                hole |= held_back[i];
+            CHECK(llfree_give(&h[1], f, order) == (hole ? LLFREE_NOT_HELD : LLFREE_OK));
+            blocks -= !hole;
+        }
+        CHECK(blocks == 0);
+    }
+    llfree_close(&h[0]);
+    llfree_close(&h[1]);
+}
+
 /* Every frame is given out once, of a memory whose last tree is smaller than the others. */
 static void every_frame_once(void)
 {
@@ -70,7 +118,7 @@ static void every_frame_once(void)
     llfree_core h[2] = { LLFREE_CLOSED, LLFREE_CLOSED };
     uint32_t f = 0;
 
-    CHECK(llfree_open(h, 2, 11) == LLFREE_OK);
+    CHECK(llfree_open(h, 2, ALL, NULL, 0) == LLFREE_OK);
     for (int i = 0; i < ALL; i++) {
         CHECK(llfree_take(&h[i % 2], 0, &f) == LLFREE_OK && f < ALL && !seen[f]);
         seen[f] = 1;
@@ -92,7 +140,7 @@ static void splits(void)
     llfree_core h[2] = { LLFREE_CLOSED, LLFREE_CLOSED };
     uint32_t f = 0;
 
-    CHECK(llfree_open(h, 2, 1) == LLFREE_OK);
+    CHECK(llfree_open(h, 2, 512, NULL, 0) == LLFREE_OK);
     CHECK(llfree_take(&h[0], LARGEST, &f) == LLFREE_OK && f == 0);
     for (uint8_t order = LARGEST; order > 0; order--) {
         CHECK(llfree_split(&h[order % 2], 0, order) == LLFREE_OK);
@@ -190,7 +238,7 @@ static void threads(void)
     llfree_core moved;
     uint32_t f = 0;
 
-    CHECK(llfree_open(cores, CORES, CHILDREN) == LLFREE_OK);
+    CHECK(llfree_open(cores, CORES, FRAMES, NULL, 0) == LLFREE_OK);
     on_threads(work);
     for (int i = 0; i < CROSSING; i++) {
         uint64_t put = atomic_load(&crossing[i]);
@@ -253,7 +301,7 @@ static void random_numbers(void)
     uint64_t x = 2463534242ull;
     llfree_core h[2] = { LLFREE_CLOSED, LLFREE_CLOSED };
 
-    CHECK(llfree_open(h, 2, 4) == LLFREE_OK);
+    CHECK(llfree_open(h, 2, ALL, NULL, 0) == LLFREE_OK);
     for (int round = 0; round < 1000000; round++) {
         x ^= x << 13;
         x ^= x >> 7;
@@ -301,6 +349,7 @@ static void random_numbers(void)
 int main(void)
 {
     statuses();
+    holes();
     every_frame_once();
     splits();
     random_numbers();

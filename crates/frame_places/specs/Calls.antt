@@ -1,9 +1,13 @@
 -- What takes, gives and splits by numbers leave.
-use Rattle.std.specs.Prelude.{◌≡◌, ℕ}
+use Rattle.std.specs.Prelude.{◌≡◌, ℕ, Option, Some, option_map}
 use Rattle.std.specs.Arc.{arc_value}
 use Rattle.frame_words.specs.declared.fault.TakeFault.{TakeFault}
+use Rattle.frame_core.specs.Block.{block}
+use Rattle.frame_model.specs.declared.block.FrameBlock.{FrameBlock}
+use Rattle.core_frames.specs.Cores.{memory_of}
 use Rattle.core_frames.specs.declared.allocator.Allocator.{Allocator}
-use Rattle.frame_places.specs.Places.{TakesAt, GivesAt, SplitsAt, FindsNothing, IsRefusedTake}
+use Rattle.frame_places.specs.Places.{TakesAt, GivesAt, SplitsAt, FindsNothing, LendsAsBefore, IsRefusedTake}
+use Rattle.frame_places.specs.declared.resting.Receipt.{Receipt}
 use Rattle.frame_places.specs.declared.core_state.CoreState.{CoreState}
 
 -- the allocator that the core belongs to
@@ -14,9 +18,22 @@ allocator_of s = (arc_value s.shared).allocator
 abbrev pub SharesOne : CoreState → CoreState → Type 0
 SharesOne s t = t.shared ≡ s.shared
 
--- a block of the order was taken through the core
-abbrev pub TakesFor : ℕ → ℕ → CoreState → CoreState → Type 0
-TakesFor order frame s t = TakesAt (allocator_of s) order frame s.core t.core
+-- the frames of the core's memory
+abbrev pub frames_by : CoreState → ℕ
+frames_by s = (memory_of (allocator_of s)).frames
+
+-- the block that a receipt says was laid down
+abbrev pub laid_down : Receipt → FrameBlock
+laid_down r = block r.frame r.order
+
+-- the block that the last take through the core laid down at its place
+abbrev pub last_laid : CoreState → Option FrameBlock
+last_laid s = option_map laid_down s.last
+
+-- a block of the order was taken through the core, and this very block was laid down at its place
+pub record TakesFor (order frame : ℕ) (s t : CoreState) : Type 0 where
+  pub taken : TakesAt (allocator_of s) order frame s.core t.core
+  pub laid : last_laid t ≡ Some (block frame order)
 
 -- the block was given through the core
 abbrev pub GivesFor : ℕ → ℕ → CoreState → CoreState → Type 0
@@ -33,6 +50,10 @@ FindsNoneFor order s t = FindsNothing (allocator_of s) order s.core t.core
 -- the core is as it was
 abbrev pub KeepsCore : CoreState → CoreState → Type 0
 KeepsCore s t = t.core ≡ s.core
+
+-- the core lends as many blocks as before
+abbrev pub LendsNoMore : CoreState → CoreState → Type 0
+LendsNoMore s t = LendsAsBefore s.core t.core
 
 -- why a take of the order through the core was refused
 abbrev pub RefusesTake : ℕ → CoreState → CoreState → TakeFault → Type 0

@@ -5,6 +5,7 @@ use Rattle.std.specs.declared.vec.Vec.{Vec}
 use Rattle.frame_words.specs.declared.fault.TakeFault.{TakeFault}
 use Rattle.frame_words.specs.declared.fault.TakeFault.TheVariants.{BadOrder, NoBlock, Contended}
 use Rattle.frame_core.specs.Block.{block, IsBlock}
+use Rattle.low_frames.specs.Outcomes.{HasNoBootFrame}
 use Rattle.frame_table.specs.Seats.{id_of}
 use Rattle.core_frames.specs.Cores.{memory_of, lent_by}
 use Rattle.core_frames.specs.Uses.{HasLookedAround}
@@ -32,9 +33,11 @@ pub record HasHalves (order frame : ℕ) (a : Allocator) : Type 0 where
   pub lower : HasBlock (order - 1) frame a
   pub upper : HasBlock (order - 1) (frame + 2 ^ (order - 1)) a
 
--- there is such a block in the allocator's memory, and the core lends one block more
+-- there is such a block in the allocator's memory, none of whose frames its opening held back, and the
+-- core lends one block more
 pub record TakesAt (a : Allocator) (order frame : ℕ) (c d : Core) : Type 0 where
-  pub block : HasBlock order frame a
+  pub is_block : HasBlock order frame a
+  pub no_boot_frame : HasNoBootFrame (memory_of a) (block frame order)
   pub lent : lent_by d ≡ lent_by c +ℤ pos 1
 
 -- there is such a block in the allocator's memory, and the core lends one block less
@@ -52,9 +55,13 @@ pub record FindsNothing (a : Allocator) (order : ℕ) (c d : Core) : Type 0 wher
   pub looked : HasLookedAround a order c d
   pub lent : lent_by d ≡ lent_by c
 
+-- the core lends as many blocks as before
+abbrev pub LendsAsBefore : Core → Core → Type 0
+LendsAsBefore c d = lent_by d ≡ lent_by c
+
 -- why a take of the order was refused: there are no blocks of that order; or each tree was looked
--- at; or other cores were in the way
+-- at; or other cores were in the way. No block more is lent
 abbrev pub IsRefusedTake : Allocator → ℕ → Core → Core → TakeFault → Type 0
-IsRefusedTake a n c d BadOrder = 9 < n
+IsRefusedTake a n c d BadOrder = (9 < n) × LendsAsBefore c d
 IsRefusedTake a n c d NoBlock = FindsNothing a n c d
-IsRefusedTake a n c d Contended = n ≤ 9
+IsRefusedTake a n c d Contended = (n ≤ 9) × LendsAsBefore c d

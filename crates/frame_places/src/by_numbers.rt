@@ -1,11 +1,13 @@
 //! Takes, gives and splits of blocks whose rights rest at their places.
 
-ghost use Rattle.std.specs.Prelude.{◌≡◌, ◌≢◌, true, IfOk, IfErr, IfSome};
+ghost use Rattle.std.specs.Prelude.{◌≡◌, ◌≢◌, IfOk, IfErr, IfSome, IfNone};
 ghost use Rattle.core_frames.specs.Cores.{IsCoreOf, IsOutOf};
+ghost use Rattle.core_frames.specs.Uses.{HasGiven};
 ghost use Rattle.frame_places.specs.Places.{TakesAt, GivesAt, SplitsAt, IsRefusedTake};
 ghost use Rattle.frame_places.specs.Refusals.{IsRefusedSplit};
 
 use crate::refusal::Refusal;
+use crate::resting::Receipt;
 use crate::shared::Shared;
 use core_frames::Core;
 use frame_core::HeldBlock;
@@ -13,19 +15,22 @@ use frame_table::Block;
 use frame_words::TakeFault;
 
 /// Takes a block, and lays it down at its place.
-pub(crate) fn take_at_place(shared: &Shared, core: &mut Core, order: u8) -> Result<u32, TakeFault>
+pub(crate) fn take_at_place(
+    shared: &Shared,
+    core: &mut Core,
+    order: u8,
+) -> Result<Receipt, TakeFault>
     requires { IsCoreOf shared.now.allocator core.old }
     ensures core { IsCoreOf shared.now.allocator core.new }
-    ensures taken { IfOk result (λ frame. TakesAt shared.now.allocator order frame core.old core.new) }
+    ensures taken { IfOk result (λ r. TakesAt shared.now.allocator order r.frame core.old core.new) }
+    ensures order { IfOk result (λ r. r.order ≡ order) }
     ensures refused { IfErr result (IsRefusedTake shared.now.allocator order core.old core.new) }
 {
     let held = shared.allocator.take(core, order)?;
-    let frame = held.frame();
-    if lay_down(shared, core, held) {
-        Ok(frame)
-    } else {
-        Err(TakeFault::Contended)
-    }
+    let Some(receipt) = lay_down(shared, core, held) else {
+        return Err(TakeFault::Contended);
+    };
+    Ok(receipt)
 }
 
 /// Fetches a block from its place, and gives it.
@@ -71,7 +76,7 @@ pub(crate) fn split_at_place(
         Ok((lower, upper)) => {
             let lower_rests = lay_down(shared, core, lower);
             let upper_rests = lay_down(shared, core, upper);
-            if lower_rests && upper_rests {
+            if lower_rests.is_some() && upper_rests.is_some() {
                 Ok(())
             } else {
                 Err(Refusal::NoPlace)
@@ -92,22 +97,24 @@ fn fetch(shared: &Shared, frame: u32, order: u8) -> Option<Block>
     shared.find(frame, order)?.fetch(&shared.allocator)
 }
 
-// Was its place empty? Else the block was given back.
-fn lay_down(shared: &Shared, core: &mut Core, held: Block) -> bool
+// Lays the block down at its place. Where one rests there, or there is none, the block is given back.
+fn lay_down(shared: &Shared, core: &mut Core, held: Block) -> Option<Receipt>
     requires out { IsOutOf shared.now.allocator held }
     requires core { IsCoreOf shared.now.allocator core.old }
     ensures core { IsCoreOf shared.now.allocator core.new }
-    ensures rests { result ≡ true → core.new ≡ core.old }
+    ensures rests { IfSome result (λ _. core.new ≡ core.old) }
+    ensures same { IfSome result (λ r. (r.frame ≡ held.frame) × (r.order ≡ held.order)) }
+    ensures given { IfNone result (HasGiven core.old core.new) }
 {
     let Some(place) = shared.find(held.frame(), held.order()) else {
         shared.allocator.give(core, held);
-        return false;
+        return None;
     };
     match place.rest(&shared.allocator, held) {
-        Ok(()) => true,
+        Ok(receipt) => Some(receipt),
         Err(held) => {
             shared.allocator.give(core, held);
-            false
+            None
         }
     }
 }

@@ -1,7 +1,7 @@
 //! What a core is asked for by frame and order.
 
 ghost use Rattle.std.specs.Prelude.{◌≡◌, ◌≢◌, IfOk, IfErr};
-ghost use Rattle.frame_places.specs.Calls.{SharesOne, TakesFor, GivesFor, SplitsFor, KeepsCore, RefusesTake};
+ghost use Rattle.frame_places.specs.Calls.{frames_by, SharesOne, TakesFor, GivesFor, SplitsFor, KeepsCore, RefusesTake};
 ghost use Rattle.frame_places.specs.Refusals.{IsRefusedSplit};
 
 use crate::by_numbers::{give_from_place, split_at_place, take_at_place};
@@ -10,6 +10,13 @@ use crate::refusal::Refusal;
 use frame_words::TakeFault;
 
 impl CoreState {
+    /// The frames of the memory.
+    pub fn frames(&self) -> u32
+        ensures { result ≡ frames_by self.now }
+    {
+        self.shared.frames
+    }
+
     /// Takes a block of `2^order` frames and answers its first. Its right rests at its place until
     /// any core gives it. No memory is needed, and nobody waits.
     pub fn take(&mut self, order: u8) -> Result<u32, TakeFault>
@@ -17,7 +24,10 @@ impl CoreState {
         ensures taken { IfOk result (λ frame. TakesFor order frame self.old self.new) }
         ensures refused { IfErr result (RefusesTake order self.old self.new) }
     {
-        take_at_place(&self.shared, &mut self.core, order)
+        let receipt = take_at_place(&self.shared, &mut self.core, order)?;
+        let frame = receipt.frame();
+        self.last = Some(receipt);
+        Ok(frame)
     }
 
     /// Gives exactly this block back, where it is held, whichever core took it. No memory is needed,

@@ -3,6 +3,7 @@
 ghost use Rattle.std.specs.Arc.{arc_value};
 ghost use Rattle.core_frames.specs.Cores.{IsCoreOf};
 
+use crate::resting::Receipt;
 use crate::shared::Shared;
 use core_frames::Core;
 use std::alloc::Global;
@@ -13,6 +14,8 @@ use std::sync::Arc;
 pub struct CoreState {
     pub(crate) shared: Arc<Shared, Global>,
     pub(crate) core: Core,
+    // Of the block that its last take laid down.
+    pub(crate) last: Option<Receipt>,
     // No two cores share a cache line.
     pub(crate) apart: [u64; 14],
     pub ghost is_core: { IsCoreOf (arc_value shared).allocator core },

@@ -16,4 +16,5 @@ pub use core_state::CoreState;
 pub use opening::open_cores;
 pub use place::Place;
 pub use refusal::Refusal;
+pub use resting::Receipt;
 pub use shared::Shared;

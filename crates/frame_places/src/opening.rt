@@ -4,7 +4,8 @@ ghost use Rattle.std.specs.Prelude.{◌≡◌, ◌+◌, IfOk, IfErr, IfSome, vec
 ghost use Rattle.std.specs.Arc.{arc_value};
 ghost use Rattle.std.specs.List.{All};
 ghost use Rattle.core_frames.specs.Cores.{memory_of, IsCoreOf};
-ghost use Rattle.frame_core.specs.Key.{key_of};
+ghost use Rattle.core_frames.specs.Ranges.{MayHoldBack, IsUnopenedFor};
+ghost use Rattle.frame_model.specs.Key.{sealed_key};
 ghost use Rattle.frame_places.specs.Openings.{Shares, AreCoresOf};
 
 use crate::core_state::CoreState;
@@ -14,13 +15,19 @@ use frame_words::{Fault, Geometry};
 use std::alloc::Global;
 use std::sync::Arc;
 
-/// The cores of a memory of which no frame is held but those past the end. Refused only for want of
-/// memory.
-pub fn open_cores(alloc: Global, geometry: Geometry) -> Result<Vec<CoreState>, Fault>
-    ensures cores { IfOk result (λ states. AreCoresOf (key_of geometry) states.items) }
-    ensures err { IfErr result (λ e. e ≡ Fault.NoMemory) }
+/// The cores of a memory whose opening holds back just the frames past the end and those of the
+/// ranges, which are never given out. A range is its first frame and how many frames it has. Refused
+/// as `BadRange`, else for want of memory.
+pub fn open_cores(
+    alloc: Global,
+    geometry: Geometry,
+    ranges: &[(u32, u32)],
+) -> Result<Vec<CoreState>, Fault>
+    ensures cores { IfOk result (λ states. AreCoresOf (sealed_key geometry ranges.now) states.items) }
+    ensures lawful { IfOk result (λ _. MayHoldBack geometry ranges.now) }
+    ensures refused { IfErr result (IsUnopenedFor geometry ranges.now) }
 {
-    let (shared, cores) = open_shared(alloc, geometry)?;
+    let (shared, cores) = open_shared(alloc, geometry, ranges)?;
     let Ok(shared) = Arc::new(alloc, shared) else {
         return Err(Fault::NoMemory);
     };
@@ -28,17 +35,22 @@ pub fn open_cores(alloc: Global, geometry: Geometry) -> Result<Vec<CoreState>, F
     Ok(states)
 }
 
-fn open_shared(alloc: Global, geometry: Geometry) -> Result<(Shared, Vec<Core>), Fault>
-    ensures memory { IfOk result (λ r. memory_of r.0.allocator ≡ key_of geometry) }
+fn open_shared(
+    alloc: Global,
+    geometry: Geometry,
+    ranges: &[(u32, u32)],
+) -> Result<(Shared, Vec<Core>), Fault>
+    ensures memory { IfOk result (λ r. memory_of r.0.allocator ≡ sealed_key geometry ranges.now) }
     ensures cores { IfOk result (λ r. All (IsCoreOf r.0.allocator) r.1.items) }
     ensures count { IfOk result (λ r. vec_len r.1 ≡ geometry.cores) }
-    ensures err { IfErr result (λ e. e ≡ Fault.NoMemory) }
+    ensures lawful { IfOk result (λ _. MayHoldBack geometry ranges.now) }
+    ensures refused { IfErr result (IsUnopenedFor geometry ranges.now) }
 {
-    let (allocator, mut cores) = open(alloc, geometry)?;
+    let (allocator, mut cores) = open(alloc, geometry, ranges)?;
     let Some(mut core) = next_core(&allocator, &mut cores) else {
         return Err(Fault::NoMemory);
     };
-    let shared = Shared::open(alloc, allocator, &mut core)?;
+    let shared = Shared::open(alloc, allocator, &mut core, geometry.frames())?;
     put_back(&shared, &mut cores, core)?;
     Ok((shared, cores))
 }
@@ -67,13 +79,18 @@ fn put_back(shared: &Shared, cores: &mut Vec<Core>, core: Core) -> Result<(), Fa
     Ok(())
 }
 
-fn open(alloc: Global, geometry: Geometry) -> Result<(Allocator, Vec<Core>), Fault>
-    ensures memory { IfOk result (λ r. memory_of r.0 ≡ key_of geometry) }
+fn open(
+    alloc: Global,
+    geometry: Geometry,
+    ranges: &[(u32, u32)],
+) -> Result<(Allocator, Vec<Core>), Fault>
+    ensures memory { IfOk result (λ r. memory_of r.0 ≡ sealed_key geometry ranges.now) }
     ensures cores { IfOk result (λ r. All (IsCoreOf r.0) r.1.items) }
     ensures count { IfOk result (λ r. vec_len r.1 ≡ geometry.cores) }
-    ensures err { IfErr result (λ e. e ≡ Fault.NoMemory) }
+    ensures lawful { IfOk result (λ _. MayHoldBack geometry ranges.now) }
+    ensures refused { IfErr result (IsUnopenedFor geometry ranges.now) }
 {
-    Allocator::open(alloc, geometry)
+    Allocator::open_with(alloc, geometry, ranges)
 }
 
 fn cores_over(
@@ -94,6 +111,7 @@ fn cores_over(
         let state = CoreState {
             shared,
             core,
+            last: None,
             apart: [0; 14],
         };
         let Ok(()) = states.push(state) else {

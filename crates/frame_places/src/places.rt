@@ -1,12 +1,13 @@
 //! The places of all blocks of an order.
 
-ghost use Rattle.std.specs.Prelude.{◌≡◌, IfOk, IfErr};
+ghost use Rattle.std.specs.Prelude.{◌≡◌, ◌≤◌, IfOk, IfErr};
 ghost use Rattle.std.specs.List.{All};
 ghost use Rattle.core_frames.specs.Cores.{IsCoreOf, IsOutOf};
 ghost use Rattle.frame_places.specs.Places.{IsPlaceOf};
 
 use crate::place::Place;
 use core_frames::{Allocator, Core};
+use frame_core::HeldBlock;
 use frame_table::Block;
 use frame_words::Fault;
 use std::alloc::Global;
@@ -14,39 +15,61 @@ use std::alloc::Global;
 // No memory has more frames.
 const MOST_FRAMES: u32 = 512 * 4096;
 
-/// A place for each block of the order, by their frames, where nothing is held.
+/// A place for each block of the order that is free, where it is looked for by its frame.
 pub(crate) fn places_of(
     alloc: Global,
     allocator: &Allocator,
     core: &mut Core,
     order: u8,
 ) -> Result<Vec<Place>, Fault>
-    requires { IsCoreOf allocator.now core.old }
+    requires order { order ≤ 9 }
+    requires core { IsCoreOf allocator.now core.old }
     ensures core { IsCoreOf allocator.now core.new }
     ensures places { IfOk result (λ places. All (IsPlaceOf allocator.now) places.items) }
     ensures err { IfErr result (λ e. e ≡ Fault.NoMemory) }
 {
-    let blocks = take_all(alloc, allocator, core, order)?;
-    let made = places_for(alloc, allocator, &blocks);
+    let mut blocks = take_all(alloc, allocator, core, order)?;
+    blocks.sort_unstable_by_key(|held| held.frame());
+    let places = places_for(alloc, allocator, &blocks, order);
+    // The first frame is given first: the core stays with the last tree, next to which no other begins.
+    blocks.reverse();
     give_all(allocator, core, blocks);
-    let mut places = made?;
-    places.sort_unstable_by_key(|place| place.frame);
-    Ok(places)
+    places
 }
 
-// A place for each of the blocks, in their order.
-fn places_for(alloc: Global, allocator: &Allocator, blocks: &[Block]) -> Result<Vec<Place>, Fault>
-    requires { All (IsOutOf allocator.now) blocks.now }
+// A place for each of the blocks, which ascend. Where a block between them is held, the place of the
+// next one stands, so that no look-up finds it.
+fn places_for(
+    alloc: Global,
+    allocator: &Allocator,
+    blocks: &[Block],
+    order: u8,
+) -> Result<Vec<Place>, Fault>
+    requires order { order ≤ 9 }
+    requires out { All (IsOutOf allocator.now) blocks.now }
     ensures places { IfOk result (λ places. All (IsPlaceOf allocator.now) places.items) }
     ensures err { IfErr result (λ e. e ≡ Fault.NoMemory) }
 {
-    let Ok(mut places) = Vec::with_capacity(alloc, blocks.len()) else {
-        return Err(Fault::NoMemory);
-    };
+    let mut places = Vec::new(alloc);
     for held in blocks {
-        places.push_reserved(Place::of(allocator, held));
+        for _hole in places.len()..(held.frame() >> order) as usize {
+            add_place(allocator, &mut places, held)?;
+        }
+        add_place(allocator, &mut places, held)?;
     }
     Ok(places)
+}
+
+fn add_place(allocator: &Allocator, places: &mut Vec<Place>, held: &Block) -> Result<(), Fault>
+    requires out { IsOutOf allocator.now held.now }
+    requires places { All (IsPlaceOf allocator.now) places.old.items }
+    ensures places { All (IsPlaceOf allocator.now) places.new.items }
+    ensures err { IfErr result (λ e. e ≡ Fault.NoMemory) }
+{
+    let Ok(()) = places.push(Place::of(allocator, held)) else {
+        return Err(Fault::NoMemory);
+    };
+    Ok(())
 }
 
 // Blocks of the order, until none is found.

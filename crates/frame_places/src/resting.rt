@@ -1,6 +1,6 @@
 //! Blocks are laid down at places, and fetched.
 
-ghost use Rattle.std.specs.Prelude.{◌≡◌, IfSome, IfErr};
+ghost use Rattle.std.specs.Prelude.{◌≡◌, IfOk, IfSome, IfErr};
 ghost use Rattle.core_frames.specs.Cores.{IsOutOf};
 ghost use Rattle.frame_places.specs.Places.{IsPlaceOf};
 
@@ -13,6 +13,22 @@ use frame_table::Block;
 const EMPTY: u64 = 0;
 
 const FULL: u64 = 2;
+
+/// That a block was laid down at its place. Nothing else makes one.
+#[derive(Debug, Drop)]
+pub struct Receipt {
+    frame: u32,
+    order: u8,
+}
+
+impl Receipt {
+    /// The first frame of the block.
+    pub fn frame(&self) -> u32
+        ensures { result ≡ self.now.frame }
+    {
+        self.frame
+    }
+}
 
 impl Place {
     /// An empty place for such a block.
@@ -30,17 +46,18 @@ impl Place {
     }
 
     /// Lays the block down. Refused only where one rests here; the block is handed back then.
-    pub fn rest(&self, allocator: &Allocator, held: Block) -> Result<(), Block>
+    pub fn rest(&self, allocator: &Allocator, held: Block) -> Result<Receipt, Block>
         requires place { IsPlaceOf allocator.now self.now }
         requires out { IsOutOf allocator.now held }
         requires same { (held.frame ≡ self.now.frame) × (held.order ≡ self.now.order) }
-        ensures { IfErr result (IsOutOf allocator.now) }
+        ensures laid { IfOk result (λ r. (r.frame ≡ held.frame) × (r.order ≡ held.order)) }
+        ensures refused { IfErr result (IsOutOf allocator.now) }
     {
         let _ = allocator;
         let frame = held.frame();
         let order = held.order();
         match self.perch.give(held.into_seat(), EMPTY, FULL) {
-            Ok(()) => Ok(()),
+            Ok(()) => Ok(Receipt { frame, order }),
             Err(seat) => Err(Block::of(frame, order, seat)),
         }
     }

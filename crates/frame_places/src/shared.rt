@@ -2,7 +2,7 @@
 
 ghost use Rattle.std.specs.Prelude.{◌≡◌, IfOk, IfErr, IfSome};
 ghost use Rattle.std.specs.List.{All};
-ghost use Rattle.core_frames.specs.Cores.{IsCoreOf};
+ghost use Rattle.core_frames.specs.Cores.{memory_of, IsCoreOf};
 ghost use Rattle.frame_places.specs.Places.{IsPlaceOf, ArePlacesOf};
 
 use crate::place::Place;
@@ -15,8 +15,11 @@ use std::alloc::Global;
 #[derive(Drop)]
 pub struct Shared {
     pub allocator: Allocator,
+    /// The frames of its memory.
+    pub frames: u32,
     // By order, then by frame.
     places: Vec<Vec<Place>>,
+    pub ghost sized: { frames ≡ (memory_of allocator).frames },
     pub ghost placed: { All (ArePlacesOf allocator) places.items },
 }
 
@@ -39,9 +42,15 @@ impl Shared {
         }
     }
 
-    /// Places for all blocks of an allocator of which none is held. Refused only for want of memory.
-    pub fn open(alloc: Global, allocator: Allocator, core: &mut Core) -> Result<Shared, Fault>
-        requires { IsCoreOf allocator core.old }
+    /// Places for all blocks that are free. Refused only for want of memory.
+    pub fn open(
+        alloc: Global,
+        allocator: Allocator,
+        core: &mut Core,
+        frames: u32,
+    ) -> Result<Shared, Fault>
+        requires core { IsCoreOf allocator core.old }
+        requires frames { frames ≡ (memory_of allocator).frames }
         ensures core { IsCoreOf allocator core.new }
         ensures same { IfOk result (λ s. s.allocator ≡ allocator) }
         ensures err { IfErr result (λ e. e ≡ Fault.NoMemory) }
@@ -53,6 +62,10 @@ impl Shared {
                 return Err(Fault::NoMemory);
             };
         }
-        Ok(Shared { allocator, places })
+        Ok(Shared {
+            allocator,
+            frames,
+            places,
+        })
     }
 }

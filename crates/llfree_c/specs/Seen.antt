@@ -1,12 +1,13 @@
 -- What clauses see behind a handle.
-use Rattle.std.specs.Prelude.{◌≡◌, ◌⊎◌, ℕ, ◌+◌, ◌-◌, ◌^◌, ◌<◌, [], ◌∷◌, Option, Some, None}
+use Rattle.std.specs.Prelude.{◌≡◌, ℕ, ◌+◌, ◌-◌, ◌^◌, ◌<◌, List, [], ◌∷◌, Option, Some, None}
 use Rattle.std.specs.List.{Contains}
 use Rattle.std.specs.List.Sorted.{IsPermutation}
 use Rattle.frame_core.specs.Block.{block}
 use Rattle.frame_core.specs.QuietTake.{TakesBlock, FindsNone}
 use Rattle.core_frames.specs.PlainState.{PlainState, memory_by, held_by}
 use Rattle.llfree_c.specs.declared.plain.Plain.{Plain}
-use Rattle.llfree_c.specs.Status.{no_memory, bad_geometry}
+use Rattle.llfree_c.specs.Openings.{IsMemoryOf}
+use Rattle.llfree_c.specs.declared.ranges.FrameRange.{FrameRange}
 
 -- an allocator is behind both handles, and the two are related
 abbrev pub Both : (PlainState → PlainState → Type 0) → Option Plain → Option Plain → Type 0
@@ -14,16 +15,17 @@ Both relates (Some p) (Some q) = relates p.allocator q.allocator
 Both relates (Some p) None = ⊥
 Both relates None q = ⊥
 
--- it is of so many children, and nothing is held
-abbrev pub OpensFresh : ℕ → Option Plain → Type 0
-OpensFresh children (Some p) =
-    (p.allocator.geometry.children ≡ children) × (p.allocator.out ≡ []) × (p.allocator.kept ≡ [])
-OpensFresh children None = ⊥
+-- an allocator is behind the handle, of so many frames and with these ranges held back, and nothing
+-- else is held
+abbrev pub OpensFresh : ℕ → List FrameRange → Option Plain → Type 0
+OpensFresh frames ranges (Some p) =
+    IsMemoryOf frames ranges (memory_by p.allocator) × (p.allocator.out ≡ []) × (p.allocator.kept ≡ [])
+OpensFresh frames ranges None = ⊥
 
--- why a memory of so many children was not opened: there are none of that size, or memory was wanting
-abbrev pub IsUnopenedAt : ℕ → ℕ → Type 0
-IsUnopenedAt children status =
-    ((status ≡ bad_geometry) × ((children ≡ 0) ⊎ (4096 < children))) ⊎ (status ≡ no_memory)
+-- the frames of the memory behind the handle, or 0
+abbrev pub plain_frames : Option Plain → ℕ
+plain_frames (Some p) = p.allocator.geometry.frames
+plain_frames None = 0
 
 -- it is the same memory, and what was kept is as before
 pub record KeepsMemory (old new : PlainState) : Type 0 where

@@ -1,5 +1,6 @@
 -- What clauses see of a core behind a handle.
-use Rattle.std.specs.Prelude.{Option, Some, None}
+use Rattle.std.specs.Prelude.{ℕ, Option, Some, None}
+use Rattle.frame_places.specs.Calls.{frames_by}
 use Rattle.frame_places.specs.declared.core_state.CoreState.{CoreState}
 
 -- a core is behind the handle, and this is so of it
@@ -12,3 +13,8 @@ abbrev pub OnCores : (CoreState → CoreState → Type 0) → Option CoreState �
 OnCores relates (Some s) (Some t) = relates s t
 OnCores relates (Some s) None = ⊥
 OnCores relates None t = ⊥
+
+-- the frames of the memory of the core behind the handle, or 0
+abbrev pub frames_behind : Option CoreState → ℕ
+frames_behind (Some s) = frames_by s
+frames_behind None = 0

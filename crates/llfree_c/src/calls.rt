@@ -1,27 +1,37 @@
 //! What C calls of an allocator for one thread.
 
-ghost use Rattle.std.specs.Prelude.{◌≡◌, ◌≢◌, ◌⊎◌, ◌≤◌, true, false};
+ghost use Rattle.std.specs.Prelude.{◌≡◌, ◌≢◌, ◌⊎◌, ◌≤◌, true, false, length};
+ghost use Rattle.llfree_c.specs.Images.{LeavesImage, memory_behind, IsUnwritten};
+ghost use Rattle.llfree_c.specs.Openings.{IsUnopened};
 ghost use Rattle.llfree_c.specs.Status.{ok, no_block, bad_order, not_held, closed, not_closed};
-ghost use Rattle.llfree_c.specs.Seen.{Both, OpensFresh, IsUnopenedAt, BlockTaken, NoneWasFree, HasNoOrder, BlockGiven, BlockSplit, HasNoHalves, WasNotOut};
+ghost use Rattle.llfree_c.specs.Seen.{Both, OpensFresh, plain_frames, BlockTaken, NoneWasFree, HasNoOrder, BlockGiven, BlockSplit, HasNoHalves, WasNotOut};
 
 use crate::crossing::may_cross;
 use crate::handle::PlainHandle;
 use crate::plain::Plain;
+use crate::ranges::FrameRange;
 use crate::statuses::{CLOSED, NO_MEMORY, NOT_CLOSED, OK};
 use std::alloc::Global;
 
-/// Opens an allocator of so many children, all frames free, behind a closed handle.
+/// Opens an allocator of so many frames behind a closed handle. All frames are free but those of the
+/// ranges, which are never given out.
 #[unsafe(no_mangle)]
-pub extern "C" fn llfree_plain_open(handle: &mut PlainHandle, heap: Global, children: u32) -> u32
-    ensures open { result ≡ ok → (handle.old.live ≡ false) × OpensFresh children handle.new.state.value }
+pub extern "C" fn llfree_plain_open(
+    handle: &mut PlainHandle,
+    heap: Global,
+    frames: u32,
+    ranges: &[FrameRange],
+) -> u32
+    ensures open { result ≡ ok → (handle.old.live ≡ false)
+        × OpensFresh frames ranges.now handle.new.state.value }
     ensures refused { result ≢ ok → handle.new ≡ handle.old }
     ensures why { result ≢ ok → ((result ≡ not_closed) × (handle.old.live ≡ true))
-        ⊎ IsUnopenedAt children result }
+        ⊎ IsUnopened frames 1 ranges.now result }
 {
     if handle.live {
         return NOT_CLOSED;
     }
-    let plain = match Plain::open(heap, children) {
+    let plain = match Plain::open(heap, frames, ranges) {
         Ok(plain) => plain,
         Err(status) => return status,
     };
@@ -104,6 +114,45 @@ pub extern "C" fn llfree_plain_split(
     };
     let status = state.split(frame, order);
     *handle = PlainHandle::of(state);
+    status
+}
+
+/// The frames of the memory behind the handle; 0 where nothing is.
+#[unsafe(no_mangle)]
+pub extern "C" fn llfree_plain_frames(handle: &mut PlainHandle, heap: Global) -> u32
+    ensures frames { result ≡ plain_frames handle.old.state.value }
+    ensures same { handle.new.state.value ≡ handle.old.state.value }
+{
+    let Some(state) = handle.take_out(heap) else {
+        return 0;
+    };
+    let frames = state.frames;
+    *handle = PlainHandle::of(state);
+    frames
+}
+
+/// Writes the numbers of the memory's image, as many as `llfree_image_words` says, frees what the
+/// handle stands for, and closes it.
+#[unsafe(no_mangle)]
+pub extern "C" fn llfree_plain_close_image(
+    handle: &mut PlainHandle,
+    heap: Global,
+    numbers: &mut [u64],
+) -> u32
+    ensures left { result ≡ ok → LeavesImage handle.old.state.value numbers.new }
+    ensures closes { result ≡ ok → handle.new.live ≡ false }
+    ensures same { result ≢ ok
+        → memory_behind handle.new.state.value ≡ memory_behind handle.old.state.value }
+    ensures refused { result ≢ ok → (numbers.new ≡ numbers.old)
+        × IsUnwritten handle.old.state.value (length numbers.old) result }
+{
+    let Some(mut state) = handle.take_out(heap) else {
+        return CLOSED;
+    };
+    let status = state.leave_image(heap, numbers);
+    if status != OK {
+        *handle = PlainHandle::of(state);
+    }
     status
 }
 

@@ -1,27 +1,34 @@
 //! What C calls of an allocator for several threads, each with a core of its own.
 
-ghost use Rattle.std.specs.Prelude.{◌≡◌, ◌≢◌, ◌⊎◌, ◌<◌, ◌≤◌, false, length};
+ghost use Rattle.std.specs.Prelude.{◌≡◌, ◌≢◌, ◌⊎◌, ◌<◌, ◌≤◌, false};
 ghost use Rattle.std.specs.List.{All};
-ghost use Rattle.frame_places.specs.Calls.{SharesOne, TakesFor, GivesFor, SplitsFor, FindsNoneFor, KeepsCore};
+ghost use Rattle.frame_places.specs.Calls.{SharesOne, TakesFor, GivesFor, SplitsFor, FindsNoneFor, LendsNoMore, KeepsCore};
 ghost use Rattle.llfree_c.specs.Status.{ok, no_block, bad_order, not_held, closed, contended};
 ghost use Rattle.llfree_c.specs.OpenCores.{HasNoCores, IsClosedHandle, OpensCores};
-ghost use Rattle.llfree_c.specs.SeenCores.{OnCores};
+ghost use Rattle.llfree_c.specs.SeenCores.{OnCores, frames_behind};
 
 use crate::core_handle::CoreHandle;
 use crate::core_opening::{boxed_cores, hand_over};
 use crate::core_steps::{give, split, take};
+use crate::ranges::FrameRange;
 use crate::statuses::{CLOSED, OK};
 use std::alloc::Global;
 
-/// Opens an allocator of so many children, all frames free, with a core behind each of these closed
-/// handles.
+/// Opens an allocator of so many frames, with a core behind each of these closed handles. All frames
+/// are free but those of the ranges, which are never given out.
 #[unsafe(no_mangle)]
-pub extern "C" fn llfree_open(handles: &mut [CoreHandle], heap: Global, children: u32) -> u32
-    ensures open { result ≡ ok → All IsClosedHandle handles.old × OpensCores children handles.new }
+pub extern "C" fn llfree_open(
+    handles: &mut [CoreHandle],
+    heap: Global,
+    frames: u32,
+    ranges: &[FrameRange],
+) -> u32
+    ensures open { result ≡ ok → All IsClosedHandle handles.old
+        × OpensCores frames ranges.now handles.new }
     ensures refused { result ≢ ok → handles.new ≡ handles.old }
-    ensures why { result ≢ ok → HasNoCores children (length handles.old) result }
+    ensures why { result ≢ ok → HasNoCores frames ranges.now handles.old result }
 {
-    match boxed_cores(handles, heap, children) {
+    match boxed_cores(handles, heap, frames, ranges) {
         Ok(cores) => {
             hand_over(handles, cores);
             OK
@@ -43,6 +50,8 @@ pub extern "C" fn llfree_take(
     ensures none { result ≡ no_block
         → OnCores (FindsNoneFor order) handle.old.state.value handle.new.state.value }
     ensures order { result ≡ bad_order → 9 < order }
+    ensures lends { result ≢ ok → result ≢ closed
+        → OnCores LendsNoMore handle.old.state.value handle.new.state.value }
     ensures shared { result ≢ closed
         → OnCores SharesOne handle.old.state.value handle.new.state.value }
     ensures closed { result ≡ closed → (handle.old.live ≡ false) × (handle.new ≡ handle.old) }
@@ -97,6 +106,20 @@ pub extern "C" fn llfree_split(handle: &mut CoreHandle, heap: Global, frame: u32
     let status = split(&mut state, frame, order);
     *handle = CoreHandle::of(state);
     status
+}
+
+/// The frames of the memory behind the handle; 0 where nothing is.
+#[unsafe(no_mangle)]
+pub extern "C" fn llfree_frames(handle: &mut CoreHandle, heap: Global) -> u32
+    ensures frames { result ≡ frames_behind handle.old.state.value }
+    ensures same { handle.new.state.value ≡ handle.old.state.value }
+{
+    let Some(state) = handle.take_out(heap) else {
+        return 0;
+    };
+    let frames = state.frames();
+    *handle = CoreHandle::of(state);
+    frames
 }
 
 /// Closes the handle of a core. The last core of an allocator frees it.

@@ -8,20 +8,23 @@ ghost use Rattle.llfree_c.specs.OpenCores.{BoxShares, HasNoCores, ShareOne, IsCl
 
 use crate::core_handle::CoreHandle;
 use crate::crossing::may_cross;
-use crate::statuses::{BAD_GEOMETRY, NO_MEMORY, NOT_CLOSED};
+use crate::ranges::{FrameRange, pairs_in};
+use crate::sizes::geometry_of;
+use crate::statuses::{BAD_GEOMETRY, BAD_RANGE, NO_MEMORY, NOT_CLOSED};
 use frame_places::{CoreState, open_cores};
-use frame_words::{Geometry, MOST_CORES};
+use frame_words::{Fault, MOST_CORES};
 use std::alloc::Global;
 
 pub(crate) fn boxed_cores(
     handles: &[CoreHandle],
     heap: Global,
-    children: u32,
+    frames: u32,
+    ranges: &[FrameRange],
 ) -> Result<Vec<Box<CoreState, Global>>, u32>
     ensures count { IfOk result (λ cores. vec_len cores ≡ length handles.now) }
     ensures closed { IfOk result (λ _. All IsClosedHandle handles.now) }
-    ensures cores { IfOk result (λ cores. ShareOne children cores.items) }
-    ensures err { IfErr result (HasNoCores children (length handles.now)) }
+    ensures cores { IfOk result (λ cores. ShareOne frames ranges.now cores.items) }
+    ensures err { IfErr result (HasNoCores frames ranges.now handles.now) }
 {
     for handle in handles {
         if handle.live {
@@ -32,11 +35,12 @@ pub(crate) fn boxed_cores(
     if count > MOST_CORES as usize {
         return Err(BAD_GEOMETRY);
     }
-    let Ok(geometry) = Geometry::new(children, count as u32) else {
-        return Err(BAD_GEOMETRY);
-    };
-    let Ok(states) = open_cores(heap, geometry) else {
-        return Err(NO_MEMORY);
+    let geometry = geometry_of(frames, count as u32)?;
+    let pairs = pairs_in(heap, ranges)?;
+    let states = match open_cores(heap, geometry, &pairs) {
+        Ok(states) => states,
+        Err(Fault::BadRange) => return Err(BAD_RANGE),
+        Err(_) => return Err(NO_MEMORY),
     };
     let cores = boxed(heap, states)?;
     if cores.len() == count {

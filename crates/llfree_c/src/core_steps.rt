@@ -2,7 +2,7 @@
 
 ghost use Rattle.std.specs.Prelude.{◌≡◌, ◌≢◌, ◌⊎◌, ◌<◌, ◌≤◌};
 ghost use Rattle.llfree_c.specs.Status.{ok, no_block, bad_order, not_held, contended};
-ghost use Rattle.frame_places.specs.Calls.{SharesOne, TakesFor, GivesFor, SplitsFor, FindsNoneFor, KeepsCore};
+ghost use Rattle.frame_places.specs.Calls.{SharesOne, TakesFor, GivesFor, SplitsFor, FindsNoneFor, LendsNoMore, KeepsCore};
 
 use crate::statuses::{BAD_ORDER, CONTENDED, NO_BLOCK, NOT_HELD, OK};
 use frame_places::{CoreState, Refusal};
@@ -13,6 +13,7 @@ pub(crate) fn take(state: &mut CoreState, order: u8, frame: &mut u32) -> u32
     ensures taken { result ≡ ok → TakesFor order frame.new state.old state.new }
     ensures none { result ≡ no_block → FindsNoneFor order state.old state.new }
     ensures order { result ≡ bad_order → 9 < order }
+    ensures lends { result ≢ ok → LendsNoMore state.old state.new }
     ensures known { (result ≤ bad_order) ⊎ (result ≡ contended) }
     ensures refused { result ≢ ok → frame.new ≡ frame.old }
 {

@@ -1,31 +1,38 @@
 //! The calls on an allocator for one thread, by numbers.
 
-ghost use Rattle.std.specs.Prelude.{◌≡◌, ◌≢◌, ◌⊎◌, ◌≤◌, [], IfOk, IfErr, OnOk, OnErr};
+ghost use Rattle.std.specs.Prelude.{◌≡◌, ◌≢◌, ◌⊎◌, ◌≤◌, [], IfOk, IfErr, OnOk, OnErr, length};
 ghost use Rattle.frame_core.specs.QuietTake.{QuietTake};
-ghost use Rattle.llfree_c.specs.Status.{ok, no_block, bad_order, not_held, no_memory, bad_geometry, closed};
-ghost use Rattle.llfree_c.specs.Seen.{IsUnopenedAt, BlockTaken, NoneWasFree, HasNoOrder, BlockGiven, BlockSplit, HasNoHalves, WasNotOut};
+ghost use Rattle.core_frames.specs.PlainState.{memory_by};
+ghost use Rattle.llfree_c.specs.Images.{LeavesNumbers, HasNoImage};
+ghost use Rattle.llfree_c.specs.Openings.{IsMemoryOf, IsUnopened};
+ghost use Rattle.llfree_c.specs.Status.{ok, no_block, bad_order, not_held};
+ghost use Rattle.llfree_c.specs.Seen.{BlockTaken, NoneWasFree, HasNoOrder, BlockGiven, BlockSplit, HasNoHalves, WasNotOut};
 
+use crate::images::{llfree_image_words, write_numbers};
 use crate::plain::Plain;
-use crate::statuses::{BAD_GEOMETRY, BAD_ORDER, NO_BLOCK, NO_MEMORY, NOT_HELD, OK};
+use crate::ranges::{FrameRange, pairs_in};
+use crate::sizes::geometry_of;
+use crate::statuses::{BAD_ORDER, BAD_RANGE, NO_BLOCK, NO_MEMORY, NO_ROOM, NOT_HELD, OK};
 use core_frames::PlainAllocator;
 use frame_core::HeldBlock;
-use frame_words::{Geometry, TakeFault};
+use frame_words::{Fault, TakeFault};
 use std::alloc::Global;
+use std::mem::replace;
 
 impl Plain {
-    /// All frames are free.
-    pub(crate) fn open(heap: Global, children: u32) -> Result<Plain, u32>
-        ensures children { IfOk result (λ p. p.allocator.geometry.children ≡ children) }
+    /// All frames are free but those of the ranges.
+    pub(crate) fn open(heap: Global, frames: u32, ranges: &[FrameRange]) -> Result<Plain, u32>
+        ensures memory { IfOk result (λ p. IsMemoryOf frames ranges.now (memory_by p.allocator)) }
         ensures nothing { IfOk result (λ p. (p.allocator.out ≡ []) × (p.allocator.kept ≡ [])) }
-        ensures err { IfErr result (IsUnopenedAt children) }
+        ensures err { IfErr result (IsUnopened frames 1 ranges.now) }
     {
-        let Ok(geometry) = Geometry::new(children, 1) else {
-            return Err(BAD_GEOMETRY);
-        };
-        let Ok(allocator) = PlainAllocator::open(heap, geometry) else {
-            return Err(NO_MEMORY);
-        };
-        Ok(Plain { allocator })
+        let geometry = geometry_of(frames, 1)?;
+        let pairs = pairs_in(heap, ranges)?;
+        match PlainAllocator::open_with(heap, geometry, &pairs) {
+            Ok(allocator) => Ok(Plain { allocator, frames }),
+            Err(Fault::BadRange) => Err(BAD_RANGE),
+            Err(_) => Err(NO_MEMORY),
+        }
     }
 
     pub(crate) fn take(&mut self, order: u8, frame: &mut u32) -> u32
@@ -70,6 +77,33 @@ impl Plain {
         match self.allocator.split(0, held) {
             Ok(_) => OK,
             Err(_) => BAD_ORDER,
+        }
+    }
+
+    /// Writes the numbers of the memory's image. A fresh memory is behind it then, which stood in its
+    /// place so that a refusal can put it back.
+    pub(crate) fn leave_image(&mut self, heap: Global, numbers: &mut [u64]) -> u32
+        ensures left { result ≡ ok → LeavesNumbers self.old.allocator numbers.new }
+        ensures same { result ≢ ok → self.new.allocator ≡ self.old.allocator }
+        ensures refused { result ≢ ok → (numbers.new ≡ numbers.old)
+            × HasNoImage self.old.allocator (length numbers.old) result }
+    {
+        if numbers.len() < llfree_image_words(self.frames) {
+            return NO_ROOM;
+        }
+        let Ok(other) = Plain::open(heap, 1, &[]) else {
+            return NO_MEMORY;
+        };
+        let Plain { allocator, frames } = replace(self, other);
+        match allocator.close(heap) {
+            Ok(image) => {
+                write_numbers(&image, numbers);
+                OK
+            }
+            Err(allocator) => {
+                *self = Plain { allocator, frames };
+                NO_MEMORY
+            }
         }
     }
 }

@@ -1,11 +1,14 @@
-use Rattle.std.proofs.Common.{ap, ◌∙◌}
-use Rattle.frame_model.specs.declared.key.Key.{Key}
+use Rattle.std.proofs.Common.{◌∙◌}
 use Rattle.frame_places.specs.Openings.{Shares}
+use Rattle.core_frames.specs.Cores.{memory_of}
 use Rattle.llfree_c.proofs.BoxedCores.{unmapped}
+use Rattle.llfree_c.proofs.OpenedMemories.{memory_of_key}
 use Rattle.llfree_c.proofs.core_opening.boxed_cores.Goals as goal
 
 pub returns-then-len-count-clause-cores : goal.returns-then-len-count-clause-cores
 returns-then-len-count-clause-cores c =
-    let one = c.in-Ok-open_cores.ensures.cores.one in
-    let made = c.in-Ok.ensures.made.0 in
-    (one.0, ap (λ (k : Key). k.children) one.1 ∙ made, unmapped (Shares one.0) (λ b. b.value) _ _ c.in_ok-cores.ensures.cores one.2)
+    let one = c.in-Ok.ensures.cores.one in
+    let pairs = c.deref.ensures.value ∙ c.in_ok-pairs.ensures.pairs in
+    let memory = memory_of_key c.in_ok-geometry.geometry c.args.frames c.args.ranges.now c.deref.result.now
+    (memory_of (one.0).allocator) c.in_ok-geometry.ensures.made.0 pairs c.in-Ok.ensures.lawful one.1 in
+    (one.0, memory, unmapped (Shares one.0) (λ b. b.value) _ _ c.in_ok-cores.ensures.cores one.2)

@@ -1,0 +1,59 @@
+-- The memories that an opening is asked for, and why there are none.
+use Rattle.std.specs.Prelude.{◌≡◌, ◌⊎◌, ℕ, ◌<◌, ◌≤◌, List, length, map, true}
+use Rattle.frame_words.specs.Geometry.{most_cores}
+use Rattle.frame_model.specs.declared.key.Key.{Key}
+use Rattle.frame_core.specs.Key.{most_ranges, AreRanges}
+use Rattle.llfree_c.specs.Status.{no_memory, bad_geometry, bad_range}
+use Rattle.llfree_c.specs.declared.ranges.FrameRange.{FrameRange}
+
+-- the most frames that a memory has
+abbrev pub most_frames : ℕ
+most_frames = 2_097_152
+
+-- there are memories of so many frames, for so many cores
+pub record AreMemorySizes (frames cores : ℕ) : Type 0 where
+  pub some_frames : 1 ≤ frames
+  pub few_frames : frames ≤ most_frames
+  pub some_cores : 1 ≤ cores
+  pub few_cores : cores ≤ most_cores
+
+-- the first frame of a range, and how many frames it has
+abbrev pub pair_of : FrameRange → ℕ × ℕ
+pair_of range = (range.first, range.frames)
+
+-- the same of each of the ranges
+abbrev pub pairs_of : List FrameRange → List (ℕ × ℕ)
+pairs_of ranges = map pair_of ranges
+
+-- a memory of so many frames may hold these ranges back: there are few enough of them, none is empty,
+-- they ascend and do not meet, and end inside memory
+pub record MayLieBack (frames : ℕ) (ranges : List FrameRange) : Type 0 where
+  pub few : length ranges ≤ most_ranges
+  pub apart : AreRanges 0 frames (pairs_of ranges)
+
+-- there is no memory of these sizes
+abbrev pub HasNoSizes : (frames cores status : ℕ) → Type 0
+HasNoSizes frames cores status = (status ≡ bad_geometry) × ¬ AreMemorySizes frames cores
+
+-- the ranges may not be held back
+abbrev pub RangesDoNotFit : ℕ → List FrameRange → ℕ → Type 0
+RangesDoNotFit frames ranges status = (status ≡ bad_range) × ¬ MayLieBack frames ranges
+
+-- why ranges were not read: there are too many, or memory was wanting
+abbrev pub HasNoPairs : List FrameRange → ℕ → Type 0
+HasNoPairs ranges status =
+    ((status ≡ bad_range) × (most_ranges < length ranges)) ⊎ (status ≡ no_memory)
+
+-- why no memory was opened: there is none of these sizes, the ranges may not be held back, or memory
+-- was wanting
+abbrev pub IsUnopened : (frames cores : ℕ) → List FrameRange → ℕ → Type 0
+IsUnopened frames cores ranges status =
+    HasNoSizes frames cores status ⊎ RangesDoNotFit frames ranges status ⊎ (status ≡ no_memory)
+
+-- the memory has so many frames, and its opening held these ranges back, which may be held back, and
+-- nothing else that lies inside
+pub record IsMemoryOf (frames : ℕ) (ranges : List FrameRange) (key : Key) : Type 0 where
+  pub size : key.frames ≡ frames
+  pub held_back : key.ranges ≡ pairs_of ranges
+  pub sealed : key.sealed ≡ true
+  pub lawful : MayLieBack frames ranges

@@ -1,0 +1,51 @@
+//! The numbers of an image, as C keeps them: nine for each child, its entry and its bit words.
+
+ghost use Rattle.std.specs.Prelude.{◌≡◌, ℕ, ◌⊎◌, ◌+◌, ◌*◌, ◌<◌, ◌≤◌, length, slice_index};
+ghost use Rattle.frame_core.specs.Image.{key_in};
+ghost use Rattle.llfree_c.specs.Images.{image_words, SaysOfChild, SaysAll};
+ghost use Rattle.llfree_c.specs.Openings.{most_frames};
+
+use frame_core::Image;
+use frame_words::{CHILD_FRAMES, CHILD_WORDS, MOST_CHILDREN, entry};
+
+const CHILD_NUMBERS: usize = 1 + CHILD_WORDS as usize;
+
+const MOST_FRAMES: u32 = CHILD_FRAMES * MOST_CHILDREN;
+
+/// How many numbers the image of so many frames has; none where there is no such memory.
+#[unsafe(no_mangle)]
+pub extern "C" fn llfree_image_words(frames: u32) -> usize
+    ensures some { frames ≤ most_frames → result ≡ image_words frames }
+    ensures none { most_frames < frames → result ≡ 0 }
+{
+    if frames > MOST_FRAMES {
+        return 0;
+    }
+    CHILD_NUMBERS * frames.div_ceil(CHILD_FRAMES) as usize
+}
+
+/// Writes the numbers of the image; what lies behind them stays.
+pub(crate) fn write_numbers(image: &Image, numbers: &mut [u64])
+    requires { 9 * image.now.geometry.children ≤ length numbers.old }
+    ensures { SaysAll (key_in image.now) image.now.words numbers.new }
+{
+    let geometry = image.geometry();
+    for child in 0..geometry.children {
+        write_child(image, child, numbers);
+    }
+}
+
+fn write_child(image: &Image, child: u32, numbers: &mut [u64])
+    requires child { child < image.now.geometry.children }
+    requires room { 9 * child + 9 ≤ length numbers.old }
+    ensures written { SaysOfChild (key_in image.now) image.now.words child numbers.new }
+    ensures below { (i : ℕ) → i < 9 * child
+        → slice_index numbers.new i ≡ slice_index numbers.old i }
+    ensures count { length numbers.new ≡ length numbers.old }
+{
+    let first = CHILD_NUMBERS * child as usize;
+    numbers[first] = entry(image.free(child), image.huge(child));
+    for word in 0..CHILD_WORDS {
+        numbers[first + 1 + word as usize] = image.word(child, word);
+    }
+}

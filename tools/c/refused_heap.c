@@ -1,0 +1,164 @@
+/* Openings and closings of the library for C with each call of their heap refused in turn, alone and for
+ * good: the answer is NO_MEMORY, the handles are as they were, and no block is left. */
+#include "llfree.h"
+#include <stdio.h>
+#include <stdlib.h>
+#include <string.h>
+
+#define CHECK(x)                                                         \
+    do {                                                                 \
+        if (!(x)) {                                                      \
+            fprintf(stderr, "%s:%d: %s\n", __FILE__, __LINE__, #x);      \
+            exit(1);                                                     \
+        }                                                                \
+    } while (0)
+
+enum { CORES = 3, FRAMES = 4300, WORDS = 9 * 9 };
+
+struct rattle_block {
+    bool found;
+    void *at;
+};
+
+static long calls, refused, blocks; /* the refused call, and all after it where it is for good */
+static bool for_good;
+static unsigned char nothing;
+
+struct rattle_block rattle_alloc(size_t size, size_t alignment);
+struct rattle_block rattle_realloc(void *old, size_t kept, size_t size, size_t alignment);
+void rattle_dealloc(void *block);
+
+static bool is_refused(void)
+{
+    calls++;
+    return calls == refused || (for_good && refused && calls > refused);
+}
+
+static struct rattle_block answer(void *block)
+{
+    return (struct rattle_block) { block != NULL, block ? block : &nothing };
+}
+
+struct rattle_block rattle_alloc(size_t size, size_t alignment)
+{
+    CHECK(alignment <= 16);
+    struct rattle_block block = answer(is_refused() ? NULL : malloc(size ? size : 1));
+    blocks += block.found;
+    return block;
+}
+
+struct rattle_block rattle_realloc(void *old, size_t kept, size_t size, size_t alignment)
+{
+    CHECK(alignment <= 16 && kept <= size);
+    return answer(is_refused() ? NULL : realloc(old, size ? size : 1));
+}
+
+void rattle_dealloc(void *block)
+{
+    blocks--;
+    free(block);
+}
+
+static void refuse(long call, bool is_for_good)
+{
+    calls = 0;
+    refused = call;
+    for_good = is_for_good;
+}
+
+static const llfree_range kept[] = { { 3, 5 }, { 600, 512 } };
+
+static uint32_t open_cores(llfree_core *cores)
+{
+    return llfree_open(cores, CORES, FRAMES, kept, 2);
+}
+
+static uint32_t open_plain(llfree_plain *memory)
+{
+    return llfree_plain_open(memory, FRAMES, kept, 2);
+}
+
+/* How many calls of the heap an opening makes; each was refused. */
+static long shared_opening(bool is_for_good)
+{
+    llfree_core cores[CORES], were[CORES];
+    long call = 0;
+
+    memset(were, 0, sizeof were);
+    for (;;) {
+        memset(cores, 0, sizeof cores);
+        refuse(++call, is_for_good);
+        uint32_t status = open_cores(cores);
+        if (calls < call)
+            break;
+        CHECK(status == LLFREE_NO_MEMORY);
+        CHECK(!memcmp(cores, were, sizeof cores) && blocks == 0);
+        refuse(0, false);
+        CHECK(open_cores(cores) == LLFREE_OK);
+        for (int i = 0; i < CORES; i++)
+            llfree_close(&cores[i]);
+        CHECK(blocks == 0);
+    }
+    for (int i = 0; i < CORES; i++)
+        llfree_close(&cores[i]);
+    CHECK(blocks == 0);
+    return call - 1;
+}
+
+static long plain_opening(bool is_for_good)
+{
+    llfree_plain memory, was;
+    long call = 0;
+
+    memset(&was, 0, sizeof was);
+    for (;;) {
+        memset(&memory, 0, sizeof memory);
+        refuse(++call, is_for_good);
+        uint32_t status = open_plain(&memory);
+        if (calls < call)
+            break;
+        CHECK(status == LLFREE_NO_MEMORY);
+        CHECK(!memcmp(&memory, &was, sizeof memory) && blocks == 0);
+    }
+    llfree_plain_close(&memory);
+    CHECK(blocks == 0);
+    return call - 1;
+}
+
+/* A closing that is refused changes nothing: what is held is held, and it may be made again. */
+static long plain_closing(bool is_for_good)
+{
+    static uint64_t words[WORDS];
+    llfree_plain memory = LLFREE_CLOSED;
+    uint32_t frame = 0;
+    long call = 0, left;
+
+    refuse(0, false);
+    CHECK(llfree_image_words(FRAMES) == WORDS);
+    CHECK(open_plain(&memory) == LLFREE_OK && llfree_plain_take(&memory, 4, &frame) == LLFREE_OK);
+    left = blocks;
+    for (;;) {
+        refuse(++call, is_for_good);
+        uint32_t status = llfree_plain_close_image(&memory, words, WORDS);
+        if (calls < call) {
+            CHECK(status == LLFREE_OK);
+            break;
+        }
+        CHECK(status == LLFREE_NO_MEMORY && blocks == left);
+        CHECK(llfree_plain_give(&memory, frame, 4) == LLFREE_OK);
+        CHECK(llfree_plain_take(&memory, 4, &frame) == LLFREE_OK);
+    }
+    CHECK(blocks == 0);
+    return call - 1;
+}
+
+int main(void)
+{
+    for (int is_for_good = 0; is_for_good < 2; is_for_good++) {
+        long shared = shared_opening(is_for_good), plain = plain_opening(is_for_good);
+        long closing = plain_closing(is_for_good);
+        CHECK(shared > 0 && plain > 0 && closing > 0);
+        printf("calls refused, by opening and closing: %ld, %ld, %ld\n", shared, plain, closing);
+    }
+    return 0;
+}
