@@ -5,10 +5,11 @@
 int main(void)
 {
     llfree_plain memory = LLFREE_CLOSED;
+    llfree_range kept = { 0, 16 };
     uint32_t huge, frame;
 
-    /* Eight children: 4,096 frames of 4 KiB. */
-    if (llfree_plain_open(&memory, 8) != LLFREE_OK) {
+    /* 4,096 frames of 4 KiB, of which the first sixteen are kept back. */
+    if (llfree_plain_open(&memory, 4096, &kept, 1) != LLFREE_OK) {
         fputs("no memory\n", stderr);
         return 1;
     }

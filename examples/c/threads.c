@@ -54,7 +54,7 @@ int main(void)
     uint32_t frame;
     int free = 0;
 
-    if (llfree_open(cores, CORES, CHILDREN) != LLFREE_OK) {
+    if (llfree_open(cores, CORES, FRAMES, NULL, 0) != LLFREE_OK) {
         fputs("no memory\n", stderr);
         return 1;
     }
