@@ -1,0 +1,182 @@
+/* How long a take and a give take from C: the library with a core for each thread, the library for one
+ * thread, a bitmap and a buddy allocator, each under a mutex, and the C library's own aligned_alloc and
+ * free of as much memory, which nobody touches.
+ *
+ *     pairs COUNT ROUNDS
+ *
+ * A round measures each allocator once, in turn, with 1, 2 and 4 threads and orders 0, 3 and 9. Each
+ * thread stands on a processor of its own and makes COUNT takes, each with its give (of malloc's huge
+ * blocks a hundredth as many). A line: threads, order, allocator, tenths of a nanosecond for a pair of
+ * one thread. The clock is the wall's, from the first thread's begin to the last one's end. */
+#define _GNU_SOURCE
+#include "llfree.h"
+#include "locked.h"
+#include <inttypes.h>
+#include <pthread.h>
+#include <sched.h>
+#include <stdio.h>
+#include <stdlib.h>
+#include <time.h>
+
+enum { MOST_THREADS = 4, FRAME_BYTES = 4096 };
+
+struct worker {
+    _Alignas(128) llfree_core core; /* no two handles share a cache line */
+    pthread_t thread;
+    void (*run)(struct worker *);
+    uint64_t began, ended;
+};
+
+static struct worker workers[MOST_THREADS];
+static llfree_plain plain = LLFREE_CLOSED;
+static pthread_barrier_t start;
+static int threads;
+static uint8_t order;
+static long pairs, count;
+
+static void want(bool is_right, const char *what)
+{
+    if (!is_right) {
+        fprintf(stderr, "pairs: %s\n", what);
+        exit(1);
+    }
+}
+
+static uint64_t nanoseconds(void)
+{
+    struct timespec now;
+
+    clock_gettime(CLOCK_MONOTONIC, &now);
+    return (uint64_t)now.tv_sec * 1000000000u + (uint64_t)now.tv_nsec;
+}
+
+/* A loop for each allocator, so that nothing stands between it and what it calls. */
+#define PAIRS(name, type, take, give)                   \
+    static void name(struct worker *me)                 \
+    {                                                   \
+        type block;                                     \
+                                                        \
+        (void)me;                                       \
+        for (long i = 0; i < count; i++) {              \
+            want(take, "a take was refused");           \
+            want(give, "a give was refused");           \
+        }                                               \
+    }
+
+PAIRS(core_pairs, uint32_t, llfree_take(&me->core, order, &block) == LLFREE_OK,
+      llfree_give(&me->core, block, order) == LLFREE_OK)
+PAIRS(plain_pairs, uint32_t, llfree_plain_take(&plain, order, &block) == LLFREE_OK,
+      llfree_plain_give(&plain, block, order) == LLFREE_OK)
+PAIRS(bitmap_pairs, uint32_t, (block = bitmap_take(order)) != NONE,
+      (bitmap_give(block, order), true))
+PAIRS(buddy_pairs, uint32_t, (block = buddy_take(order)) != NONE,
+      (buddy_give(block, order), true))
+
+static void release(void *memory)
+{
+    __asm__ volatile("" : : "r"(memory) : "memory"); /* or the compiler leaves out the pair */
+    free(memory);
+}
+
+PAIRS(malloc_pairs, void *,
+      (block = aligned_alloc(FRAME_BYTES, (size_t)FRAME_BYTES << order)) != NULL,
+      (release(block), true))
+
+static void open_cores(void)
+{
+    llfree_core handles[MOST_THREADS] = { LLFREE_CLOSED };
+
+    want(llfree_open(handles, (size_t)threads, FRAMES, NULL, 0) == LLFREE_OK, "no memory");
+    for (int i = 0; i < threads; i++)
+        workers[i].core = handles[i]; /* they move */
+}
+
+static void close_cores(void)
+{
+    for (int i = 0; i < threads; i++)
+        llfree_close(&workers[i].core);
+}
+
+static void open_plain(void)
+{
+    want(llfree_plain_open(&plain, FRAMES, NULL, 0) == LLFREE_OK, "no memory");
+}
+
+static void close_plain(void)
+{
+    llfree_plain_close(&plain);
+}
+
+static void nothing(void)
+{
+}
+
+static const struct allocator {
+    const char *name;
+    int most_threads;
+    void (*open)(void);
+    void (*run)(struct worker *);
+    void (*close)(void);
+} allocators[] = {
+    { "llfree", MOST_THREADS, open_cores, core_pairs, close_cores },
+    { "plain", 1, open_plain, plain_pairs, close_plain },
+    { "bitmap", MOST_THREADS, nothing, bitmap_pairs, nothing },
+    { "buddy", MOST_THREADS, buddy_open, buddy_pairs, nothing },
+    { "malloc", MOST_THREADS, nothing, malloc_pairs, nothing },
+};
+
+static void *work(void *worker)
+{
+    struct worker *me = worker;
+    cpu_set_t own;
+
+    CPU_ZERO(&own);
+    CPU_SET((size_t)(me - workers), &own);
+    want(!pthread_setaffinity_np(pthread_self(), sizeof own, &own), "no processor for a thread");
+    pthread_barrier_wait(&start);
+    me->began = nanoseconds();
+    me->run(me);
+    me->ended = nanoseconds();
+    return NULL;
+}
+
+static void measure(const struct allocator *one)
+{
+    uint64_t began = UINT64_MAX, ended = 0;
+
+    /* malloc may call the system for each huge block */
+    count = one->run == malloc_pairs && order == MOST_ORDER ? (pairs + 99) / 100 : pairs;
+    one->open();
+    pthread_barrier_init(&start, NULL, (unsigned)threads);
+    for (int i = 0; i < threads; i++) {
+        workers[i].run = one->run;
+        want(!pthread_create(&workers[i].thread, NULL, work, &workers[i]), "no thread");
+    }
+    for (int i = 0; i < threads; i++) {
+        pthread_join(workers[i].thread, NULL);
+        began = workers[i].began < began ? workers[i].began : began;
+        ended = workers[i].ended > ended ? workers[i].ended : ended;
+    }
+    pthread_barrier_destroy(&start);
+    one->close();
+    uint64_t tenths = 10 * (ended - began) / (uint64_t)count;
+    printf("%d,%d,%s,%" PRIu64 "\n", threads, order, one->name, tenths);
+}
+
+int main(int words, char **word)
+{
+    static const uint8_t orders[] = { 0, 3, 9 };
+    int rounds = words == 3 ? atoi(word[2]) : 0;
+
+    pairs = words == 3 ? atol(word[1]) : 0;
+    want(pairs > 0 && rounds > 0, "usage: pairs COUNT ROUNDS");
+    while (rounds-- > 0)
+        for (threads = 1; threads <= MOST_THREADS; threads *= 2)
+            for (size_t i = 0; i < sizeof orders; i++) {
+                order = orders[i];
+                for (size_t j = 0; j < sizeof allocators / sizeof *allocators; j++)
+                    if (threads <= allocators[j].most_threads)
+                        measure(&allocators[j]);
+            }
+    return 0;
+}
