@@ -1,8 +1,9 @@
 #!/usr/bin/env bash
-# Builds the library for C and tries it: the header names what the library exports, as C and as C++, and
-# the programs of examples/c and tools/c run, plainly and under what the compiler has to watch over
-# memory, or just with the flags that are named. Where no C compiler is there, it says so and is done.
-# The last line counts the runs.
+# Tries the library for C, which it builds where it has to: the header names what the library exports, as
+# C and as C++; the library asks for nothing but a heap; and the programs of examples/c and tools/c run,
+# plainly and under what the compiler has to watch over memory, or just with the flags that are named. One
+# is built with what pkg-config answers, and one is in Rust. What the machine lacks is said and left out.
+# The last line counts what was tried.
 set -eu
 root=$(cd "$(dirname "$0")/.." && pwd)
 cc=${CC:-cc}
@@ -16,37 +17,71 @@ fails() {
     echo "$passed passed, 1 failed"
     exit 1
 }
+passes() {
+    echo "$1: ok"
+    passed=$((passed + 1))
+}
 command -v "$cc" >/dev/null || { printf 'no C compiler: the library for C is not tried\n0 passed, 0 failed\n'; exit 0; }
-(cd "$root/crates/llfree_c" && rt lib >"$folder/log" 2>&1) || { tail -n 20 "$folder/log" >&2; fails 'the library is not built'; }
+"$root/tools/c_library.sh" >"$folder/log" 2>&1 || { tail -n 20 "$folder/log" >&2; fails 'the library is not built'; }
 
-# the same names in the header and in the library
 nm "$library" | awk '$2 == "T" && $3 ~ /^llfree_/ { print $3 }' | sort >"$folder/exported"
 grep -o '\bllfree_[a-z_]*(' "$root/include/llfree.h" | tr -d '(' | sort -u >"$folder/declared"
 diff "$folder/exported" "$folder/declared" || fails 'the header and the library differ'
+passes 'the names of the header and of the library'
 
-# a header for both languages
+# what every C compiler wants of a program without a C library, and the heap
+if nm -u "$library" | awk 'NF == 2 { print $2 }' | grep -vxE 'mem(cpy|move|set|cmp)|rattle_(alloc|realloc|dealloc)'; then
+    fails 'the library asks for more than a heap'
+fi
+passes 'what the library asks for'
+
 for language in c c++; do
+    name="the header in $language"
+    echo 'int main(void) { return 0; }' | "$cc" -x "$language" -o "$folder/empty" - 2>/dev/null || { echo "$name: not here"; continue; }
     printf '#include "llfree.h"\nint main(void) { llfree_plain h = LLFREE_CLOSED; llfree_plain_close(&h);
         llfree_core c = LLFREE_CLOSED; llfree_close(&c); }\n' |
-        "$cc" -x "$language" -Wall -Wextra -Werror -I"$root/include" -c -o "$folder/header.o" - ||
-        { [ "$language" = c++ ] && echo 'no C++ compiler' || fails 'the header is none of C'; }
+        "$cc" -x "$language" -Wall -Wextra -Werror -I"$root/include" -c -o "$folder/header.o" - || fails "$name: not compiled"
+    passes "$name"
 done
 
-build() {
-    "$cc" "$@" -Wall -Wextra -Werror -I"$root/include" -o "$folder/program" "$source" "$library" "$heap" -lpthread
+# runs NAME SOURCE: the program is run, and has to write what stands beside its source
+runs() {
+    "$folder/program" >"$folder/out" || fails "$1: failed"
+    [ ! -f "${2%.*}.out" ] || diff "${2%.*}.out" "$folder/out" || fails "$1: another output"
+    passes "$1"
 }
 [ $# -gt 0 ] || set -- -O0 -O2 -fsanitize=address,undefined -fsanitize=thread
 for source in "$root"/examples/c/*.c "$root"/tools/c/*.c; do
+    with=("$library" "$heap" -lpthread)
+    # its heap may be its own
+    ! grep -q '^struct rattle_block rattle_alloc' "$source" || with=("$library")
     for flags in "$@"; do
         name="$(basename "$source") $flags"
         # the machine may lack what watches over memory
         { echo 'int main(void) { return 0; }' | "$cc" -x c "$flags" -o "$folder/empty" - && "$folder/empty"; } \
             >/dev/null 2>&1 || { echo "$name: not here"; continue; }
-        build "$flags" || fails "$name: not built"
-        "$folder/program" >"$folder/out" || fails "$name: failed"
-        [ ! -f "${source%.c}.out" ] || diff "${source%.c}.out" "$folder/out" || fails "$name: another output"
-        echo "$name: ok"
-        passed=$((passed + 1))
+        "$cc" "$flags" -Wall -Wextra -Werror -I"$root/include" -o "$folder/program" "$source" "${with[@]}" || fails "$name: not built"
+        runs "$name" "$source"
     done
 done
+
+source=$root/examples/c/first.c
+name='first.c with pkg-config'
+if command -v make >/dev/null && command -v pkg-config >/dev/null; then
+    make -s -C "$root/examples/c" llfree.pc >/dev/null || fails "$name: no llfree.pc"
+    read -ra with < <(PKG_CONFIG_PATH=$root/examples/c pkg-config --cflags --libs llfree)
+    "$cc" -o "$folder/program" "$source" "${with[@]}" || fails "$name: not built"
+    runs "$name" "$source"
+else
+    echo "$name: not here"
+fi
+
+source=$root/examples/c/first.rs
+if command -v rustc >/dev/null; then
+    rustc --edition 2021 -o "$folder/program" "$source" -L"$(dirname "$library")" -lstatic=llfree_c \
+        -L"$(dirname "$heap")" -lstatic=libc_c || fails 'first.rs: not built'
+    runs first.rs "$source"
+else
+    echo 'first.rs: no Rust compiler'
+fi
 echo "$passed passed, 0 failed"

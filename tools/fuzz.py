@@ -7,7 +7,7 @@ and docs/FORMATS.md say of that text: the checker reads it again, finds the reco
 and follows the answers of what is accepted frame by frame. One seed tries the same cases each time;
 each case that fails is kept as a file.
 
-    tools/fuzz.py [--cases N] [--seed N] [--jobs N] [--seconds N] [--program FILE]
+    tools/fuzz.py [--cases N] [--seed N] [--jobs N] [--seconds N] [--program FILE] [--under WORDS]
 """
 import argparse
 import collections
@@ -17,6 +17,7 @@ import random
 import subprocess
 import sys
 import tempfile
+import time
 
 CHILD_FRAMES = 512
 TREE_CHILDREN = 8
@@ -492,13 +493,18 @@ class Answer:
     """What the program did: its status, its output and its errors."""
 
     seconds = 1.0
+    under = ()
+    longest = 0.0
 
     def __init__(self, program, words, data):
-        seconds = self.seconds * (1 + len(data) / 1e6)
+        allowed = 1 + len(data) / 1e6
+        seconds, start = self.seconds * allowed, time.monotonic()
         try:
-            done = subprocess.run([program, *words], input=data, capture_output=True, timeout=seconds, check=False)
+            done = subprocess.run([*self.under, program, *words], input=data, capture_output=True, timeout=seconds,
+                                  check=False)
         except subprocess.TimeoutExpired as error:
             raise Wrong(f'no answer after {seconds:.1f} s') from error
+        Answer.longest = max(Answer.longest, (time.monotonic() - start) / allowed)
         self.status, self.output, self.errors = done.returncode, done.stdout, done.stderr
 
     def is_refusal(self, refused):
@@ -692,11 +698,12 @@ def an_image_of(children):
 
 
 def try_case(case):
+    """What came of it, and the longest answer of this process so far."""
     program, name, words, data = case
     try:
-        return name, words, data, try_words(program, words, data), ''
+        return name, words, data, try_words(program, words, data), '', Answer.longest
     except (Wrong, ValueError, IndexError) as wrong:
-        return name, words, data, 'wrong', str(wrong)
+        return name, words, data, 'wrong', str(wrong), Answer.longest
 
 
 def all_cases(arguments):
@@ -713,12 +720,14 @@ def main():
     parser.add_argument('--jobs', type=int, default=os.cpu_count())
     parser.add_argument('--seconds', type=float, default=1.0, help='for an answer, and as many for each million bytes')
     parser.add_argument('--program', default='crates/llfree/out/llfree')
+    parser.add_argument('--under', default='', help="what stands before the program, as 'chrt -f 20'")
     arguments = parser.parse_args()
-    Answer.seconds = arguments.seconds
-    counts, failed, kept = {}, 0, tempfile.mkdtemp(prefix='hurt-texts-')
+    Answer.seconds, Answer.under = arguments.seconds, tuple(arguments.under.split())
+    counts, failed, longest, kept = {}, 0, 0.0, tempfile.mkdtemp(prefix='hurt-texts-')
     with multiprocessing.Pool(arguments.jobs) as pool:
-        for name, words, data, kind, why in pool.imap_unordered(try_case, all_cases(arguments), chunksize=16):
+        for name, words, data, kind, why, took in pool.imap_unordered(try_case, all_cases(arguments), chunksize=16):
             counts[kind] = counts.get(kind, 0) + 1
+            longest = max(longest, took)
             if why:
                 failed += 1
                 file = os.path.join(kept, name)
@@ -727,6 +736,8 @@ def main():
                 print(f'{file}: {" ".join(words)}: {why}', flush=True)
     for kind, count in sorted(counts.items()):
         print(f'{count:8} {kind}')
+    # a longer text has more time, and counts by its share of that
+    print(f'longest answer: {longest:.3f} s of {Answer.seconds:.3f} s')
     if not failed:
         os.rmdir(kept)
     print(f'{sum(counts.values()) - failed} passed, {failed} failed')

@@ -1,17 +1,22 @@
 #!/usr/bin/env python3
-"""Refuses the built program each of its calls for memory, a thread, a read and a write, one at a time.
+"""Refuses the built program each of its calls for memory, a thread, a read and a write, one at a time;
+and memory, and threads, for good from each call on.
 
 Each text is run once with nothing refused, and then once for each call that it made, with that call
 refused (tools/refusing.c stands between the program and the C library). Status, output and errors
-have to be those of docs/USAGE.md each time; a device that has failed is not asked again. The last
-line counts the runs. Where there is no C compiler nothing is tried, and that is said.
+have to be those of docs/USAGE.md each time; a device that has failed is not asked again. Then all
+calls for memory from the Nth on are refused, and all threads, for N from 1 until a run is not refused
+any. The last line counts the runs. Where there is no C compiler nothing is tried, and that is said.
 
 The driver crates/llfree_refusals, where it is built, makes each call of the libraries that takes
 memory, and makes it once more where memory or a thread was refused: it has to print the same then.
+Where memory is refused for good it has to stop at that call, with all calls before it answered.
 
     tools/refusals.py [PROGRAM..]
 """
+import itertools
 import os
+import re
 import shutil
 import subprocess
 import sys
@@ -23,6 +28,8 @@ DRIVER = os.path.join(TOP, 'crates/llfree_refusals')
 KINDS = ('MEMORY', 'THREAD', 'READ', 'WRITE')
 NO_MEMORY = (3, b'', b'llfree: no memory\n')
 READ_FAILED = (3, b'', b'llfree: read failed\n')
+# what the driver says where a call is refused twice, or what it makes anew for the call; a refused program only ends
+STOPPED = (b'no memory\nrefusals of memory: 1\n', b'no memory\nrefusals of memory: 2\n', b'refusals of memory: 1\n')
 # bytes that a read gives, and that a write takes
 READ_BYTES, WRITTEN_BYTES = 1, 3
 
@@ -88,6 +95,16 @@ class Refusals:
             got, counts = self.run(words, text, **limits)
             self.want(wanted(place, got, counts), words, limits, got)
 
+    def refuse_for_good(self, words, text, kind, wanted, unrefused):
+        """All calls of a kind from each place on, until a run does not come that far; it ends as unrefused wants."""
+        for place in itertools.count(1):
+            limits = {f'REFUSE_{kind}': place, 'REFUSE_FOR_GOOD': 1}
+            got, counts = self.run(words, text, **limits)
+            if counts[kind] < place:
+                self.want(unrefused(got), words, limits, got)
+                return
+            self.want(wanted(place, got, counts), words, limits, got)
+
     def try_text(self, words, text):
         alone, counts = self.run(words, text)
         self.want(alone[0] in (0, 1), words, 'nothing refused', alone)
@@ -103,6 +120,12 @@ class Refusals:
 
         self.refuse(words, text, 'MEMORY', counts['MEMORY'], is_memory_told)
         self.refuse(words, text, 'THREAD', counts['THREAD'], lambda place, got, seen: got == NO_MEMORY)
+
+        def is_answered(got):
+            return got == alone or not is_single and got[0] == 0 and not got[2]
+
+        self.refuse_for_good(words, text, 'MEMORY', is_memory_told, is_answered)
+        self.refuse_for_good(words, text, 'THREAD', lambda place, got, seen: got == NO_MEMORY, is_answered)
         if len(text) < 500:
             self.try_devices(words, text, alone)
 
@@ -138,6 +161,20 @@ class Refusals:
         # one in each start of a thread can be done without
         self.want(len(untold) <= counts['THREAD'], '', f'untold at {untold}', alone)
         self.refuse('', b'', 'THREAD', counts['THREAD'], lambda place, got, seen: got == told)
+        self.try_calls_for_good(alone)
+
+    def try_calls_for_good(self, alone):
+        """The driver stops at the call that is refused twice; those before it are answered, and each has its turn."""
+        stops = []
+
+        def is_stopped(place, got, seen):
+            stopped = re.fullmatch(rb'(\d+) calls answered\n', got[1])
+            stops.append(int(stopped[1]) if stopped else -1)
+            return got[0] == 0 and got[2] in STOPPED
+
+        self.refuse_for_good('', b'', 'MEMORY', is_stopped, lambda got: got == alone)
+        every = list(range(int(alone[1].split()[0])))
+        self.want(stops == sorted(stops) and sorted({*stops}) == every, '', f'stopped at {stops}', alone)
 
 
 def main():

@@ -1,9 +1,10 @@
-/* Stands between a program and its C library (LD_PRELOAD), and refuses one call of a kind.
+/* Stands between a program and its C library (LD_PRELOAD), and refuses one call of a kind, or all from one on.
 
    REFUSE_MEMORY=N     the Nth allocation or growth answers no memory
    REFUSE_THREAD=N     the Nth thread is not started
    REFUSE_READ=N       the Nth read of standard input fails
    REFUSE_WRITE=N      the Nth write to standard output fails, or answers 0 where REFUSE_WITH=0
+   REFUSE_FOR_GOOD=1   and so is each later call of that kind
    MOST_READ=N, MOST_WRITTEN=N     so many bytes a call at most
    REFUSE_COUNTS=FILE  how many calls of each kind there were, in this order, at the end */
 #define _GNU_SOURCE
@@ -19,7 +20,7 @@
 enum { MEMORY, THREADS, READS, WRITES, KINDS };
 
 static atomic_long counts[KINDS];
-static long refused[KINDS], most_read, most_written, answer_zero;
+static long refused[KINDS], for_good, most_read, most_written, answer_zero;
 
 static long number(const char *name)
 {
@@ -38,6 +39,7 @@ __attribute__((constructor)) static void begin(void)
     refused[THREADS] = number("REFUSE_THREAD");
     refused[READS] = number("REFUSE_READ");
     refused[WRITES] = number("REFUSE_WRITE");
+    for_good = number("REFUSE_FOR_GOOD");
     most_read = number("MOST_READ");
     most_written = number("MOST_WRITTEN");
     answer_zero = getenv("REFUSE_WITH") != NULL;
@@ -48,8 +50,10 @@ __attribute__((constructor)) static void begin(void)
 __attribute__((destructor)) static void end(void)
 {
     long seen[KINDS];
-    for (int kind = 0; kind < KINDS; kind++)
+    for (int kind = 0; kind < KINDS; kind++) {
         seen[kind] = counts[kind];
+        refused[kind] = 0; /* the file below needs memory */
+    }
     const char *name = getenv("REFUSE_COUNTS");
     FILE *file = name ? fopen(name, "w") : NULL;
     if (!file)
@@ -66,10 +70,12 @@ void _exit(int status)
     __builtin_unreachable();
 }
 
-/* Is this the call that is refused? */
+/* Is this a call that is refused? */
 static int is_refused(int kind)
 {
-    return ++counts[kind] == refused[kind];
+    long place = ++counts[kind];
+
+    return place == refused[kind] || (for_good && refused[kind] && place > refused[kind]);
 }
 
 void *malloc(size_t size)
