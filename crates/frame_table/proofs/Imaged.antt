@@ -69,7 +69,7 @@ sized children cores frames = record {
   sealed = true;
 }
 
-image_at : (key : Key) (g : Geometry) (shares : ℕ) (ws : List ℕ) (vs : List View)
+pub image_at : (key : Key) (g : Geometry) (shares : ℕ) (ws : List ℕ) (vs : List View)
     → HasSizes key g → Fit key shares ws vs → IsImage (key_of g) ws
 image_at key g shares ws vs s fit =
     let is : key_of g ≡ open_key key =

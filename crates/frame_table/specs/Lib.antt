@@ -4,5 +4,6 @@ pub mod SeatSteps
 pub mod Ties
 pub mod Openings
 pub mod Closing
+pub mod Stopping
 pub mod Mover
 pub mod Keeping

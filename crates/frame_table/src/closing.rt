@@ -79,7 +79,7 @@ fn gather<S: Seated + Drop>(table: &FrameTable, mut seats: Vec<S>) -> Seat<(), E
 }
 
 // The words of a table that nobody shares any more, in a list with room for them.
-fn read_words(closed: Closed<(), Global>, mut words: Vec<u64>) -> Vec<u64>
+pub(crate) fn read_words(closed: Closed<(), Global>, mut words: Vec<u64>) -> Vec<u64>
     requires full { IsFull closed.words × (slots_len closed.slots ≡ 0) }
     requires room { (words.items ≡ []) × (slots_len closed.words ≤ vec_capacity words) }
     ensures { result.items ≡ slots_items closed.words }

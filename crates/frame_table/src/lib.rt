@@ -13,6 +13,7 @@ mod seated;
 mod seats;
 mod shared;
 mod steps;
+mod stopping;
 mod table;
 
 pub use block::Block;

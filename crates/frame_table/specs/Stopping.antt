@@ -1,0 +1,38 @@
+-- What a stop gives.
+use Rattle.std.specs.Prelude.{◌≡◌, ℕ, ◌<◌, ◌≤◌, List, [], true, vec_capacity}
+use Rattle.std.specs.declared.vec.Vec.{Vec}
+use Rattle.frame_model.specs.declared.block.FrameBlock.{FrameBlock}
+use Rattle.frame_model.specs.declared.key.Key.{Key}
+use Rattle.frame_core.specs.Events.{State, views_of, Fits}
+use Rattle.frame_core.specs.Holding.{holders}
+use Rattle.frame_core.specs.Image.{Contents, key_in, IsImage}
+use Rattle.frame_core.specs.Key.{frame_count, is_boot_frame}
+use Rattle.frame_core.specs.Laws.{holding_of}
+use Rattle.frame_core.specs.Moves.{HasSizes}
+use Rattle.frame_core.specs.Report.{held_at}
+use Rattle.frame_core.specs.Words.{word_count}
+
+-- the list is empty, and the words of the memory have room in it
+abbrev pub IsRoomFor : {Z : Type 0} → Key → Vec ℕ Z → Type 0
+IsRoomFor key room = (room.items ≡ []) × (word_count key ≤ vec_capacity room)
+
+-- the words hold a frame just where it lies in one of these blocks
+abbrev pub HoldsFramesOf : Key → List ℕ → List FrameBlock → Type 0
+HoldsFramesOf key words blocks =
+    (x : ℕ) → x < frame_count key → held_at key words x ≡ holders x blocks
+
+-- the frames that nobody is ever given are held
+abbrev pub HoldsBootFrames : Key → List ℕ → Type 0
+HoldsBootFrames key words =
+    (x : ℕ) → x < frame_count key → is_boot_frame key x ≡ true → held_at key words x ≡ 1
+
+-- the image of a table between two steps: the words fit what its seats had in flight and kept, and hold
+-- just the frames of all blocks that were held
+pub record IsImageAtStop (key : Key) (image : Contents) : Type 0 where
+  pub sizes : HasSizes key image.geometry
+  pub is_image : IsImage (key_in image) image.words
+  pub state : State
+  pub words : state.words ≡ image.words
+  pub fits : Fits key key.cores state
+  pub held : HoldsFramesOf key image.words (holding_of key (views_of state))
+  pub boot : key.sealed ≡ true → HoldsBootFrames key image.words
