@@ -8,30 +8,24 @@ use Rattle.frame_words.specs.declared.geometry.Geometry.{Geometry}
 use Rattle.frame_words.specs.declared.fault.Fault.{Fault}
 use Rattle.frame_words.specs.declared.fault.Fault.TheVariants.{NoMemory}
 use Rattle.frame_core.specs.Key.{AreRanges}
-use Rattle.core_frames.specs.Ranges.{MayHoldBack, IsUnopenedFor}
+use Rattle.core_frames.specs.Ranges.{MayHoldBack, MayFollow, IsUnopenedFor}
 
 cons_at : (rs : List (ℕ × ℕ)) (i : ℕ) (d : ℕ × ℕ) → i < length rs
     → drop i rs ≡ get_or rs i d ∷ drop (i + 1) rs
 cons_at rs i d h = drop-cons rs i d h ∙ ap (λ n. get_or rs i d ∷ drop n rs) (sym (add-one i))
 
--- the range at a place is lawful behind what came before
-pub record IsNext (from end : ℕ) (r : ℕ × ℕ) : Type 0 where
-  pub some : 1 ≤ r.1
-  pub behind : from ≤ r.0
-  pub inside : r.0 + r.1 ≤ end
-
 split_range : (from end : ℕ) (r : ℕ × ℕ) (rs : List (ℕ × ℕ)) → AreRanges from end (r ∷ rs)
-    → IsNext from end r × AreRanges (r.0 + r.1) end rs
+    → MayFollow from end r × AreRanges (r.0 + r.1) end rs
 unfolding AreRanges
 split_range from end r rs h = (record { some = h.0; behind = h.1; inside = h.2 }, h.3)
 
-join_range : (from end : ℕ) (r : ℕ × ℕ) (rs : List (ℕ × ℕ)) → IsNext from end r
+join_range : (from end : ℕ) (r : ℕ × ℕ) (rs : List (ℕ × ℕ)) → MayFollow from end r
     → AreRanges (r.0 + r.1) end rs → AreRanges from end (r ∷ rs)
 unfolding AreRanges
 join_range from end r rs n h = (n.some, n.behind, n.inside, h)
 
 pub next_of : (from end i : ℕ) (rs : List (ℕ × ℕ)) (d : ℕ × ℕ) → i < length rs
-    → AreRanges from end (drop i rs) → IsNext from end (get_or rs i d)
+    → AreRanges from end (drop i rs) → MayFollow from end (get_or rs i d)
 next_of from end i rs d h all =
     (split_range from end (get_or rs i d) (drop (i + 1) rs) (subst (AreRanges from end) (cons_at rs i d h) all)).0
 
@@ -42,7 +36,7 @@ rest_of from end i rs d h all =
     (split_range from end (get_or rs i d) (drop (i + 1) rs) (subst (AreRanges from end) (cons_at rs i d h) all)).1
 
 pub with_next : (from end i : ℕ) (rs : List (ℕ × ℕ)) (d : ℕ × ℕ) → i < length rs
-    → IsNext from end (get_or rs i d)
+    → MayFollow from end (get_or rs i d)
     → AreRanges ((get_or rs i d).0 + (get_or rs i d).1) end (drop (i + 1) rs)
     → AreRanges from end (drop i rs)
 with_next from end i rs d h n all =

@@ -98,6 +98,7 @@ impl Desk {
     }
 
     /// Gives the oldest block under the label. No memory is needed, and a refusal makes no step.
+    #[tactic(auto, using(crate::proofs::DeskLemmas::given_ok, crate::proofs::DeskLemmas::given_err))]
     pub fn give(&mut self, allocator: &Allocator, label: &Label) -> Result<(u32, u8), Fault>
         requires { IsDeskOf allocator.now self.old }
         ensures desk { StaysDeskOf allocator.now self.old self.new }
@@ -112,6 +113,7 @@ impl Desk {
     }
 
     /// Gives exactly this block. No memory is needed, and a refusal makes no step.
+    #[tactic(auto, using(crate::proofs::DeskLemmas::given_ok, crate::proofs::DeskLemmas::given_err))]
     pub fn give_at(
         &mut self,
         allocator: &Allocator,

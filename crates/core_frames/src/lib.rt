@@ -17,10 +17,9 @@ mod ranges;
 mod reopening;
 mod splits;
 mod splitting;
+mod stopping;
 mod survivors;
 mod takes;
-#[cfg(test)]
-mod tests;
 mod trees;
 mod using;
 

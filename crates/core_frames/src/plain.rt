@@ -162,10 +162,22 @@ impl PlainAllocator {
         ensures kept { self.new.kept ≡ self.old.kept }
         ensures geometry { (self.new.geometry ≡ self.old.geometry) × (self.new.ranges ≡ self.old.ranges) }
     {
-        let frame = block.frame();
         let mut habit = self.habits[core as usize];
-        give_by(&mut self.moves, &mut habit, block);
+        self.put_back(&mut habit, block);
         self.habits[core as usize] = habit;
+    }
+
+    // Takes back a block that is out by the record of a core.
+    fn put_back(&mut self, habit: &mut Habit, block: PlainBlock)
+        requires core { habit.old.core < self.old.geometry.cores }
+        requires out { Contains self.old.out block }
+        ensures out { IsPermutation (block ∷ self.new.out) self.old.out }
+        ensures kept { self.new.kept ≡ self.old.kept }
+        ensures geometry { (self.new.geometry ≡ self.old.geometry) × (self.new.ranges ≡ self.old.ranges) }
+        ensures core { habit.new.core ≡ habit.old.core }
+    {
+        let frame = block.frame();
+        give_by(&mut self.moves, habit, block);
         self.starts[frame as usize] = NONE;
         self.refused = NO_ORDER;
     }
@@ -181,8 +193,7 @@ impl PlainAllocator {
         ensures held { IsPermutation (held_by self.old) (held_by self.new) }
         ensures geometry { (self.new.geometry ≡ self.old.geometry) × (self.new.ranges ≡ self.old.ranges) }
     {
-        let frame = block.frame();
-        let order = block.order();
+        let (frame, order) = (block.frame(), block.order());
         let start = &mut self.starts[frame as usize];
         *start = kept_byte(order);
         (frame, order)
@@ -224,10 +235,20 @@ impl PlainAllocator {
         ensures counters { IfOk result (λ i. AddsUp (memory_by self) i.words) }
         ensures unchanged { IfErr result (λ back. back ≡ self) }
     {
-        match self.moves.image(alloc) {
+        match self.image(alloc) {
             Ok(image) => Ok(image),
             Err(_) => Err(self),
         }
+    }
+
+    // The words as they stand.
+    fn image(&self, alloc: Global) -> Result<Image, Fault>
+        ensures geometry { IfOk result (λ i. i.geometry ≡ self.now.geometry) }
+        ensures exact { IfOk result (λ i. HoldsExactly (memory_by self.now) i.words (held_by self.now)) }
+        ensures counters { IfOk result (λ i. AddsUp (memory_by self.now) i.words) }
+    {
+        let image = self.moves.image(alloc)?;
+        Ok(image)
     }
 }
 

@@ -1,83 +1,32 @@
-use Rattle.std.proofs.Common.{◌≡◌, ℕ, ◌<◌, ◌∷◌, refl, ap, sym, subst, ◌∙◌, set, arith}
-use Rattle.std.specs.List.{Contains}
-use Rattle.std.specs.List.Sorted.{IsPermutation}
-use Rattle.frame_model.specs.declared.block.FrameBlock.{FrameBlock}
+use Rattle.std.proofs.Common.{◌<◌, ap, ◌∙◌, arith}
+use Rattle.frame_words.specs.declared.geometry.Geometry.{Geometry}
 use Rattle.frame_core.specs.Key.{sealed_key}
 use Rattle.core_frames.specs.declared.habit.Habit.{Habit}
-use Rattle.core_frames.specs.PlainBytes.{out_of, kept_of}
 use Rattle.core_frames.specs.PlainState.{PlainState}
-use Rattle.core_frames.proofs.PlainBytes.{out_byte, out_given, kept_given}
-use Rattle.core_frames.proofs.PlainCalls.{same_geometry, renamed, moved, given, is_out, with_core}
+use Rattle.core_frames.proofs.PlainCalls.{with_core}
 use Rattle.core_frames.proofs.plain.PlainAllocator.give.Goals as goal
 
-pub give_by-requires : goal.give_by-requires
-give_by-requires c =
-    let a = c.self.inside in
-    let key = sealed_key a.moves.geometry a.ranges.items in
-    let b : FrameBlock = c.args.block in
-    let has : Contains (out_of a.starts.items) b = subst (λ (s : PlainState). Contains s.out b) (sym c.self.view_is) c.requires.out in
-    let inside : c.args.core < a.moves.geometry.cores =
+pub put_back-requires-clause-core : goal.put_back-requires-clause-core
+put_back-requires-clause-core c =
+    let inside : c.args.core < c.self.inside.moves.geometry.cores =
     omega (arith, c.requires.core, ap (λ (s : PlainState). s.geometry.cores) c.self.view_is) in
     let same = ap (λ (h : Habit). h.core) c.index.ensures ∙ c.self.invariant.cores.1 c.args.core c.index.result.now inside in
-    record {
-      core = omega (arith, same, inside);
-      idle = c.self.invariant.idle;
-      held = is_out key _ a.moves.words.items a.starts.items a.habits.items a.refused c.self.invariant b has;
-    }
-
-pub index_mut-requires-2 : goal.index_mut-requires-2
-index_mut-requires-2 c =
-    let a = c.self.inside in
-    let b : FrameBlock = c.args.block in
-    let has : Contains (out_of a.starts.items) b = subst (λ (s : PlainState). Contains s.out b) (sym c.self.view_is) c.requires.out in
-    omega (arith, out_byte a.starts.items b has, c.frame-frame.ensures, a.starts.ok.0)
-
--- the core has a place
-inside : (c : goal.After-self-3-1) → c.args.core < c.self.inside.moves.geometry.cores
-inside c = omega (arith, c.requires.core, ap (λ (s : PlainState). s.geometry.cores) c.self.view_is)
-
--- the geometry stays
-stays : (c : goal.After-self-3-1) → c.give_by.new.m.geometry ≡ c.self.inside.moves.geometry
-stays c =
-    let m = c.self.inside.moves in
-    let n = c.give_by.new.m in
-    same_geometry n.geometry m.geometry n.sealed m.sealed c.give_by.ensures.gives.keeps.same_key
+    omega (arith, same, c.requires.core)
 
 pub invariant_of-self : goal.invariant_of-self
 invariant_of-self c =
     let a = c.self.inside in
-    let m = a.moves in
-    let n = c.give_by.new.m in
-    let key = sealed_key m.geometry a.ranges.items in
-    let b : FrameBlock = c.args.block in
-    let has : Contains (out_of a.starts.items) b = subst (λ (s : PlainState). Contains s.out b) (sym c.self.view_is) c.requires.out in
-    moved m.geometry n.geometry a.ranges.items (sym (stays c))
-    (with_core key _ n.words.items (set a.starts.items c.frame-frame.result 0) a.habits.items 10
-    (renamed (set a.starts.items b.frame 0) (set a.starts.items c.frame-frame.result 0)
-    (ap (λ (x : ℕ). set a.starts.items x 0) (sym c.frame-frame.ensures))
-    (given key _ _ m.words.items n.words.items a.starts.items a.habits.items a.refused c.self.invariant refl b has _ 32
-    c.give_by.ensures.gives))
-    c.args.core c.give_by.new.habit (inside c)
-    (c.give_by.ensures.habit ∙ ap (λ (h : Habit). h.core) c.index.ensures
-    ∙ c.self.invariant.cores.1 c.args.core c.index.result.now (inside c)))
-
-pub returns-clause-out : goal.returns-clause-out
-returns-clause-out c =
-    let a = c.self.inside in
-    let b : FrameBlock = c.args.block in
-    let has : Contains (out_of a.starts.items) b = subst (λ (s : PlainState). Contains s.out b) (sym c.self.view_is) c.requires.out in
-    subst (λ (s : PlainState). IsPermutation (b ∷ out_of (set a.starts.items c.frame-frame.result 0)) s.out) c.self.view_is
-    (subst (λ (x : ℕ). IsPermutation (b ∷ out_of (set a.starts.items x 0)) (out_of a.starts.items))
-    (sym c.frame-frame.ensures) (out_given a.starts.items b has))
-
-pub returns-clause-kept : goal.returns-clause-kept
-returns-clause-kept c =
-    let a = c.self.inside in
-    let b : FrameBlock = c.args.block in
-    let has : Contains (out_of a.starts.items) b = subst (λ (s : PlainState). Contains s.out b) (sym c.self.view_is) c.requires.out in
-    ap (λ (x : ℕ). kept_of (set a.starts.items x 0)) c.frame-frame.ensures ∙ kept_given a.starts.items b has
-    ∙ ap (λ (s : PlainState). s.kept) c.self.view_is
-
-pub returns-clause-geometry : goal.returns-clause-geometry
-returns-clause-geometry c =
-    (stays c ∙ ap (λ (s : PlainState). s.geometry) c.self.view_is, ap (λ (s : PlainState). s.ranges) c.self.view_is)
+    let b = c.self-2.inside in
+    let was : c.args.core < a.moves.geometry.cores =
+    omega (arith, c.requires.core, ap (λ (s : PlainState). s.geometry.cores) c.self.view_is) in
+    let inside : c.args.core < b.moves.geometry.cores =
+    omega (
+      arith,
+      c.requires.core,
+      ap (λ (s : PlainState). s.geometry.cores) c.self-2.view_is,
+      ap (λ (g : Geometry). g.cores) c.put_back.ensures.geometry.0,
+    ) in
+    with_core (sealed_key b.moves.geometry b.ranges.items) _ b.moves.words.items b.starts.items b.habits.items b.refused
+    c.self-2.invariant c.args.core c.put_back.new.habit inside
+    (c.put_back.ensures.core ∙ ap (λ (h : Habit). h.core) c.index.ensures
+    ∙ c.self.invariant.cores.1 c.args.core c.index.result.now was)

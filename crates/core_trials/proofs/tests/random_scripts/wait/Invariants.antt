@@ -1,0 +1,6 @@
+use Rattle.frame_core.specs.View.{IsIdle}
+use Rattle.frame_core.specs.PlainState.{view_by}
+use Rattle.core_trials.proofs.tests.random_scripts.wait.Given as goal
+
+abbrev pub invariant-loop-i : goal.invariant-loop-i
+invariant-loop-i l = IsIdle (view_by l.m.plain)

@@ -1,0 +1,15 @@
+use Rattle.std.specs.Prelude.{◌≡◌}
+use Rattle.std.specs.List.{All}
+use Rattle.frame_core.specs.View.{IsIdle}
+use Rattle.frame_core.specs.Plain.{IsOutIn}
+use Rattle.frame_core.specs.PlainState.{key_by, view_by}
+use Rattle.core_trials.proofs.tests.random_scripts.work.Given as goal
+
+abbrev pub invariant-loop-i : goal.invariant-loop-i
+invariant-loop-i l = record {
+  cores : (key_by l.m.plain).cores ≡ 2;
+  idle : IsIdle (view_by l.m.plain);
+  out : All (λ b. IsOutIn l.m.plain.outs.items b) l.blocks.items;
+  one : l.one.core ≡ 0;
+  other : l.other.core ≡ 1;
+}

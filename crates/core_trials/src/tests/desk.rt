@@ -1,0 +1,154 @@
+//! Desks, each call with ample memory.
+
+ghost use Rattle.std.specs.Prelude.{IfOk, IfSome};
+ghost use Rattle.std.specs.List.{All};
+ghost use Rattle.core_frames.specs.Cores.{IsNewCore};
+ghost use Rattle.core_frames.specs.Desks.{IsDeskOf};
+
+use super::plain::held_and_free;
+use core_frames::{Allocator, Core, Desk, Label};
+use frame_core::{HeldBlock, Image};
+use frame_words::{Fault, Geometry};
+use std::alloc::Global;
+use std::process::Abort;
+use std::test::Fail;
+
+// The last core of an opening.
+fn next_core(allocator: &Allocator, cores: &mut Vec<Core>) -> Option<Core>
+    requires { All (IsNewCore allocator.now) cores.old.items }
+    ensures core { IfSome result (IsNewCore allocator.now) }
+    ensures left { All (IsNewCore allocator.now) cores.new.items }
+{
+    let _ = allocator;
+    cores.pop()
+}
+
+// An allocator with two desks.
+fn open(alloc: Global, children: u32) -> Result<(Allocator, Desk, Desk), Fault>
+    ensures first { IfOk result (λ r. IsDeskOf r.0 r.1) }
+    ensures second { IfOk result (λ r. IsDeskOf r.0 r.2) }
+{
+    let (allocator, mut cores) = Allocator::open(alloc, Geometry::new(children, 2)?)?;
+    let Some(second) = next_core(&allocator, &mut cores) else {
+        return Err(Fault::MissingCores);
+    };
+    let Some(first) = next_core(&allocator, &mut cores) else {
+        return Err(Fault::MissingCores);
+    };
+    Ok((allocator, Desk::new(alloc, first), Desk::new(alloc, second)))
+}
+
+// The words that two desks leave.
+fn close(alloc: Global, allocator: Allocator, first: Desk, second: Desk) -> Result<Image, Fault>
+    requires first { IsDeskOf allocator first }
+    requires second { IsDeskOf allocator second }
+{
+    let mut cores = Vec::with_capacity(alloc, 2)?;
+    cores.push_reserved(first.finish());
+    cores.push_reserved(second.finish());
+    allocator.close(alloc, cores).map_err(|e| e.fault)
+}
+
+fn label(rt: &impl Abort, bytes: &[u8]) -> Label {
+    Label::of(bytes).expect(rt, "a label")
+}
+
+// Asks for a block that the desk does not hold.
+fn is_not_held(rt: &impl Abort, allocator: &Allocator, desk: &mut Desk, frame: u32, order: u8)
+    requires { IsDeskOf allocator.now desk.old }
+    ensures { IsDeskOf allocator.now desk.new }
+{
+    let answer = desk.give_at(allocator, frame, order);
+    assert_eq!(rt; answer.err(), Some(Fault::NotHeld));
+}
+
+// Asks for a block where none is free.
+fn finds_none(rt: &impl Abort, allocator: &Allocator, desk: &mut Desk, label: &Label, order: u8)
+    requires { IsDeskOf allocator.now desk.old }
+    ensures { IsDeskOf allocator.now desk.new }
+{
+    let answer = desk.take(allocator, label.again(), order);
+    assert_eq!(rt; answer.err(), Some(Fault::NoBlock));
+}
+
+#[test]
+fn a_desk_gives_the_oldest_block_under_a_label(rt: HostRuntime) -> Result<(), Fail> {
+    let (allocator, mut desk, other) = open(rt.alloc(), 1)?;
+    let (a, b) = (label(&rt, b"a"), label(&rt, b"b"));
+    let first = desk.take(&allocator, a.again(), 0)?;
+    let middle = desk.take(&allocator, b.again(), 6)?;
+    let last = desk.take(&allocator, a.again(), 3)?;
+    assert_eq!(rt; (first.1, middle.1, last.1, desk.len()), (0, 6, 3, 3));
+    assert_eq!(rt; desk.give(&allocator, &a)?, first);
+    assert_eq!(rt; desk.give(&allocator, &a)?, last);
+    assert_eq!(rt; desk.give(&allocator, &a).err(), Some(Fault::NotHeld));
+    assert_eq!(rt; desk.give(&allocator, &b)?, middle);
+    assert_eq!(rt; desk.len(), 0);
+    let image = close(rt.alloc(), allocator, desk, other)?;
+    assert_eq!(rt; held_and_free(&image), (0, 512));
+    Ok(())
+}
+
+#[test]
+fn a_part_of_a_block_is_not_given(rt: HostRuntime) -> Result<(), Fail> {
+    let (allocator, mut desk, mut other) = open(rt.alloc(), 1)?;
+    let (frame, order) = desk.take(&allocator, label(&rt, b"a"), 5)?;
+    is_not_held(&rt, &allocator, &mut desk, frame, 4);
+    is_not_held(&rt, &allocator, &mut desk, frame, 6);
+    is_not_held(&rt, &allocator, &mut desk, frame ^ 1, 0);
+    is_not_held(&rt, &allocator, &mut desk, frame ^ 32, 5);
+    is_not_held(&rt, &allocator, &mut other, frame, order);
+    assert_eq!(rt;
+        desk.give_at(&allocator, frame, 10).err(),
+        Some(Fault::BadOrder)
+    );
+    assert_eq!(rt; desk.give_at(&allocator, frame, order)?, (frame, order));
+    assert_eq!(rt; desk.len(), 0);
+    let image = close(rt.alloc(), allocator, desk, other)?;
+    assert_eq!(rt; held_and_free(&image), (0, 512));
+    Ok(())
+}
+
+#[test]
+fn refused_takes_leave_the_list(rt: HostRuntime) -> Result<(), Fail> {
+    let (allocator, mut desk, other) = open(rt.alloc(), 1)?;
+    let a = label(&rt, b"a");
+    assert_eq!(rt;
+        desk.take(&allocator, a.again(), 10).err(),
+        Some(Fault::BadOrder)
+    );
+    assert_eq!(rt; desk.take(&allocator, a.again(), 9)?, (0, 9));
+    finds_none(&rt, &allocator, &mut desk, &a, 0);
+    finds_none(&rt, &allocator, &mut desk, &a, 8);
+    finds_none(&rt, &allocator, &mut desk, &a, 9);
+    assert_eq!(rt; desk.len(), 1);
+    let (under, frame, order) = desk.at(0);
+    assert_eq!(rt; (under.bytes(), frame, order), (a.bytes(), 0, 9));
+    let image = close(rt.alloc(), allocator, desk, other)?;
+    assert_eq!(rt; (held_and_free(&image), image.huge(0)), ((512, 0), true));
+    Ok(())
+}
+
+#[test]
+fn a_block_moves_from_one_desk_to_another(rt: HostRuntime) -> Result<(), Fail> {
+    let (allocator, mut from, mut to) = open(rt.alloc(), 8)?;
+    let (a, b) = (label(&rt, b"a"), label(&rt, b"b"));
+    let moved = from.take(&allocator, a.again(), 4)?;
+    let stays = from.take(&allocator, a.again(), 4)?;
+    let before = to.take(&allocator, b.again(), 0)?;
+    let block = from.lift(&allocator, &a)?;
+    assert_eq!(rt; (block.frame(), block.order()), moved);
+    assert_eq!(rt; to.lay(&allocator, b.again(), block).is_ok(), true);
+    assert_eq!(rt; (from.len(), to.len()), (1, 2));
+    assert_eq!(rt;
+        from.give_at(&allocator, moved.0, moved.1).err(),
+        Some(Fault::NotHeld)
+    );
+    assert_eq!(rt; from.lift(&allocator, &b).err(), Some(Fault::NotHeld));
+    assert_eq!(rt; to.give(&allocator, &b)?, before);
+    assert_eq!(rt; to.give(&allocator, &b)?, moved);
+    assert_eq!(rt; from.give(&allocator, &a)?, stays);
+    let image = close(rt.alloc(), allocator, from, to)?;
+    assert_eq!(rt; held_and_free(&image), (0, 4096));
+    Ok(())
+}

@@ -1,0 +1,160 @@
+//! The shared allocator, each call with ample memory.
+
+ghost use Rattle.std.specs.Prelude.{IfOk, IfSome};
+ghost use Rattle.std.specs.List.{All};
+ghost use Rattle.core_frames.specs.Cores.{IsCoreOf};
+
+use super::plain::held_and_free;
+use core_frames::{Allocator, CloseFault, Core};
+use frame_core::{HeldBlock, Image};
+use frame_words::{Fault, Geometry, TakeFault};
+use std::alloc::Global;
+use std::test::Fail;
+use std::thread::join;
+
+// The last core of a list.
+fn next_core(allocator: &Allocator, cores: &mut Vec<Core>) -> Option<Core>
+    requires { All (IsCoreOf allocator.now) cores.old.items }
+    ensures core { IfSome result (IsCoreOf allocator.now) }
+    ensures left { All (IsCoreOf allocator.now) cores.new.items }
+{
+    let _ = allocator;
+    cores.pop()
+}
+
+// An allocator with its cores.
+fn open(alloc: Global, children: u32, count: u32) -> Result<(Allocator, Vec<Core>), Fault>
+    ensures { IfOk result (λ r. All (IsCoreOf r.0) r.1.items) }
+{
+    Allocator::open(alloc, Geometry::new(children, count)?)
+}
+
+// The words of an allocator whose two cores are idle.
+fn close_two(alloc: Global, allocator: Allocator, first: Core, second: Core) -> Result<Image, Fault>
+    requires first { IsCoreOf allocator first }
+    requires second { IsCoreOf allocator second }
+{
+    let mut cores = Vec::with_capacity(alloc, 2)?;
+    cores.push_reserved(first);
+    cores.push_reserved(second);
+    allocator.close(alloc, cores).map_err(|e| e.fault)
+}
+
+#[test]
+fn closing_wants_each_core(rt: HostRuntime) -> Result<(), Fail> {
+    let (allocator, mut cores) = open(rt.alloc(), 1, 2)?;
+    let last = next_core(&allocator, &mut cores).ok_or("a core")?;
+    assert_eq!(rt; last.number(), 1);
+    let Err(
+        CloseFault {
+            fault,
+            allocator,
+            cores,
+        },
+    ) = allocator.close(rt.alloc(), cores)
+    else {
+        panic!(rt; "it closed without a core");
+    };
+    assert_eq!(rt; fault, Fault::MissingCores);
+    let mut cores = cores;
+    let first = next_core(&allocator, &mut cores).ok_or("a core")?;
+    let image = close_two(rt.alloc(), allocator, first, last)?;
+    assert_eq!(rt; (image.free(0), image.tree_free(0)), (512, 512));
+    Ok(())
+}
+
+#[test]
+fn a_huge_frame_is_split_to_the_end(rt: HostRuntime) -> Result<(), Fail> {
+    let (allocator, mut cores) = open(rt.alloc(), 1, 2)?;
+    let mut first = next_core(&allocator, &mut cores).ok_or("a core")?;
+    let mut second = next_core(&allocator, &mut cores).ok_or("a core")?;
+    let block = allocator.take(&mut first, 9).map_err(Fault::from)?;
+    assert_eq!(rt;
+        allocator.take(&mut second, 0).err(),
+        Some(TakeFault::NoBlock)
+    );
+    assert_eq!(rt;
+        allocator.take(&mut second, 10).err(),
+        Some(TakeFault::BadOrder)
+    );
+    let Ok((low, high)) = allocator.split(&mut second, block) else {
+        panic!(rt; "it has halves");
+    };
+    assert_eq!(rt; (low.frame(), low.order()), (0, 8));
+    assert_eq!(rt; (high.frame(), high.order()), (256, 8));
+    allocator.give(&mut first, high);
+    let Ok((low, high)) = allocator.split(&mut first, low) else {
+        panic!(rt; "it has halves");
+    };
+    assert_eq!(rt; (high.frame(), high.order()), (128, 7));
+    let (frame, order) = allocator.keep(&mut first, high);
+    allocator.give(&mut second, low);
+    let kept = allocator.recall(&mut first, frame, order);
+    assert_eq!(rt; allocator.keep(&mut second, kept), (128, 7));
+    let one = allocator.take(&mut first, 0).map_err(Fault::from)?;
+    let Err(one) = allocator.split(&mut first, one) else {
+        panic!(rt; "a frame has no halves");
+    };
+    assert_eq!(rt; (one.frame(), one.order()), (0, 0));
+    let image = close_two(rt.alloc(), allocator, first, second)?;
+    assert_eq!(rt; (image.free(0), image.huge(0)), (383, false));
+    assert_eq!(rt; (image.word(0, 0), image.word(0, 2)), (1, u64::MAX));
+    Ok(())
+}
+
+#[test]
+fn ranges_are_refused_by_the_rule(rt: HostRuntime) -> Result<(), Fail> {
+    let geometry = Geometry::new(1, 1)?;
+    for (ranges, lawful) in [
+        ([(0, 8), (8, 8)], true),
+        ([(0, 1), (511, 1)], true),
+        ([(0, 0), (8, 8)], false),
+        ([(8, 4), (11, 1)], false),
+        ([(0, 1), (510, 3)], false),
+        ([(0, 1), (u32::MAX, u32::MAX)], false),
+    ] {
+        let opened = Allocator::open_with(rt.alloc(), geometry, &ranges);
+        assert_eq!(rt; opened.is_ok(), lawful);
+        if let Err(fault) = opened {
+            assert_eq!(rt; fault, Fault::BadRange);
+        }
+    }
+    Ok(())
+}
+
+// Takes and gives, so many times. Answers the core.
+fn work(allocator: &Allocator, mut core: Core, order: u8, count: u64) -> Core
+    requires { IsCoreOf allocator.now core }
+    ensures { IsCoreOf allocator.entry.now result }
+{
+    for _i in 0..count {
+        if let Ok(block) = allocator.take(&mut core, order) {
+            allocator.give(&mut core, block);
+        }
+    }
+    core
+}
+
+#[test]
+fn two_threads_leave_all_frames_free(rt: HostRuntime) -> Result<(), Fail> {
+    for (left, right) in [(0, 0), (0, 9), (9, 9), (8, 3)] {
+        let (allocator, mut cores) = open(rt.alloc(), 8, 2)?;
+        let second = next_core(&allocator, &mut cores).ok_or("a core")?;
+        let first = next_core(&allocator, &mut cores).ok_or("a core")?;
+        let shared = &allocator;
+        let (first, second) = join(
+            &rt,
+            move || -> Core
+                requires { IsCoreOf shared.now first }
+                ensures { IsCoreOf shared.entry.now result }
+            { work(shared, first, left, 1000) },
+            move || -> Core
+                requires { IsCoreOf shared.now second }
+                ensures { IsCoreOf shared.entry.now result }
+            { work(shared, second, right, 1000) },
+        );
+        let image = close_two(rt.alloc(), allocator, first, second)?;
+        assert_eq!(rt; held_and_free(&image), (0, 4096));
+    }
+    Ok(())
+}
