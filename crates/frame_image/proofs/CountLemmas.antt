@@ -1,5 +1,7 @@
 -- Held frames and clear blocks, counted from halves and from parts.
-use Rattle.std.proofs.Common.{◌≡◌, ◌∙◌, ⊎_elim, ℕ, zero, suc, ◌+◌, ◌-◌, ◌*◌, ◌/◌, ◌%◌, ◌^◌, ◌<◌, ◌≤◌, List, length, get_or, map, replicate, set, min, max, refl, ap, sym, arith}
+use Rattle.std.proofs.Common.{◌≡◌, ◌∙◌, ⊎_elim, ℕ, zero, suc, ◌+◌, ◌-◌, ◌*◌, ◌/◌, ◌%◌, ◌^◌, ◌<◌}
+use Rattle.std.proofs.Common.{◌≤◌, List, length, get_or, map, replicate, set, min, max, refl, ap}
+use Rattle.std.proofs.Common.{sym, arith}
 use Rattle.std.specs.Prelude.{nat_eq, slice_index, if◌then◌else◌}
 use Rattle.std.specs.List.{sum_by, range_with_len}
 use Rattle.std.specs.Int.{bit_at}

@@ -1,8 +1,12 @@
 -- How the records that a reader gives one by one follow what the whole text says.
-use Rattle.std.proofs.Common.{Bor, ◌≡◌, ◌+◌, ◌-◌, ◌<◌, ◌≤◌, ℕ, zero, suc, List, [], ◌∷◌, ◌++◌, length, Bool, true, false, Option, Some, None, refl, ap, arith, add-one}
+use Rattle.std.proofs.Common.{Bor, ◌≡◌, ◌+◌, ◌-◌, ◌<◌, ◌≤◌, ℕ, zero, suc, List, [], ◌∷◌, ◌++◌}
+use Rattle.std.proofs.Common.{length, Bool, true, false, Option, Some, None, refl, ap, arith}
+use Rattle.std.proofs.Common.{add-one}
 use Rattle.std.specs.Prelude.{if◌then◌else◌, ◌==◌, ◌&&◌}
 use Rattle.csv.proofs.ReadFacts.{rows-end, rows-more}
-use Rattle.csv.specs.Machine.{Read, after_end, carriage_return, ends_at_end, ends_with, fields_after, field_after, in_field, is_byte, is_end, line_feed, next_record, start_field, start_record, step}
+use Rattle.csv.specs.Machine.{Read, after_end, carriage_return, ends_at_end, ends_with}
+use Rattle.csv.specs.Machine.{fields_after, field_after, in_field, is_byte, is_end, line_feed}
+use Rattle.csv.specs.Machine.{next_record, start_field, start_record, step}
 use Rattle.csv.specs.Reading.{Reached, ReadRecord, default_config, records_from, source_of, strip_bom}
 use Rattle.csv.specs.declared.parser.Action.{Action}
 use Rattle.csv.specs.declared.parser.Config.{Config}
@@ -178,7 +182,8 @@ pub left_more : (a b : Reader (Bor (List ℕ))) (row : List (List ℕ))
     → IsReading a → ReadRecord in_memory a b true row → Took a b row
 unfolding records_left
 left_more a b row is read =
-    let more = rows-more in_memory a b row default_config a.state (bytes_left a) (bytes_left a) [] is.config is.known (nothing_read a.state (bytes_left a)) read in
+    let more = rows-more in_memory a b row default_config a.state (bytes_left a) (bytes_left a) []
+    is.config is.known (nothing_read a.state (bytes_left a)) read in
     let begun = records_begun a.state b.state (bytes_left a) more.0 row (begins_from _ _ _ _ _ more.2) is.between in
     record {
       known = rw more.1 refl;

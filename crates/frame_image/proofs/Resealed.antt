@@ -2,8 +2,7 @@
 use Rattle.std.proofs.Common.{false, List, [], ℕ}
 use Rattle.frame_words.specs.declared.geometry.Geometry.{Geometry}
 use Rattle.frame_core.specs.Key.{key_of}
-use Rattle.frame_core.specs.Words.{bits_place, tree_place, local_place, tree_word_of, tree_free_of, reserved_of, local_word_of, rest_of, bit_word_of, set_of}
-use Rattle.frame_core.specs.Rebuilt.{rebuilt_free, rebuilt_in_tree, rebuilt_bits, IsRebuilt}
+use Rattle.frame_core.specs.Rebuilt.{IsRebuilt}
 use Rattle.frame_core.specs.Plain.{plain_key}
 use Rattle.frame_model.proofs.HeldBack.{rebuilt_held_back}
 

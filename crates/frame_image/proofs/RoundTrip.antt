@@ -1,5 +1,7 @@
 -- What is written of an image is read back as that image.
-use Rattle.std.proofs.Common.{◌≡◌, ◌∙◌, ⊎_elim, ℕ, zero, suc, ◌+◌, ◌-◌, ◌*◌, ◌/◌, ◌%◌, ◌^◌, ◌<◌, ◌≤◌, List, [], length, map, true, false, Option, Some, None, refl, ap, arith}
+use Rattle.std.proofs.Common.{◌≡◌, ◌∙◌, ⊎_elim, ℕ, zero, suc, ◌+◌, ◌-◌, ◌*◌, ◌/◌, ◌%◌, ◌^◌, ◌<◌}
+use Rattle.std.proofs.Common.{◌≤◌, List, [], length, map, true, false, Option, Some, None, refl, ap}
+use Rattle.std.proofs.Common.{arith}
 use Rattle.std.specs.Prelude.{nat_eq, nat_lt, nat_le, ◌==◌, codes, decimal, slice_index}
 use Rattle.std.specs.List.{range_with_len}
 use Rattle.std.specs.Int.{bit_at}
@@ -14,7 +16,10 @@ use Rattle.frame_core.specs.Key.{tree_count, size_of, AreSizes}
 use Rattle.frame_core.specs.Words.{free_of, huge_of, tree_free_of, reserved_of, rest_of, bit_word_of, bit_of, with_tree, with_local}
 use Rattle.frame_core.specs.Image.{IsImage, FitsTree, with_child}
 use Rattle.frame_image.specs.Hex.{words_in, hex_text}
-use Rattle.frame_image.specs.ImageText.{frames_in, keeps_end, all_set_from, child_said, child_bits, child_with, child_row, is_named, fields_with, part_with, tree_said, tree_with, tree_row, reservation_said, rest_said, core_with, rest_row, core_row}
+use Rattle.frame_image.specs.ImageText.{frames_in, keeps_end, all_set_from, child_said, child_bits}
+use Rattle.frame_image.specs.ImageText.{child_with, child_row, is_named, fields_with, part_with}
+use Rattle.frame_image.specs.ImageText.{tree_said, tree_with, tree_row, reservation_said, rest_said}
+use Rattle.frame_image.specs.ImageText.{core_with, rest_row, core_row}
 use Rattle.frame_image.proofs.HexLemmas.{AreWords, words_in-hex_text}
 use Rattle.frame_image.proofs.NumberLemmas.{number_below-decimal, spells-decimal, flag_said-decimal, flag_of_test}
 use Rattle.frame_image.proofs.Ranges.{set_from}

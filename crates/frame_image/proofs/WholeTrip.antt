@@ -1,5 +1,7 @@
 -- The text of an image is read back as the image.
-use Rattle.std.proofs.Common.{◌≡◌, ◌∙◌, ⊎_elim, ℕ, zero, suc, ◌+◌, ◌-◌, ◌*◌, ◌<◌, List, [], ◌∷◌, ◌++◌, map, Bool, true, false, Option, Some, None, Result, Ok, refl, ap, sym, subst, arith}
+use Rattle.std.proofs.Common.{◌≡◌, ◌∙◌, ⊎_elim, ℕ, zero, suc, ◌+◌, ◌-◌, ◌*◌, ◌<◌, List, [], ◌∷◌}
+use Rattle.std.proofs.Common.{◌++◌, map, Bool, true, false, Option, Some, None, Result, Ok, refl}
+use Rattle.std.proofs.Common.{ap, sym, subst, arith}
 use Rattle.std.specs.Prelude.{nat_eq, nat_lt, nat_le, codes, decimal}
 use Rattle.std.specs.List.{range_with_len}
 use Rattle.std.proofs.lemmas.Bool.{cases_eq}
@@ -14,7 +16,11 @@ use Rattle.frame_core.specs.Words.{rest_of}
 use Rattle.frame_core.specs.Image.{Contents, IsImage, key_in, blank_words}
 use Rattle.frame_core.proofs.Blank.{blank_image}
 use Rattle.frame_image.specs.Records.{records_of}
-use Rattle.frame_image.specs.ImageText.{drawn, part_count, parts_from, key_with, frames_said, sizes_said, named_sizes, header_said, header_row, image_behind, image_in, image_of, child_row, tree_row, core_row, rest_row, child_rows, tree_rows, core_rows, rows_of, part_rows, text_of, picture_of}
+use Rattle.frame_image.specs.ImageText.{drawn, part_count, parts_from, key_with, frames_said}
+use Rattle.frame_image.specs.ImageText.{sizes_said, named_sizes, header_said, header_row}
+use Rattle.frame_image.specs.ImageText.{image_behind, image_in, image_of, child_row, tree_row}
+use Rattle.frame_image.specs.ImageText.{core_row, rest_row, child_rows, tree_rows, core_rows}
+use Rattle.frame_image.specs.ImageText.{rows_of, part_rows, text_of, picture_of}
 use Rattle.frame_image.proofs.NumberLemmas.{number_below-decimal}
 use Rattle.frame_image.proofs.PartLemmas.{parts_more, parts_all}
 use Rattle.frame_core.proofs.SameWords.{same_words}

@@ -1,5 +1,7 @@
 -- How texts grow by one record, and digits by one word.
-use Rattle.std.proofs.Common.{Option, ◌≡◌, ◌∙◌, ℕ, suc, ◌+◌, ◌-◌, ◌*◌, ◌/◌, ◌%◌, ◌^◌, ◌<◌, List, [], ◌∷◌, ◌++◌, map, take, length, length-take, get_or, false, refl, ap, sym, arith, append_assoc}
+use Rattle.std.proofs.Common.{Option, ◌≡◌, ◌∙◌, ℕ, suc, ◌+◌, ◌-◌, ◌*◌, ◌/◌, ◌%◌, ◌^◌, ◌<◌, List, []}
+use Rattle.std.proofs.Common.{◌∷◌, ◌++◌, map, take, length, length-take, get_or, false, refl, ap}
+use Rattle.std.proofs.Common.{sym, arith, append_assoc}
 use Rattle.std.specs.Prelude.{bit_and, codes, decimal}
 use Rattle.std.specs.List.{flat_map, range_with_len}
 use Rattle.std.specs.Fmt.{digit_glyph}

@@ -5,6 +5,7 @@ ghost use Rattle.std.specs.Prelude.{IfErr, IfOk, IfSome, IsErrOf, OnOk};
 ghost use Rattle.std.specs.Bool.{OnTrue, OnFalse};
 ghost use Rattle.csv.specs.Records.{fields_of};
 ghost use Rattle.frame_core.specs.Image.{key_in};
+ghost use Rattle.frame_core.specs.Key.{key_of};
 ghost use Rattle.frame_image.specs.ImageText as Spec;
 ghost use Rattle.frame_image.specs.ImageText.{drawn, Explains, ExplainsParts, IsReadingFault};
 ghost use Rattle.frame_image.specs.Devices.{device_of, has_failed};
@@ -17,7 +18,7 @@ use crate::record_reader::RecordReader;
 use crate::watched::Watched;
 use csv::ByteRecord;
 use frame_core::Image;
-use frame_words::Fault;
+use frame_words::{Fault, Geometry};
 use std::alloc::Global;
 use std::io::Read;
 
@@ -74,8 +75,7 @@ fn read_parts(
     ensures refused { IfErr result (λ e.
         ExplainsParts e (Spec.parts_from (key_in image) 0 image.words records.old.rows)) }
 {
-    let geometry = image.geometry();
-    let parts = geometry.children() + geometry.trees() + geometry.cores();
+    let parts = part_count(image.geometry());
     let mut part = 0;
     loop {
         let line = part + 2;
@@ -91,6 +91,13 @@ fn read_parts(
         }
         part += 1;
     }
+}
+
+// How many parts an image has: its children, its trees and its cores.
+fn part_count(geometry: Geometry) -> u32
+    ensures { result ≡ Spec.part_count (key_of geometry) }
+{
+    geometry.children() + geometry.trees() + geometry.cores()
 }
 
 // Writes a part of the image as a record says it; `false` where the record is no such part.

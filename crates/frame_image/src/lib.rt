@@ -34,6 +34,3 @@ pub use reopening::reopen;
 pub use report_writer::report_text;
 pub use totals::Report;
 pub use watched::Watched;
-
-#[cfg(test)]
-mod tests;

@@ -14,30 +14,15 @@ pub returns-then-part-parts-clause-found : goal.returns-then-part-parts-clause-f
 unfolding parts
 returns-then-part-parts-clause-found c =
     let all : c.loop-image.part ≡ part_count (key_in c.args.image) =
-    omega (
-      arith,
-      c.if-part-parts.true,
-      c.children.ensures.value,
-      c.trees.ensures.value,
-      c.cores.ensures.value,
-      ap parts
-          c.geometry-geometry.ensures.value,
-    ) in
+    omega (arith, c.if-part-parts.true, c.part_count-parts.ensures, ap parts c.geometry.ensures.value) in
     c.loop-image.invariant.reads ∙ rw (c.in_ok-read.ensures.none c.if-not-branch.true) (parts_all _ _ _ all)
 
 pub returns-else-part-parts-clause-refused : goal.returns-else-part-parts-clause-refused
 unfolding parts
 returns-else-part-parts-clause-refused c =
     let some : c.loop-image.part ≢ part_count (key_in c.args.image) =
-    λ e. c.if-part-parts.false (omega (
-      arith,
-      e,
-      c.children.ensures.value,
-      c.trees.ensures.value,
-      c.cores.ensures.value,
-      ap parts
-          c.geometry-geometry.ensures.value,
-    )) in
+    λ e. c.if-part-parts.false
+    (omega (arith, e, c.part_count-parts.ensures, ap parts c.geometry.ensures.value)) in
     c.loop-image.invariant.reads ∙ rw (c.in_ok-read.ensures.none c.if-not-branch.true) (parts_missing _ _ _ some)
 
 pub returns-then-not-read_part-clause-refused : goal.returns-then-not-read_part-clause-refused

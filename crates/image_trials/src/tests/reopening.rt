@@ -6,9 +6,9 @@ ghost use Rattle.core_frames.specs.Cores.{IsCoreOf};
 ghost use Rattle.core_frames.specs.Left.{IsSurvivorsOf};
 
 use super::texts::{CUT, HURT, SPLIT, spelled};
-use crate::{image_of, rebuild, reopen};
 use core_frames::{Allocator, Core, Survivors};
 use frame_core::{HeldBlock, Image};
+use frame_image::{image_of, rebuild, reopen};
 use frame_words::Fault;
 use std::alloc::Global;
 use std::process::Abort;

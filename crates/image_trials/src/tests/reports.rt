@@ -1,7 +1,7 @@
 //! Reports, counted by hand.
 
 use super::texts::{CUT, HURT, ONE_HELD, SPLIT, spelled};
-use crate::{Report, image_of, report, report_text};
+use frame_image::{Report, image_of, report, report_text};
 use frame_words::Fault;
 use std::alloc::Global;
 use std::test::Fail;

@@ -1,4 +1,4 @@
-use crate::{MOST_BYTES, Watched, read_all, write_out};
+use frame_image::{MOST_BYTES, Watched, read_all, write_out};
 use frame_words::Fault;
 use std::cell::Cell;
 use std::io::{Error, ErrorKind, Read, Result as IoResult, Write};
