@@ -271,45 +271,44 @@ round_ran al old lines done answers new all m is =
           rw (own, here) ran.run;
     }
 
--- the next answer is put last
-pub merge_on : (lines : List Ask) (done : List Done) (i : ℕ) (next : List ℕ) (all : List Answer) (d : Ask) (e : Done)
-    (k n : ℕ) (answer : Answer) → Fitting lines done → Merging lines done i next all → i < length lines
-    → k ≡ (get_or lines i d).core → n ≡ get_or next k 0 → answer ≡ get_or (get_or done k e).answers.items n answer
-    → Merging lines done (i + 1) (set next k (n + 1)) (all ++ answer ∷ [])
-merge_on lines done i next all d e k n answer fit m lt is here found =
-    let c : ℕ = (get_or lines i d).core in
-    let more = goes_on lines done i next all d e answer fit m lt in
-    let count : n ≡ get_or next c 0 = here ∙ ap (λ (j : ℕ). get_or next j 0) is in
-    let found_c : answer ≡ get_or (get_or done c e).answers.items (get_or next c 0) answer =
-    found ∙ ap₂ (λ (j h : ℕ). get_or (get_or done j e).answers.items h answer) is count in
-    let P : Answer → Type 0 = λ x. Merging lines done (i + 1) (set next c (get_or next c 0 + 1)) (all ++ x ∷ []) in
-    let Q : ℕ → Type 0 = λ h. Merging lines done (i + 1) (set next c (h + 1)) (all ++ answer ∷ []) in
-    let R : ℕ → Type 0 = λ j. Merging lines done (i + 1) (set next j (n + 1)) (all ++ answer ∷ []) in
-    subst R (sym is) (subst Q (sym count) (subst P (sym found_c) more))
-
-pub room_at : (lines : List Ask) (done : List Done) (i : ℕ) (next : List ℕ) (all : List Answer) (d : Ask) (e : Done) (k : ℕ)
-    → Fitting lines done → Merging lines done i next all → i < length lines → k ≡ (get_or lines i d).core
-    → get_or next k 0 < length (get_or done k e).answers.items
-room_at lines done i next all d e k fit m lt is =
-    let R : ℕ → Type 0 = λ j. get_or next j 0 < length (get_or done j e).answers.items in
-    subst R (sym is) (room lines done i next all d e fit m lt)
-
 -- what a request is by itself
 pub blank : Ask
 blank = record { number = 0; core = 0; request = request.GiveAt 0 0 }
 
--- the core of a line is that of its request, and has a place
-pub core_is : (first : ℕ) (lines : List Line) (i : ℕ) (item : Line) (core : ℕ) → All IsAsk lines → i < length lines
-    → item ≡ get_or lines i item → core ≡ ask_core item → core ≡ (get_or (asks_from first lines) i blank).core
-core_is first lines i item core all lt is named =
-    named ∙ (ap ask_core is ∙ sym (ask_core_is first lines i item blank all lt))
+-- the turn of a request: it has a place, and so has its core
+pub record Turn (lines : List Ask) (done : List Done) (i core : ℕ) : Type 0 where
+  pub within : i < length lines
+  pub is : core ≡ (get_or lines i blank).core
+  pub low : core < length done
 
-pub core_low : (first : ℕ) (lines : List Line) (i : ℕ) (item : Line) (core : ℕ) (done : List Done) → All IsAsk lines
+pub turn_of : (first : ℕ) (lines : List Line) (i : ℕ) (item : Line) (core : ℕ) (done : List Done) → All IsAsk lines
     → i < length lines → item ≡ get_or lines i item → core ≡ ask_core item → Fitting (asks_from first lines) done
-    → core < length done
-core_low first lines i item core done all lt is named fit =
+    → Turn (asks_from first lines) done i core
+turn_of first lines i item core done all lt item_is named fit =
     let within : i < length (asks_from first lines) = omega (arith, ask_count first lines all, lt) in
-    omega (arith, core_is first lines i item core all lt is named, fit.inside i blank within)
+    let is = named ∙ (ap ask_core item_is ∙ sym (ask_core_is first lines i item blank all lt)) in
+    record { within = within; is = is; low = omega (arith, is, fit.inside i blank within) }
 
-pub used_is : (next : List ℕ) (core n : ℕ) → core < length next → n ≡ get_or next core n → n ≡ get_or next core 0
-used_is next core n low is = is ∙ get_or_default next core n 0 low
+-- its core has an answer left
+pub room_at : (lines : List Ask) (done : List Done) (i : ℕ) (next : List ℕ) (all : List Answer) (e : Done) (k : ℕ)
+    → Fitting lines done → Merging lines done i next all → Turn lines done i k
+    → get_or next k 0 < length (get_or done k e).answers.items
+room_at lines done i next all e k fit m turn =
+    let R : ℕ → Type 0 = λ j. get_or next j 0 < length (get_or done j e).answers.items in
+    subst R (sym turn.is) (room lines done i next all blank e fit m turn.within)
+
+-- which is put last
+pub merge_on : (lines : List Ask) (done : List Done) (i : ℕ) (next : List ℕ) (all : List Answer) (e : Done)
+    (k : ℕ) (answer : Answer) → Fitting lines done → Merging lines done i next all → Turn lines done i k
+    → answer ≡ get_or (get_or done k e).answers.items (get_or next k 0) answer
+    → Merging lines done (i + 1) (set next k (get_or next k 0 + 1)) (all ++ answer ∷ [])
+merge_on lines done i next all e k answer fit m turn found =
+    let c : ℕ = (get_or lines i blank).core in
+    let more = goes_on lines done i next all blank e answer fit m turn.within in
+    let found_c : answer ≡ get_or (get_or done c e).answers.items (get_or next c 0) answer =
+    found ∙ ap (λ (j : ℕ). get_or (get_or done j e).answers.items (get_or next j 0) answer) turn.is in
+    let P : Answer → Type 0 =
+    λ x. Merging lines done (i + 1) (set next c (get_or next c 0 + 1)) (all ++ x ∷ []) in
+    let R : ℕ → Type 0 =
+    λ j. Merging lines done (i + 1) (set next j (get_or next j 0 + 1)) (all ++ answer ∷ []) in
+    subst R (sym turn.is) (subst P (sym found_c) more)

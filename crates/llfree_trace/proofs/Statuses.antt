@@ -6,10 +6,10 @@ use Rattle.frame_words.specs.declared.fault.Fault.{Fault}
 use Rattle.frame_words.specs.declared.fault.Fault.TheVariants as fault
 use Rattle.frame_words.specs.declared.geometry.Geometry.{Geometry}
 use Rattle.frame_image.specs.ImageText.{image_of}
-use Rattle.llfree_trace.specs.ImageStreams.{IsImageFault}
+use Rattle.llfree_trace.specs.ImageStreams.{EndsImage}
 use Rattle.llfree_trace.specs.Program.{AreLawful, CanDo, Does, EndsCommand, IsOfSizes, IsRefused}
 use Rattle.llfree_trace.specs.Program.{IsUnlawful}
-use Rattle.llfree_trace.specs.Streams.{HasBadRanges, IsRunFault}
+use Rattle.llfree_trace.specs.Streams.{EndsRun, HasBadRanges}
 use Rattle.llfree_trace.specs.TraceText.{trace_of}
 use Rattle.llfree_trace.specs.declared.command.Command.{Command}
 use Rattle.llfree_trace.specs.declared.command.Command.TheVariants as command
@@ -37,59 +37,48 @@ refused_image (Some text) line h = rw h refl
 
 -- each fault of a run says why it ended
 run_of : (sizes : Sizes) (show : Show) (g : Geometry) (input : Option (List ℕ)) (f : Fault) → AreLawful sizes
-    → IsOfSizes sizes g → IsRunFault f
-    → ((line : ℕ) → f ≡ fault.BadTrace line → IfSome input (λ text. trace_of g.cores text ≡ Err line))
-    → (f ≡ fault.BadRange → IfSome input (HasBadRanges g))
-    → EndsCommand (command.Run sizes show) input (failure.Refused f)
-run_of sizes show g input fault.NoMemory lawful has is bad range = lawful
-run_of sizes show g input (fault.BadTrace line) lawful has is bad range =
-    (lawful, refused_trace sizes show g input line has (bad line refl))
-run_of sizes show g input fault.BadRange lawful has is bad range =
-    inr (lawful, refused_ranges sizes show g input has (range refl))
-run_of sizes show g input fault.ReadFailed lawful has is bad range = lawful
-run_of sizes show g input fault.WriteFailed lawful has is bad range = lawful
-run_of sizes show g input f lawful has is bad range = absurd is
+    → IsOfSizes sizes g → EndsRun g input f → EndsCommand (command.Run sizes show) input (failure.Refused f)
+run_of sizes show g input fault.NoMemory lawful has why = lawful
+run_of sizes show g input (fault.BadTrace line) lawful has why = (lawful, refused_trace sizes show g input line has why)
+run_of sizes show g input fault.BadRange lawful has why = inr (lawful, refused_ranges sizes show g input has why)
+run_of sizes show g input fault.ReadFailed lawful has why = lawful
+run_of sizes show g input fault.WriteFailed lawful has why = lawful
+run_of sizes show g input f lawful has why = absurd why
 
 pub run_ends : (c : Command) (sizes : Sizes) (show : Show) (g : Geometry) (input : Option (List ℕ)) (f : Fault)
-    → c ≡ command.Run sizes show → AreLawful sizes → IsOfSizes sizes g → IsRunFault f
-    → ((line : ℕ) → f ≡ fault.BadTrace line → IfSome input (λ text. trace_of g.cores text ≡ Err line))
-    → (f ≡ fault.BadRange → IfSome input (HasBadRanges g))
+    → c ≡ command.Run sizes show → AreLawful sizes → IsOfSizes sizes g → EndsRun g input f
     → EndsCommand c input (failure.Refused f)
-run_ends c sizes show g input f e lawful has is bad range =
+run_ends c sizes show g input f e lawful has why =
     subst (λ (k : Command). EndsCommand k input (failure.Refused f)) (sym e)
-    (run_of sizes show g input f lawful has is bad range)
+    (run_of sizes show g input f lawful has why)
 
 -- and each of rebuilding
-rebuild_of : (input : Option (List ℕ)) (f : Fault) → IsImageFault f
-    → ((line : ℕ) → f ≡ fault.BadImage line → IfSome input (λ text. image_of text ≡ Err line))
+rebuild_of : (input : Option (List ℕ)) (f : Fault) → EndsImage input f
     → EndsCommand command.Rebuild input (failure.Refused f)
-rebuild_of input fault.NoMemory is bad = tt
-rebuild_of input (fault.BadImage line) is bad = (tt, refused_image input line (bad line refl))
-rebuild_of input fault.ReadFailed is bad = tt
-rebuild_of input fault.WriteFailed is bad = tt
-rebuild_of input f is bad = absurd is
+rebuild_of input fault.NoMemory why = tt
+rebuild_of input (fault.BadImage line) why = (tt, refused_image input line why)
+rebuild_of input fault.ReadFailed why = tt
+rebuild_of input fault.WriteFailed why = tt
+rebuild_of input f why = absurd why
 
-pub rebuild_ends : (c : Command) (input : Option (List ℕ)) (f : Fault) → c ≡ command.Rebuild → IsImageFault f
-    → ((line : ℕ) → f ≡ fault.BadImage line → IfSome input (λ text. image_of text ≡ Err line))
+pub rebuild_ends : (c : Command) (input : Option (List ℕ)) (f : Fault) → c ≡ command.Rebuild → EndsImage input f
     → EndsCommand c input (failure.Refused f)
-rebuild_ends c input f e is bad =
-    subst (λ (k : Command). EndsCommand k input (failure.Refused f)) (sym e) (rebuild_of input f is bad)
+rebuild_ends c input f e why =
+    subst (λ (k : Command). EndsCommand k input (failure.Refused f)) (sym e) (rebuild_of input f why)
 
 -- and of a report
-report_of : (input : Option (List ℕ)) (f : Fault) → IsImageFault f
-    → ((line : ℕ) → f ≡ fault.BadImage line → IfSome input (λ text. image_of text ≡ Err line))
+report_of : (input : Option (List ℕ)) (f : Fault) → EndsImage input f
     → EndsCommand command.Report input (failure.Refused f)
-report_of input fault.NoMemory is bad = tt
-report_of input (fault.BadImage line) is bad = (tt, refused_image input line (bad line refl))
-report_of input fault.ReadFailed is bad = tt
-report_of input fault.WriteFailed is bad = tt
-report_of input f is bad = absurd is
+report_of input fault.NoMemory why = tt
+report_of input (fault.BadImage line) why = (tt, refused_image input line why)
+report_of input fault.ReadFailed why = tt
+report_of input fault.WriteFailed why = tt
+report_of input f why = absurd why
 
-pub report_ends : (c : Command) (input : Option (List ℕ)) (f : Fault) → c ≡ command.Report → IsImageFault f
-    → ((line : ℕ) → f ≡ fault.BadImage line → IfSome input (λ text. image_of text ≡ Err line))
+pub report_ends : (c : Command) (input : Option (List ℕ)) (f : Fault) → c ≡ command.Report → EndsImage input f
     → EndsCommand c input (failure.Refused f)
-report_ends c input f e is bad =
-    subst (λ (k : Command). EndsCommand k input (failure.Refused f)) (sym e) (report_of input f is bad)
+report_ends c input f e why =
+    subst (λ (k : Command). EndsCommand k input (failure.Refused f)) (sym e) (report_of input f why)
 
 -- What was done could be done.
 

@@ -1,5 +1,5 @@
 -- What rebuilding and reporting from a reader to a writer write.
-use Rattle.std.specs.Prelude.{ℕ, ◌≡◌, List, Option, Ok}
+use Rattle.std.specs.Prelude.{ℕ, ◌≡◌, List, Option, Ok, Err, IfSome}
 use Rattle.std.specs.Io.KnownBytes.{Appends}
 use Rattle.frame_model.specs.declared.key.Key.{Key}
 use Rattle.frame_core.specs.Rebuilt.{IsRebuilt}
@@ -35,10 +35,10 @@ abbrev pub WritesFrontSo : (List ℕ → List ℕ → Type 0) → List ℕ → O
     → Option (List ℕ) → Type 0
 WritesFrontSo is text old new = (out : List ℕ) × is text out × WritesFront old new out
 
--- the faults of a command on images
-abbrev pub IsImageFault : Fault → Type 0
-IsImageFault fault.NoMemory = Unit {0}
-IsImageFault (fault.BadImage line) = Unit {0}
-IsImageFault fault.ReadFailed = Unit {0}
-IsImageFault fault.WriteFailed = Unit {0}
-IsImageFault _ = ⊥
+-- why a command on what a reader had left was refused: a bad record is the lowest of that text
+abbrev pub EndsImage : Option (List ℕ) → Fault → Type 0
+EndsImage left (fault.BadImage line) = IfSome left (λ text. image_of text ≡ Err line)
+EndsImage left fault.NoMemory = Unit {0}
+EndsImage left fault.ReadFailed = Unit {0}
+EndsImage left fault.WriteFailed = Unit {0}
+EndsImage left _ = ⊥

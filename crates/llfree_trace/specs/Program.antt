@@ -1,6 +1,6 @@
 -- What a command does, why it ends without a result, and the status of the program.
 use Rattle.std.specs.Prelude.{ℕ, ◌≡◌, ◌⊎◌, ◌*◌, List, Option, None, unwrap_or}
-use Rattle.std.specs.Prelude.{◌≢◌, IfSome, IsSomeAnd, IsErr}
+use Rattle.std.specs.Prelude.{◌≢◌, Bool, true, Result, IfSome, IsSomeAnd, IsErr, IsErrOf}
 use Rattle.frame_image.specs.ImageText.{image_of}
 use Rattle.frame_words.specs.Geometry.{IsWithinLimits, EndsInLastChild, child_frames}
 use Rattle.frame_words.specs.declared.fault.Fault.{Fault}
@@ -9,7 +9,7 @@ use Rattle.frame_words.specs.declared.geometry.Geometry.{Geometry}
 use Rattle.llfree_trace.specs.Command.{command_of}
 use Rattle.llfree_trace.specs.ImageStreams.{IsRebuiltText, IsReportText, WritesSo, WritesFrontSo}
 use Rattle.llfree_trace.specs.ManyStreams.{WritesFrontOfManyRun, WritesManyRun}
-use Rattle.llfree_trace.specs.Streams.{HasBadRanges, WritesFrontOfRun, WritesRun}
+use Rattle.llfree_trace.specs.Streams.{HasBadRanges, IsTooLong, WritesFrontOfRun, WritesRun}
 use Rattle.llfree_trace.specs.TraceText.{trace_of}
 use Rattle.llfree_trace.specs.declared.command.Command.{Command}
 use Rattle.llfree_trace.specs.declared.command.Command.TheVariants as command
@@ -143,6 +143,15 @@ EndsCommand c input (failure.Refused fault.NoMemory) = CanDo c
 EndsCommand c input (failure.Refused fault.ReadFailed) = CanDo c
 EndsCommand c input (failure.Refused fault.WriteFailed) = CanDo c
 EndsCommand c input (failure.Refused _) = ⊥
+
+-- a failed read ends a command as such, and no text that is too long is served
+pub record StopsAtReading {T : Type 0} (failed : Bool) (left : Option (List ℕ))
+    (result : Result T Failure) : Type 0 where
+  pub failed_read : failed ≡ true → IsErrOf result (failure.Refused fault.ReadFailed)
+  pub too_long :
+      IsTooLong left
+      → IsErrOf result (failure.Refused fault.ReadFailed)
+      ⊎ IsErrOf result (failure.Refused fault.NoMemory)
 
 -- why a command line ended without a result: the words are no command, or the command ended so
 abbrev pub EndsWords : List (List ℕ) → Option (List ℕ) → Failure → Type 0

@@ -1,6 +1,6 @@
 -- A round: what the desks of several cores answer to requests, each core on a thread of its own.
 use Rattle.std.specs.Prelude.{ℕ, ℤ, ◌≡◌, ◌≢◌, ◌==◌, ◌+◌, ◌<◌, List, [], ◌∷◌, ◌++◌, filter, map, length}
-use Rattle.std.specs.Prelude.{slice_index_or, Result, Ok, Err}
+use Rattle.std.specs.Prelude.{◌≤◌, take, slice_index_or, Result, Ok, Err}
 use Rattle.std.specs.List.{All}
 use Rattle.frame_model.specs.declared.key.Key.{Key}
 use Rattle.frame_table.specs.Closing.{lent_through}
@@ -21,6 +21,7 @@ use Rattle.llfree_trace.specs.declared.progress.Progress.{Progress}
 use Rattle.llfree_trace.specs.declared.reply.Answer.{Answer}
 use Rattle.llfree_trace.specs.declared.reply.Reply.{Reply}
 use Rattle.llfree_trace.specs.declared.reply.Reply.TheVariants as reply
+use Rattle.llfree_trace.specs.declared.rounds.Running.{Running}
 
 -- Replies.
 
@@ -103,6 +104,15 @@ pub record Ran (a : Allocator) (core : ℕ) (old : Desk) (asks : List Ask) (done
   pub run : DeskRun (memory_of a) (list_of old) (asks_by core asks) done.answers.items
       (list_of done.desk)
 
+-- the promise of a core's thread is that these records run so from this desk
+pub record IsPromiseOf (a : Allocator) (own : ℕ) (desk : Desk) (number : ℕ) (records : List Line)
+    (promise : Running) : Type 0 where
+  pub allocator : promise.allocator.now ≡ a
+  pub core : promise.core ≡ own
+  pub was : promise.was.value ≡ desk
+  pub first : promise.first ≡ number
+  pub lines : promise.lines.now ≡ records
+
 -- each desk of the list, from a core on, ran the requests of its core
 abbrev pub RanAll : Allocator → ℕ → List Desk → List Ask → List Done → Type 0
 RanAll a core [] asks [] = Unit {0}
@@ -168,3 +178,10 @@ pub record GoesOn (a : Allocator) (number : ℕ) (lines : List Line) (old new : 
   pub desks : All (IsDeskOf a) new.desks.items
   pub width : length new.desks.items ≡ length old.desks.items
   pub lent : lent_by_desks new.desks.items ≡ lent_by_desks old.desks.items
+
+-- the first of these records, so many and at least one, were answered so
+pub record GoesOnBy (a : Allocator) (number : ℕ) (lines : List Line) (old new : Progress) (count : ℕ)
+    : Type 0 where
+  pub some : 0 < count
+  pub within : count ≤ length lines
+  pub goes : GoesOn a number (take count lines) old new

@@ -1,5 +1,6 @@
 -- What a run from a reader to a writer writes.
-use Rattle.std.specs.Prelude.{ℕ, ◌≡◌, ◌<◌, List, length, Option, Ok, IsSomeAnd}
+use Rattle.std.specs.Prelude.{ℕ, ◌≡◌, ◌<◌, ◌⊎◌, Bool, true, List, length, Option, Result, Ok, Err}
+use Rattle.std.specs.Prelude.{IfSome, IsErrOf, IsSomeAnd}
 use Rattle.core_frames.specs.Ranges.{MayHoldBack}
 use Rattle.std.specs.Io.KnownBytes.{Appends}
 use Rattle.frame_core.specs.Image.{Contents, key_in}
@@ -69,11 +70,24 @@ abbrev pub ExplainsRun : Geometry → List ℕ → Fault → Type 0
 ExplainsRun geometry text fault.BadRange = HasBadRanges geometry text
 ExplainsRun geometry text f = ExplainsTrace f (trace_of geometry.cores text)
 
--- the faults of a run from a reader to a writer
-abbrev pub IsRunFault : Fault → Type 0
-IsRunFault fault.NoMemory = Unit {0}
-IsRunFault (fault.BadTrace line) = Unit {0}
-IsRunFault fault.BadRange = Unit {0}
-IsRunFault fault.ReadFailed = Unit {0}
-IsRunFault fault.WriteFailed = Unit {0}
-IsRunFault _ = ⊥
+-- why a run of what a reader had left was refused: a bad record is the lowest of that text, and bad
+-- ranges are those of its trace
+abbrev pub EndsRun : Geometry → Option (List ℕ) → Fault → Type 0
+EndsRun geometry left (fault.BadTrace line) =
+    IfSome left (λ text. trace_of geometry.cores text ≡ Err line)
+EndsRun geometry left fault.BadRange = IfSome left (HasBadRanges geometry)
+EndsRun geometry left fault.NoMemory = Unit {0}
+EndsRun geometry left fault.ReadFailed = Unit {0}
+EndsRun geometry left fault.WriteFailed = Unit {0}
+EndsRun geometry left _ = ⊥
+
+-- a failed read is told as such; what is told as such is a failed read or a text that is too long,
+-- if what the reader had left is known; and no text that is too long is served
+pub record TellsReading {T : Type 0} (failed : Bool) (left : Option (List ℕ)) (result : Result T Fault)
+    : Type 0 where
+  pub failed_read : failed ≡ true → IsErrOf result fault.ReadFailed
+  pub is_told :
+      IsErrOf result fault.ReadFailed
+      → (failed ≡ true) ⊎ IfSome left (λ text. MOST_BYTES < length text)
+  pub too_long :
+      IsTooLong left → IsErrOf result fault.ReadFailed ⊎ IsErrOf result fault.NoMemory

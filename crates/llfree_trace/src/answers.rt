@@ -1,6 +1,6 @@
 //! The text of answers.
 
-ghost use Rattle.std.specs.Prelude.{◌≡◌, ◌≤◌, ◌++◌, ◌∷◌, [], decimal, false, length};
+ghost use Rattle.std.specs.Prelude.{◌≡◌, ◌≤◌, ◌+◌, ◌++◌, ◌∷◌, [], codes, decimal, false, length};
 ghost use Rattle.std.specs.Prelude.{IfErr, IfOk, OnOk};
 ghost use Rattle.csv.specs.Writing.{default_writer, needs_quotes, row_text};
 ghost use Rattle.llfree_trace.specs.AnswerText.{answer_row, answers_of, closing_row};
@@ -11,9 +11,10 @@ use crate::row::Row;
 use frame_words::Fault;
 use std::alloc::Global;
 
-// The text of answers, and of how many frames are held and free after them.
+/// The text of answers, a record each, and last how many frames are held and free after them; the only fault is
+/// want of memory.
 #[tactic(auto, unfolding(crate::specs::AnswerText::answers_of))]
-pub(crate) fn answers_text(
+pub fn answers_text(
     alloc: Global,
     answers: &[Answer],
     held: u32,
@@ -65,10 +66,7 @@ fn write_block(
     row.put_number(frame);
     row.put_byte(b',');
     row.put_word(word.as_slice());
-    row.put_byte(b',');
-    row.put_number(answer.core);
-    row.put_byte(b',');
-    row.put_number(answer.line);
+    put_place(&mut row, answer);
     text.extend_from_slice(row.as_slice())?;
     Ok(())
 }
@@ -82,12 +80,22 @@ fn write_refusal(text: &mut Vec<u8>, answer: Answer, fault: Fault) -> Result<(),
     let mut row = Row::new();
     row.put_word(b",,\n");
     row.put_word(word_of(fault));
+    put_place(&mut row, answer);
+    text.extend_from_slice(row.as_slice())?;
+    Ok(())
+}
+
+// Puts the number of its record and its core in front of the other fields of an answer.
+#[inline]
+fn put_place(row: &mut Row, answer: Answer)
+    requires { length row.old + 22 ≤ 64 }
+    ensures { row.new ≡ decimal answer.line
+        ++ (codes "," ++ (decimal answer.core ++ (codes "," ++ row.old))) }
+{
     row.put_byte(b',');
     row.put_number(answer.core);
     row.put_byte(b',');
     row.put_number(answer.line);
-    text.extend_from_slice(row.as_slice())?;
-    Ok(())
 }
 
 // Adds how many frames are held and free at the end.

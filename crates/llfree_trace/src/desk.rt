@@ -3,6 +3,7 @@
 ghost use Rattle.std.specs.Prelude.{◌≡◌, ◌≤◌, ◌<◌, ◌∷◌, ◌++◌, [], IfErr, IfOk};
 ghost use Rattle.std.specs.Prelude.{Contains, IsPermutation};
 ghost use Rattle.core_frames.specs.Ranges.{IsUnopenedFor, MayHoldBack};
+ghost use Rattle.frame_words.specs.Faults.{fault_of};
 ghost use Rattle.llfree_trace.specs.Desk.{desk_key, CountsBy, IsLawful, IsSameMemory, MovesToEnd};
 ghost use Rattle.llfree_trace.specs.Desk.{RunsOne};
 ghost use Rattle.llfree_trace.specs.Trace.{cores_in};
@@ -12,7 +13,7 @@ use crate::reply::{Answer, Reply};
 use crate::transfers::moved;
 use core_frames::{Label, LabelledBlock, LabelledBlocks, PlainAllocator};
 use frame_core::{HeldBlock, Image};
-use frame_words::{Fault, Geometry, HUGE_ORDER};
+use frame_words::{Fault, Geometry, HUGE_ORDER, TakeFault};
 use std::alloc::Global;
 use std::marker::Model;
 
@@ -120,7 +121,7 @@ impl PlainDesk {
                 self.list.add(LabelledBlock { label, block });
                 Ok(Reply::Taken(frame, order))
             }
-            Err(refusal) => Ok(Reply::Refused(Fault::from(refusal))),
+            Err(refusal) => Ok(refused(refusal)),
         }
     }
 
@@ -197,6 +198,13 @@ fn answer_to(number: u32, reply: Reply) -> Answer
         core: 0,
         reply,
     }
+}
+
+// The reply to a take that is refused.
+fn refused(refusal: TakeFault) -> Reply
+    ensures { result ≡ Reply.Refused (fault_of refusal) }
+{
+    Reply::Refused(Fault::from(refusal))
 }
 
 // Gives a block back that was taken out of the list.

@@ -1,15 +1,14 @@
 //! Images from a reader to a writer: rebuilt, or reported.
 
-ghost use Rattle.std.specs.Prelude.{◌≡◌, ◌≢◌, ◌<◌, ◌⊎◌, true, false, length, ℕ, Err};
-ghost use Rattle.std.specs.Prelude.{IfErr, IfOk, IfSome, IsErrOf, OnOk};
+ghost use Rattle.std.specs.Prelude.{◌≡◌, ◌≢◌, true, false, IfErr, IfOk, IfSome, IsErrOf, OnOk};
 ghost use Rattle.frame_image.specs.Devices.{device_of, has_failed};
 ghost use Rattle.frame_image.specs.ImageText.{Explains, image_of as the_image_of};
-ghost use Rattle.llfree_trace.specs.ImageStreams.{IsRebuiltText, IsReportText, IsImageFault};
+ghost use Rattle.llfree_trace.specs.ImageStreams.{EndsImage, IsRebuiltText, IsReportText};
 ghost use Rattle.llfree_trace.specs.ImageStreams.{WritesSo, WritesFrontSo};
-ghost use Rattle.llfree_trace.specs.Streams.{IsTooLong};
+ghost use Rattle.llfree_trace.specs.Streams.{TellsReading};
 
 use frame_image::{
-    MOST_BYTES, Watched, image_of, image_text, read_all, rebuild, report, report_text, write_out,
+    Watched, image_of, image_text, read_all, rebuild, report, report_text, write_out,
 };
 use frame_words::Fault;
 use std::alloc::Global;
@@ -30,16 +29,10 @@ pub fn rebuild_over<R: Read, W: Write>(
     ensures sound { OnOk result ((has_failed input.new ≡ false) × (has_failed output.new ≡ false)) }
 
     // The reader failed, or its text is too long.
-    ensures read_failed { has_failed input.new ≡ true → IsErrOf result Fault.ReadFailed }
-    ensures too_long { IsErrOf result Fault.ReadFailed → (has_failed input.new ≡ true)
-        ⊎ IfSome (R.remaining (device_of input.old)) (λ text. MOST_BYTES < length text) }
-
-    ensures limit { IsTooLong (R.remaining (device_of input.old))
-        → IsErrOf result Fault.ReadFailed ⊎ IsErrOf result Fault.NoMemory }
+    ensures reading { TellsReading (has_failed input.new) (R.remaining (device_of input.old)) result }
 
     // A record is refused or missing, the lowest of all that the reader had left.
-    ensures bad_image { (line : ℕ) → IsErrOf result (Fault.BadImage line)
-        → IfSome (R.remaining (device_of input.old)) (λ text. the_image_of text ≡ Err line) }
+    ensures why { IfErr result (EndsImage (R.remaining (device_of input.old))) }
 
     // A write failed, and a front of the text was written.
     ensures write_failed { IsErrOf result Fault.WriteFailed → (has_failed output.new ≡ true)
@@ -48,7 +41,6 @@ pub fn rebuild_over<R: Read, W: Write>(
         (W.contents (device_of output.new))) }
 
     // Any other refusal has written nothing.
-    ensures others { IfErr result (λ e. IsImageFault e) }
     ensures untouched { IfErr result (λ e. e ≢ Fault.WriteFailed → output.new ≡ output.old) }
 {
     let text = read_all(alloc, input)?;
@@ -82,16 +74,10 @@ pub fn report_over<R: Read, W: Write>(
     ensures sound { OnOk result ((has_failed input.new ≡ false) × (has_failed output.new ≡ false)) }
 
     // The reader failed, or its text is too long.
-    ensures read_failed { has_failed input.new ≡ true → IsErrOf result Fault.ReadFailed }
-    ensures too_long { IsErrOf result Fault.ReadFailed → (has_failed input.new ≡ true)
-        ⊎ IfSome (R.remaining (device_of input.old)) (λ text. MOST_BYTES < length text) }
-
-    ensures limit { IsTooLong (R.remaining (device_of input.old))
-        → IsErrOf result Fault.ReadFailed ⊎ IsErrOf result Fault.NoMemory }
+    ensures reading { TellsReading (has_failed input.new) (R.remaining (device_of input.old)) result }
 
     // A record is refused or missing, the lowest of all that the reader had left.
-    ensures bad_image { (line : ℕ) → IsErrOf result (Fault.BadImage line)
-        → IfSome (R.remaining (device_of input.old)) (λ text. the_image_of text ≡ Err line) }
+    ensures why { IfErr result (EndsImage (R.remaining (device_of input.old))) }
 
     // A write failed, and a front of the text was written.
     ensures write_failed { IsErrOf result Fault.WriteFailed → (has_failed output.new ≡ true)
@@ -100,7 +86,6 @@ pub fn report_over<R: Read, W: Write>(
         (W.contents (device_of output.new))) }
 
     // Any other refusal has written nothing.
-    ensures others { IfErr result (λ e. IsImageFault e) }
     ensures untouched { IfErr result (λ e. e ≢ Fault.WriteFailed → output.new ≡ output.old) }
 {
     let text = read_all(alloc, input)?;

@@ -22,6 +22,7 @@ mod seating;
 mod streams;
 mod transfers;
 
+pub use answers::answers_text;
 pub use gate::{Gate, OpenGate};
 pub use image_streams::{rebuild_over, report_over};
 pub use line::{Line, Request, Trace};
@@ -32,6 +33,3 @@ pub use parser::parse_trace;
 pub use program::run_program;
 pub use reply::{Answer, Outcome, Reply};
 pub use streams::{Show, run_over};
-
-#[cfg(test)]
-mod tests;

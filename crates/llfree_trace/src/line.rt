@@ -1,6 +1,6 @@
 //! The records of a trace.
 
-ghost use Rattle.std.specs.Prelude.{◌≡◌, ◌≤◌, length};
+ghost use Rattle.std.specs.Prelude.{◌≡◌, ◌≤◌, ◌+◌, length, max};
 ghost use Rattle.frame_words.specs.Geometry.{most_cores};
 ghost use Rattle.llfree_trace.specs.Trace.{core_count, cores_in as the_cores_in};
 ghost use Rattle.llfree_trace.specs.Trace.{most_records, ranges_in};
@@ -78,7 +78,7 @@ impl Trace {
     {
         let mut count = 0;
         for line in &self.lines {
-            count = cores_in(line).max(count);
+            count = cores_with(count, line);
         }
         count
     }
@@ -90,6 +90,22 @@ impl Trace {
     {
         self.ranges.as_slice()
     }
+}
+
+/// The number of the record behind so many.
+pub(crate) fn number_after(count: usize) -> u32
+    requires { count ≤ most_records }
+    ensures { result ≡ count + 1 }
+{
+    count as u32 + 1
+}
+
+// The cores that a record names, where those before it name so many.
+fn cores_with(count: u32, line: &Line) -> u32
+    requires { the_cores_in line.now ≤ most_cores }
+    ensures { result ≡ max (the_cores_in line.now) count }
+{
+    cores_in(line).max(count)
 }
 
 // One more than the greatest core that a record names.

@@ -45,14 +45,8 @@ pub(crate) fn run_lines<G: Gate>(
     let mut number = first;
     for line in lines {
         if let Some(request) = request_of(core, line) {
-            gate.before(core, number);
-            let reply = answer(&mut desk, allocator, request)?;
-            gate.after(core, number);
-            answers.push(Answer {
-                line: number,
-                core,
-                reply,
-            })?;
+            let answer = answer_at(&mut desk, allocator, gate, core, number, request)?;
+            answers.push(answer)?;
         }
         number += 1;
     }
@@ -81,6 +75,36 @@ fn request_of(core: u32, line: &Line) -> Option<&Request>
         Line::Ask { core: own, request } if *own == core => Some(request),
         _ => None,
     }
+}
+
+// Answers the request of the record with this number, between the calls of the gate. Refused only
+// for want of memory.
+fn answer_at<G: Gate>(
+    desk: &mut Desk,
+    allocator: &Allocator,
+    gate: &G,
+    core: u32,
+    number: u32,
+    request: &Request,
+) -> Result<Answer, Fault>
+    requires desk { IsDeskOf allocator.now desk.old }
+    requires sealed { (memory_of allocator.now).sealed ≡ true }
+    ensures desk { IsDeskOf allocator.now desk.new }
+    ensures line { IfOk result (λ a. a.line ≡ number) }
+    ensures core { IfOk result (λ a. a.core ≡ core) }
+    ensures step { IfOk result (λ a. DeskStep MayRefuse (memory_of allocator.now)
+        (list_of desk.old) request.now a.reply (list_of desk.new)) }
+    ensures lent { lent_by (core_of desk.new) ≡ lent_by (core_of desk.old) }
+    ensures fault { IfErr result (λ e. e ≡ Fault.NoMemory) }
+{
+    gate.before(core, number);
+    let reply = answer(desk, allocator, request)?;
+    gate.after(core, number);
+    Ok(Answer {
+        line: number,
+        core,
+        reply,
+    })
 }
 
 // Answers a request. Refused only for want of memory.

@@ -1,6 +1,7 @@
 //! The answers of a round, in the order of its records.
 
-ghost use Rattle.std.specs.Prelude.{◌≡◌, ◌+◌, ◌≤◌, true, length, map, vec_len, IfOk, IfErr};
+ghost use Rattle.std.specs.Prelude.{◌≡◌, ◌+◌, ◌≤◌, ◌<◌, true, length, map, vec_len, IfOk, IfErr};
+ghost use Rattle.std.specs.Prelude.{slice_index, slice_index_or, slice_set};
 ghost use Rattle.std.specs.List.{All};
 ghost use Rattle.core_frames.specs.Cores.{memory_of};
 ghost use Rattle.core_frames.specs.Desks.{IsDeskOf};
@@ -25,17 +26,28 @@ fn merge(alloc: Global, first: u32, lines: &[Line], done: &[Done]) -> Result<Vec
     ensures merged { IfOk result (λ all. Merged (asks_from first lines.now) done.now all.items) }
     ensures fault { IfErr result (λ e. e ≡ Fault.NoMemory) }
 {
-    let mut next = vec![in alloc; 0usize; done.len()]?;
+    let mut used = vec![in alloc; 0usize; done.len()]?;
     let mut all = Vec::new(alloc);
     for line in lines {
         let core = core_of(line) as usize;
-        let at = next[core];
         let own = &done[core];
-        let answer = own.answers[at];
-        next[core] = at + 1;
+        let answer = next_answer(&mut used, core, own.answers.as_slice());
         all.push(answer)?;
     }
     Ok(all)
+}
+
+// The next of a core's own answers, of which so many are used.
+fn next_answer(used: &mut Vec<usize>, core: usize, own: &[Answer]) -> Answer
+    requires core { core < vec_len used.old }
+    requires left { slice_index used.old.items core < length own.now }
+    ensures answer { result ≡ slice_index_or own.now (slice_index used.old.items core) result }
+    ensures used { used.new.items
+        ≡ slice_set used.old.items core (slice_index used.old.items core + 1) }
+{
+    let place = used[core];
+    used[core] = place + 1;
+    own[place]
 }
 
 // The core of a request.

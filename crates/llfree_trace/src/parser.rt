@@ -9,7 +9,7 @@ ghost use Rattle.llfree_trace.specs.Trace.{core_count, cores_in, most_records, r
 ghost use Rattle.llfree_trace.specs.TraceText as Spec;
 ghost use Rattle.llfree_trace.specs.TraceText.{ExplainsTrace, trace_of};
 
-use crate::line::{Line, Request, Trace};
+use crate::line::{Line, Request, Trace, number_after};
 use core_frames::Label;
 use csv::ByteRecord;
 use frame_image::{RecordReader, number_below};
@@ -37,7 +37,7 @@ pub fn parse_trace(alloc: Global, geometry: &Geometry, text: &[u8]) -> Result<Tr
         if !found {
             return Ok(Trace::of(lines, ranges));
         }
-        let number = lines.len() as u32 + 1;
+        let number = number_after(lines.len());
         match line_after(cores, lines.as_slice(), &row) {
             Some(line) => {
                 note_range(&mut ranges, &line)?;

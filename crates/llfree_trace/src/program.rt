@@ -11,8 +11,8 @@ ghost use Rattle.llfree_trace.specs.Program.{Does, DoesFront, DoesFrontOfRun, Do
 ghost use Rattle.llfree_trace.specs.Program.{DoesWords, DoesWordsFront};
 ghost use Rattle.llfree_trace.specs.Program.{EndsCommand, EndsSizes, EndsWords};
 ghost use Rattle.llfree_trace.specs.Program.{HasBadSizes, HasBadText, IsNoCommand, IsServed};
-ghost use Rattle.llfree_trace.specs.Streams.{HasBadRanges, IsRunFault, IsTooLong};
-ghost use Rattle.llfree_trace.specs.TraceText.{trace_of};
+ghost use Rattle.llfree_trace.specs.Program.{StopsAtReading};
+ghost use Rattle.llfree_trace.specs.Streams.{EndsRun, IsTooLong, TellsReading};
 
 use crate::command::{Command, Sizes, command_of};
 use crate::gate::OpenGate;
@@ -55,36 +55,33 @@ pub fn run_program<Rt: Threads + Wait, I: Read, O: Write, E: Write>(
     // Exactly what the command makes of the input was written.
     ensures done { result ≡ 0 → DoesWords (map string_bytes words.now)
         (I.remaining (device_of input.old)) (O.contents (device_of output.old))
-        (O.contents (device_of output.new)) }
-    ensures sound { result ≡ 0
-        → (has_failed input.new ≡ false) × (has_failed output.new ≡ false) }
+        (O.contents (device_of output.new))
+        × (has_failed input.new ≡ false) × (has_failed output.new ≡ false) }
 
     // The usage text comes for just the words that are no command, and nothing else is done.
     ensures usage_text { (result ≡ 2) ↔ IsNoCommand (map string_bytes words.now) }
     ensures usage { result ≡ 2 → (input.new ≡ input.old) × (output.new ≡ output.old) }
 
     // Sizes that no memory has are refused before anything is read.
-    ensures bad_sizes { HasBadSizes (map string_bytes words.now) → result ≡ 1 }
-    ensures not_begun { HasBadSizes (map string_bytes words.now)
-        → (input.new ≡ input.old) × (output.new ≡ output.old) }
+    ensures bad_sizes { HasBadSizes (map string_bytes words.now)
+        → (result ≡ 1) × (input.new ≡ input.old) × (output.new ≡ output.old) }
 
     // The sizes, a record of what was read or its ranges are refused, and nothing was written.
-    ensures why_refused { result ≡ 1 → HasBadSizes (map string_bytes words.now)
-        ⊎ HasBadText (map string_bytes words.now) (I.remaining (device_of input.old)) }
-    ensures refused { result ≡ 1 → output.new ≡ output.old }
+    ensures refused { result ≡ 1 → (output.new ≡ output.old)
+        × (HasBadSizes (map string_bytes words.now)
+        ⊎ HasBadText (map string_bytes words.now) (I.remaining (device_of input.old))) }
 
     // A reader that failed and a text that is too long have status 3.
-    ensures read_failed { IsServed (map string_bytes words.now) → has_failed input.new ≡ true
+    ensures reading { IsServed (map string_bytes words.now)
+        → (has_failed input.new ≡ true) ⊎ IsTooLong (I.remaining (device_of input.old))
         → result ≡ 3 }
-    ensures too_long { IsServed (map string_bytes words.now)
-        → IsTooLong (I.remaining (device_of input.old)) → result ≡ 3 }
 
     // Only a command with lawful sizes has it. Then nothing was written, or a front up to a failed
     // write.
-    ensures stopped { result ≡ 3 → IsServed (map string_bytes words.now) }
-    ensures front { result ≡ 3 → (output.new ≡ output.old) ⊎ ((has_failed output.new ≡ true)
+    ensures stopped { result ≡ 3 → IsServed (map string_bytes words.now)
+        × ((output.new ≡ output.old) ⊎ ((has_failed output.new ≡ true)
         × DoesWordsFront (map string_bytes words.now) (I.remaining (device_of input.old))
-        (O.contents (device_of output.old)) (O.contents (device_of output.new))) }
+        (O.contents (device_of output.old)) (O.contents (device_of output.new)))) }
 {
     match run_command(rt, alloc, words, input, output) {
         Ok(()) => 0,
@@ -119,16 +116,10 @@ fn run_command<Rt: Threads + Wait, I: Read, O: Write>(
         (I.remaining (device_of input.old))) }
     ensures not_begun { HasBadSizes (map string_bytes words.now)
         → (input.new ≡ input.old) × (output.new ≡ output.old) }
-    ensures read_failed { IsServed (map string_bytes words.now) → has_failed input.new ≡ true
-        → result ≡ Err (Failure.Refused Fault.ReadFailed) }
-    ensures too_long { IsServed (map string_bytes words.now)
-        → IsTooLong (I.remaining (device_of input.old))
-        → IsErrOf result (Failure.Refused Fault.ReadFailed)
-        ⊎ IsErrOf result (Failure.Refused Fault.NoMemory) }
+    ensures reading { IsServed (map string_bytes words.now) → StopsAtReading (has_failed input.new)
+        (I.remaining (device_of input.old)) result }
     ensures write_failed { result ≡ Err (Failure.Refused Fault.WriteFailed)
-        → has_failed output.new ≡ true }
-    ensures front { result ≡ Err (Failure.Refused Fault.WriteFailed)
-        → DoesWordsFront (map string_bytes words.now) (I.remaining (device_of input.old))
+        → (has_failed output.new ≡ true) × DoesWordsFront (map string_bytes words.now) (I.remaining (device_of input.old))
         (O.contents (device_of output.old)) (O.contents (device_of output.new)) }
 {
     match command_of(words) {
@@ -156,15 +147,10 @@ fn perform<Rt: Threads + Wait, I: Read, O: Write>(
     ensures why { IfErr result (EndsCommand command (I.remaining (device_of input.old))) }
     ensures not_begun { IsUnlawful command
         → (input.new ≡ input.old) × (output.new ≡ output.old) }
-    ensures read_failed { CanDo command → has_failed input.new ≡ true
-        → result ≡ Err (Failure.Refused Fault.ReadFailed) }
-    ensures too_long { CanDo command → IsTooLong (I.remaining (device_of input.old))
-        → IsErrOf result (Failure.Refused Fault.ReadFailed)
-        ⊎ IsErrOf result (Failure.Refused Fault.NoMemory) }
+    ensures reading { CanDo command → StopsAtReading (has_failed input.new)
+        (I.remaining (device_of input.old)) result }
     ensures write_failed { result ≡ Err (Failure.Refused Fault.WriteFailed)
-        → has_failed output.new ≡ true }
-    ensures front { result ≡ Err (Failure.Refused Fault.WriteFailed)
-        → DoesFront command (I.remaining (device_of input.old))
+        → (has_failed output.new ≡ true) × DoesFront command (I.remaining (device_of input.old))
         (O.contents (device_of output.old)) (O.contents (device_of output.new)) }
 {
     match command {
@@ -198,18 +184,11 @@ fn run_on<Rt: Threads + Wait, I: Read, O: Write>(
     ensures written { OnOk result (DoesRun geometry show (I.remaining (device_of input.old))
         (O.contents (device_of output.old)) (O.contents (device_of output.new))) }
     ensures sound { OnOk result ((has_failed input.new ≡ false) × (has_failed output.new ≡ false)) }
-    ensures read_failed { has_failed input.new ≡ true → IsErrOf result Fault.ReadFailed }
-    ensures limit { IsTooLong (I.remaining (device_of input.old))
-        → IsErrOf result Fault.ReadFailed ⊎ IsErrOf result Fault.NoMemory }
-    ensures bad_trace { (line : ℕ) → IsErrOf result (Fault.BadTrace line)
-        → IfSome (I.remaining (device_of input.old)) (λ text.
-        trace_of geometry.cores text ≡ Err line) }
-    ensures bad_range { IsErrOf result Fault.BadRange
-        → IfSome (I.remaining (device_of input.old)) (HasBadRanges geometry) }
+    ensures reading { TellsReading (has_failed input.new) (I.remaining (device_of input.old)) result }
+    ensures why { IfErr result (EndsRun geometry (I.remaining (device_of input.old))) }
     ensures write_failed { IsErrOf result Fault.WriteFailed → (has_failed output.new ≡ true)
         × DoesFrontOfRun geometry show (I.remaining (device_of input.old))
         (O.contents (device_of output.old)) (O.contents (device_of output.new)) }
-    ensures others { IfErr result (λ e. IsRunFault e) }
     ensures untouched { IfErr result (λ e. e ≢ Fault.WriteFailed → output.new ≡ output.old) }
 {
     if geometry.cores() == 1 {

@@ -6,12 +6,12 @@ ghost use Rattle.std.specs.Prelude.{slice_index_or};
 ghost use Rattle.std.specs.List.{All};
 ghost use Rattle.core_frames.specs.Cores.{memory_of};
 ghost use Rattle.core_frames.specs.Desks.{IsDeskOf};
-ghost use Rattle.llfree_trace.specs.Rounds.{IsAsk, IsNoAsk, GoesOn};
+ghost use Rattle.llfree_trace.specs.Rounds.{IsAsk, IsNoAsk, GoesOn, GoesOnBy};
 ghost use Rattle.llfree_trace.specs.Trace.{cores_in, most_records};
 ghost use Rattle.llfree_trace.specs.declared.line.Line.{Line as OneLine};
 
 use crate::gate::Gate;
-use crate::line::Line;
+use crate::line::{Line, number_after};
 use crate::merge::answer_round;
 use crate::reply::Answer;
 use crate::transfers::move_block;
@@ -56,14 +56,6 @@ pub(crate) fn run_all<G: Gate, R: Threads + Wait>(
     Ok(progress)
 }
 
-// The number of the record behind so many.
-fn number_after(count: usize) -> u32
-    requires { count < most_records }
-    ensures { result ≡ count + 1 }
-{
-    count as u32 + 1
-}
-
 // Runs the first records: the round of all requests that come first, or a record that is none.
 // Answers how many they were.
 fn run_part<G: Gate, R: Threads + Wait>(
@@ -81,10 +73,8 @@ fn run_part<G: Gate, R: Threads + Wait>(
     requires inside { All (λ l. cores_in l ≤ vec_len progress.desks) lines.now }
     requires some { 0 < length lines.now }
     requires end { number + length lines.now ≤ 2_000_000 }
-    ensures some { IfOk result (λ r. 0 < r.1) }
-    ensures within { IfOk result (λ r. r.1 ≤ length lines.now) }
     ensures goes { IfOk result (λ r.
-        GoesOn allocator.now number (take r.1 lines.now) progress r.0) }
+        GoesOnBy allocator.now number lines.now progress r.0 r.1) }
     ensures fault { IfErr result (λ e. e ≡ Fault.NoMemory) }
 {
     let count = asks_before(lines);

@@ -4,7 +4,7 @@ ghost use Rattle.std.specs.Prelude.{◌≡◌, ◌+◌, ◌≤◌, true, length,
 ghost use Rattle.std.specs.List.{All};
 ghost use Rattle.core_frames.specs.Cores.{memory_of};
 ghost use Rattle.core_frames.specs.Desks.{IsDeskOf};
-ghost use Rattle.llfree_trace.specs.Rounds.{IsAsk, asks_from, Ran, RanAll};
+ghost use Rattle.llfree_trace.specs.Rounds.{IsAsk, IsPromiseOf, asks_from, Ran, RanAll};
 
 use crate::gate::Gate;
 use crate::line::Line;
@@ -52,11 +52,8 @@ fn start<'s, E, G: Gate>(
     requires sealed { (memory_of allocator.now).sealed ≡ true }
     requires asks { All IsAsk lines.now }
     requires few { first + length lines.now ≤ 2_000_000 }
-    ensures allocator { IfOk result (λ h. h.promise.allocator.now ≡ allocator.now) }
-    ensures core { IfOk result (λ h. h.promise.core ≡ core) }
-    ensures was { IfOk result (λ h. h.promise.was.value ≡ desk) }
-    ensures first { IfOk result (λ h. h.promise.first ≡ first) }
-    ensures lines { IfOk result (λ h. h.promise.lines.now ≡ lines.now) }
+    ensures promise { IfOk result (λ h.
+        IsPromiseOf allocator.now core desk first lines.now h.promise) }
     ensures fault { IfErr result (λ e. e ≡ Fault.NoMemory) }
 {
     let promise = Running {

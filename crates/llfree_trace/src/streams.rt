@@ -1,19 +1,15 @@
 //! Runs from a reader to a writer.
 
-ghost use Rattle.std.specs.Prelude.{◌≡◌, ◌≢◌, ◌*◌, ◌<◌, ◌⊎◌, true, false, length, ℕ, Err};
-ghost use Rattle.std.specs.Prelude.{IfErr, IfOk, IfSome, IsErrOf, OnOk};
-ghost use Rattle.std.specs.Io.KnownBytes.{Appends};
-ghost use Rattle.frame_image.specs.Devices.{device_of, has_failed, WritesFront};
-ghost use Rattle.llfree_trace.specs.Streams.{ExplainsRun, HasBadRanges, IsRunFault, IsRunOf};
-ghost use Rattle.llfree_trace.specs.Streams.{IsTooLong, WritesFrontOfRun};
-ghost use Rattle.llfree_trace.specs.Streams.{WritesRun, outcome_answers, shown_of};
-ghost use Rattle.llfree_trace.specs.TraceText.{trace_of};
+ghost use Rattle.std.specs.Prelude.{◌≡◌, ◌≢◌, true, false, IfErr, IfOk, IfSome, IsErrOf, OnOk};
+ghost use Rattle.frame_image.specs.Devices.{device_of, has_failed};
+ghost use Rattle.llfree_trace.specs.Streams.{EndsRun, ExplainsRun, IsRunOf, TellsReading};
+ghost use Rattle.llfree_trace.specs.Streams.{WritesFrontOfRun, WritesRun, outcome_answers, shown_of};
 
 use crate::answers::answers_text;
 use crate::one_core::run_one;
 use crate::parser::parse_trace;
 use crate::reply::Outcome;
-use frame_image::{MOST_BYTES, Watched, held_frames, image_text, read_all, write_out};
+use frame_image::{Watched, held_frames, image_text, read_all, write_out};
 use frame_words::{CHILD_FRAMES, Fault, Geometry};
 use std::alloc::Global;
 use std::io::{Read, Write};
@@ -46,21 +42,10 @@ pub fn run_over<R: Read, W: Write>(
     ensures sound { OnOk result ((has_failed input.new ≡ false) × (has_failed output.new ≡ false)) }
 
     // The reader failed, or its text is too long.
-    ensures read_failed { has_failed input.new ≡ true → IsErrOf result Fault.ReadFailed }
-    ensures too_long { IsErrOf result Fault.ReadFailed → (has_failed input.new ≡ true)
-        ⊎ IfSome (R.remaining (device_of input.old)) (λ text. MOST_BYTES < length text) }
+    ensures reading { TellsReading (has_failed input.new) (R.remaining (device_of input.old)) result }
 
-    ensures limit { IsTooLong (R.remaining (device_of input.old))
-        → IsErrOf result Fault.ReadFailed ⊎ IsErrOf result Fault.NoMemory }
-
-    // A record is refused, the lowest of all that the reader had left.
-    ensures bad_trace { (line : ℕ) → IsErrOf result (Fault.BadTrace line)
-        → IfSome (R.remaining (device_of input.old)) (λ text.
-        trace_of geometry.cores text ≡ Err line) }
-
-    // The text is a trace, and its ranges may not be held back.
-    ensures bad_range { IsErrOf result Fault.BadRange
-        → IfSome (R.remaining (device_of input.old)) (HasBadRanges geometry) }
+    // A record is refused, the lowest of all that the reader had left, or the ranges of a trace.
+    ensures why { IfErr result (EndsRun geometry (R.remaining (device_of input.old))) }
 
     // A write failed, and a front of that was written.
     ensures write_failed { IsErrOf result Fault.WriteFailed → (has_failed output.new ≡ true)
@@ -69,7 +54,6 @@ pub fn run_over<R: Read, W: Write>(
         (W.contents (device_of output.new))) }
 
     // Any other refusal has written nothing.
-    ensures others { IfErr result (λ e. IsRunFault e) }
     ensures untouched { IfErr result (λ e. e ≢ Fault.WriteFailed → output.new ≡ output.old) }
 {
     let text = read_all(alloc, input)?;

@@ -31,7 +31,8 @@ loop-ranges-preserved c =
     let more = read_more _ (length c.loop-ranges.lines.items + 1) c.loop-ranges.lines.items _ c.read.new.self.rows c.in-Some.line line in
     let below : cores_in c.in-Some.line ≤ c.cores-cores.result = c.in-Some.ensures.core in
     let before : core_count c.loop-ranges.lines.items ≤ c.cores-cores.result = inv.2 in
-    let longer : length c.push.new.self.items ≡ length c.loop-ranges.lines.items + 1 = ap length items ∙ length_push c.loop-ranges.lines.items c.in-Some.line in
+    let longer : length c.push.new.self.items ≡ length c.loop-ranges.lines.items + 1 =
+    ap length items ∙ length_push c.loop-ranges.lines.items c.in-Some.line in
     let cores = core_count_more c.loop-ranges.lines.items c.in-Some.line in
     let held : c.loop-ranges.ranges.items ≡ ranges_in c.loop-ranges.lines.items = inv.3 in (
       inv.0 ∙ rw (next, longer, items) more,
@@ -46,4 +47,4 @@ returns-in-None-clause-refused c =
     let next = c.in_ok-found.ensures.found c.if-not-found.false in
     let size = c.as_slice.ensures.value in
     let first : c.len.result ≡ length c.loop-ranges.lines.items = omega arith in
-    inv.0 ∙ rw (next, first) (read_refused _ _ _ _ c.read.new.self.rows (rw size at c.in-None.ensures.value))
+    inv.0 ∙ rw (next, c.number_after-number.ensures, first) (read_refused _ _ _ _ c.read.new.self.rows (rw size at c.in-None.ensures.value))

@@ -14,27 +14,22 @@ pub returns-in-Err-clause-why : goal.returns-in-Err-clause-why
 returns-in-Err-clause-why g c =
     let made = c.in_ok-geometry-in-Run.ensures in
     let why = c.in-Err.ensures in
-    run_ends c.args.command c.in-Run.sizes c.in-Run.show _ _ c.in-Err.fault c.in-Run.is made.lawful made.sizes why.others
-    (λ line e. why.bad_trace line (ap Err e)) (λ e. why.bad_range (ap Err e))
+    run_ends c.args.command c.in-Run.sizes c.in-Run.show _ _ c.in-Err.fault c.in-Run.is made.lawful made.sizes why.why
 
-pub returns-in-Err-clause-front : goal.returns-in-Err-clause-front
+pub returns-in-Err-clause-write_failed : goal.returns-in-Err-clause-write_failed
 unfolding DoesFront
-returns-in-Err-clause-front g c = λ e.
+returns-in-Err-clause-write_failed g c = λ e.
     let made = c.in_ok-geometry-in-Run.ensures in
     let failed : c.in-Err.fault ≡ fault.WriteFailed = cc in
-    rw c.in-Run.is (
-      c.in_ok-geometry-in-Run.geometry,
-      made.sizes,
-      made.lawful,
-      (c.in-Err.ensures.write_failed (ap Err failed)).1,
-    )
+    let front = c.in-Err.ensures.write_failed (ap Err failed) in
+    (front.0, rw c.in-Run.is (c.in_ok-geometry-in-Run.geometry, made.sizes, made.lawful, front.1))
 
 pub returns-in-Err-rebuild_over-clause-why : goal.returns-in-Err-rebuild_over-clause-why
 returns-in-Err-rebuild_over-clause-why g c =
     let why = c.in-Err-rebuild_over.ensures in
-    rebuild_ends c.args.command _ c.in-Err-rebuild_over.fault c.in-Rebuild.is why.others (λ line e. why.bad_image line (ap Err e))
+    rebuild_ends c.args.command _ c.in-Err-rebuild_over.fault c.in-Rebuild.is why.why
 
 pub returns-in-Err-report_over-clause-why : goal.returns-in-Err-report_over-clause-why
 returns-in-Err-report_over-clause-why g c =
     let why = c.in-Err-report_over.ensures in
-    report_ends c.args.command _ c.in-Err-report_over.fault c.in-Report.is why.others (λ line e. why.bad_image line (ap Err e))
+    report_ends c.args.command _ c.in-Err-report_over.fault c.in-Report.is why.why

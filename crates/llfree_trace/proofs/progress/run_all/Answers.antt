@@ -21,5 +21,5 @@ loop-done-preserved g c =
       goes = rw (take-add done c.in_ok-next.count lines)
           (goes_both c.args.allocator.now 1 (done + 1) (take done lines) (take c.in_ok-next.count (drop done lines)) c.args.start
           c.loop-done.progress c.in_ok-next.next next inv.goes
-          (rw (c.number_after-number.ensures, rest_of done lines) at c.in_ok-next.ensures.goes));
+          (rw (c.number_after-number.ensures, rest_of done lines) at c.in_ok-next.ensures.goes.goes));
     }

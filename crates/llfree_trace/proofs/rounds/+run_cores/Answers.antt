@@ -26,6 +26,6 @@ returns-clause-ran g t c =
     let asks = asks_from c.args.first c.args.lines.now in
     let core = c.len-core.result in
     let place : core ≡ length c.pop.new.self.items = search rules in
-    let is = c.in_ok-child.ensures in
+    let is = c.in_ok-child.ensures.promise in
     let one = rw (is.allocator, is.core, is.was, is.first, is.lines) at c.in_ok-done.ensures.0 in
     last_ran _ _ _ asks _ _ core _ _ c.in-Some.ensures.items place c.in_ok-push-2.ensures.items c.in_ok-all-2.ensures.ran one

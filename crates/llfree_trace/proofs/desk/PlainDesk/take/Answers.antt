@@ -38,7 +38,7 @@ returns-in-Ok-clause-step c =
 
 pub returns-in-Err-clause-step : goal.returns-in-Err-clause-step
 returns-in-Err-clause-step c =
-    rw (← c.self.view_is, c.reserve.ensures.entries, c.from.ensures) (
+    rw (← c.self.view_is, c.reserve.ensures.entries, c.refused.ensures) (
       (refused_step c.self.inside.allocator c.self.inside.list.entries _ c.args.label.now c.args.order c.in-Err.refusal
           c.self.invariant c.in-Err.ensures.quiet),
       tt,

@@ -8,8 +8,8 @@ pub loop-line-init : goal.loop-line-init
 unfolding core_count
 loop-line-init c = refl
 
-pub cores_in-requires : goal.cores_in-requires
-cores_in-requires c =
+pub cores_with-count-requires : goal.cores_with-count-requires
+cores_with-count-requires c =
     let lines = c.deref-line-items.result.now in
     let few : core_count lines ≤ 64 = rw (← c.deref-line-items.ensures.value) at c.self.invariant.1 in
     let at = cores_in_at lines c.loop-line.line-index c.line-item.result c.loop-line-test.true in

@@ -3,10 +3,12 @@ mod records;
 mod threads;
 mod worked;
 
-use super::*;
-use crate::answers::answers_text;
 use frame_image::{Watched, write_out};
 use frame_words::{Fault, Geometry};
+use llfree_trace::{
+    Answer, Gate, OpenGate, Reply, Show, answers_text, parse_trace, run_many_over, run_one,
+    run_over, run_program,
+};
 use std::alloc::{AllocError, Global};
 use std::cell::Cell;
 use std::io::{Error, ErrorKind, Read, Result as IoResult, Write};

@@ -1,9 +1,9 @@
 //! Images that the program prints, rebuilds and reports.
 
 use super::{SlowReader, SlowWriter, USAGE, is_answered, runs};
-use crate::{rebuild_over, report_over};
 use frame_image::Watched;
 use frame_words::Fault;
+use llfree_trace::{rebuild_over, report_over};
 use std::alloc::Global;
 use std::cell::Cell;
 use std::process::Abort;
