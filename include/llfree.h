@@ -33,15 +33,18 @@ enum llfree_status {
     LLFREE_OK = 0,
     LLFREE_NO_BLOCK = 1,      /* no block of the order is free */
     LLFREE_BAD_ORDER = 2,     /* orders are 0 to 9, and a block of order 0 has no halves */
-    LLFREE_NOT_HELD = 3,      /* no such block is held: of another order, given before, never taken */
+    LLFREE_NOT_HELD = 3,      /* no such block is held: of another order, given before, never taken; or the
+                                 struct holds none */
     LLFREE_CLOSED_HANDLE = 4, /* nothing is behind the handle */
     LLFREE_NO_MEMORY = 5,
     LLFREE_BAD_GEOMETRY = 6,  /* a memory has 1 to 2097152 frames and 1 to 64 cores */
-    LLFREE_OPEN_HANDLE = 7,   /* something is behind the handle already */
+    LLFREE_OPEN_HANDLE = 7,   /* something is behind the handle already, or the struct holds a block */
     LLFREE_CONTENDED = 8,     /* other cores were in the way: as NO_BLOCK, but a block may be free */
     LLFREE_BAD_RANGE = 9,     /* more than 1024 ranges, or one is empty, ends past the end of memory, or
                                  begins before the end of the one before it */
-    LLFREE_NO_ROOM = 10       /* the image has more numbers than the buffer */
+    LLFREE_NO_ROOM = 10,      /* the image has more numbers than the buffer */
+    LLFREE_CORES_OPEN = 11,   /* other cores of the allocator are open */
+    LLFREE_BAD_IMAGE = 12     /* the numbers are those of no image of so many frames */
 };
 
 #define LLFREE_CLOSED { false, NULL }
@@ -75,6 +78,24 @@ typedef struct llfree_core {
 uint32_t llfree_open(llfree_core *handles, size_t cores, uint32_t frames, const llfree_range *ranges,
                      size_t count);
 
+/* The block of this order from this frame on, which a program holds from before an opening. */
+typedef struct llfree_claim {
+    uint32_t frame;
+    uint8_t order;
+} llfree_claim;
+
+/* Opens an allocator of so many frames at the numbers of an image, as llfree_image_words says them,
+ * with a core behind each of the closed handles. The claimed blocks are those that the program holds
+ * from before: they are out, as if they had been taken, and any core gives them. What the image holds
+ * besides is held for good, and all else is free. The counts of free frames are not read: only that
+ * none is above 512. On OPEN_HANDLE (of any handle), BAD_GEOMETRY, BAD_IMAGE (count is not
+ * llfree_image_words(frames), a number is none of an image, the last child is cut and one block of
+ * order 9, or a bit past the end is clear), BAD_ORDER, NOT_HELD (a claimed block is not held by itself,
+ * one of order 9 as such, or two share a frame), NO_MEMORY and CONTENDED (a claimed block was not
+ * reached; no run ever showed this) the handles are as they were. */
+uint32_t llfree_reopen(llfree_core *handles, size_t cores, uint32_t frames, const uint64_t *words,
+                       size_t count, const llfree_claim *claims, size_t claimed);
+
 /* Takes a block of the order, and writes its first frame. NO_BLOCK where all of memory was looked at
  * and no other core was in the way, CONTENDED, BAD_ORDER, CLOSED_HANDLE: then *frame is as it was, and
  * nothing more is held. It needs no memory, and neither locks nor waits. */
@@ -99,6 +120,50 @@ uint32_t llfree_frames(llfree_core *handle);
  * it, blocks that are held and all. */
 void llfree_close(llfree_core *handle);
 
+/* Writes the numbers of the memory's image, as many as llfree_image_words says, in which just the
+ * blocks that are held and the ranges are held; then as llfree_close of the last handle of an allocator.
+ * NO_ROOM where the buffer has fewer, CORES_OPEN where it is not the last, NO_MEMORY, CLOSED_HANDLE: then
+ * nothing changes. */
+uint32_t llfree_close_image(llfree_core *handle, uint64_t *words, size_t count);
+
+/* The same for callers who trust themselves: a take hands out the right to its block in a struct, so no
+ * list of what is out is kept or looked up. An empty struct is refused; beside the duties above a caller
+ * has to uphold, and nothing checks:
+ *  6. A struct starts as LLFREE_EMPTY, or with all bytes 0. After that no code writes its bytes but
+ *     the functions below; frame and order may be read between them. It may be moved where the old bytes
+ *     are never used again, never copied: of two copies both would be given.
+ *  7. A struct that holds a block is passed with a core of the allocator that the block was taken from, and
+ *     with no other. Once the last core of that allocator is closed it is not passed any more.
+ *  8. One call at a time for each struct. Another thread may use it where the one call happens before the
+ *     other, as in 3. */
+typedef struct llfree_block {
+    bool live;
+    uint32_t frame;
+    uint8_t order;
+} llfree_block;
+
+#define LLFREE_EMPTY { false, 0, 0 }
+
+/* As llfree_open, but no list is made: the allocator has its words alone, and only the three functions
+ * below take, give and split. Of its cores llfree_take answers CONTENDED where it would answer a block,
+ * and llfree_give and llfree_split NOT_HELD. */
+uint32_t llfree_open_unchecked(llfree_core *handles, size_t cores, uint32_t frames,
+                               const llfree_range *ranges, size_t count);
+
+/* Takes a block of the order into an empty struct. NO_BLOCK, CONTENDED, BAD_ORDER and CLOSED_HANDLE as
+ * llfree_take, OPEN_HANDLE where the struct holds a block: then the struct is as it was, and nothing more
+ * is held. It works through cores that llfree_open opened, too: such a block is not on their list. */
+uint32_t llfree_take_block(llfree_core *handle, uint8_t order, llfree_block *block);
+
+/* Gives the block back that the struct holds, whichever core took it; the struct is empty then. NOT_HELD
+ * where it is empty, CLOSED_HANDLE: then nothing changes. It needs no memory, and neither locks nor waits. */
+uint32_t llfree_give_block(llfree_core *handle, llfree_block *block);
+
+/* Splits the block that the struct holds, whichever core took it: the struct holds the lower half then,
+ * and the empty upper the other one. NOT_HELD where the struct is empty, OPEN_HANDLE where upper holds a
+ * block, BAD_ORDER where the order is 0, CLOSED_HANDLE: then nothing changes. */
+uint32_t llfree_split_block(llfree_core *handle, llfree_block *block, llfree_block *upper);
+
 /* An allocator for one thread: as above, but a take is refused only where no block of the order is
  * free, and it has one byte a frame beside its words. */
 typedef struct llfree_plain {
@@ -110,6 +175,11 @@ typedef struct llfree_plain {
  * as above. On OPEN_HANDLE, BAD_GEOMETRY, BAD_RANGE and NO_MEMORY the handle is as it was. */
 uint32_t llfree_plain_open(llfree_plain *handle, uint32_t frames, const llfree_range *ranges,
                            size_t count);
+
+/* Opens an allocator of so many frames behind a closed handle at the numbers of an image, as
+ * llfree_reopen does, with the same refusals. */
+uint32_t llfree_plain_reopen(llfree_plain *handle, uint32_t frames, const uint64_t *words, size_t count,
+                             const llfree_claim *claims, size_t claimed);
 
 /* Takes a block of the order, and writes its first frame. NO_BLOCK exactly where none of the order is
  * free, BAD_ORDER, CLOSED_HANDLE: then *frame is as it was. Needs no memory. */
@@ -127,8 +197,8 @@ uint32_t llfree_plain_split(llfree_plain *handle, uint32_t frame, uint8_t order)
 uint32_t llfree_plain_frames(llfree_plain *handle);
 
 /* Writes the numbers of the memory's image, as many as llfree_image_words says, in which just the
- * blocks that are out and the ranges are held; then as llfree_plain_close. NO_ROOM where the buffer has fewer, NO_MEMORY, CLOSED_HANDLE: then nothing
- * changes. */
+ * blocks that are out and the ranges are held; then as llfree_plain_close. NO_ROOM where the buffer
+ * has fewer, NO_MEMORY, CLOSED_HANDLE: then nothing changes. */
 uint32_t llfree_plain_close_image(llfree_plain *handle, uint64_t *words, size_t count);
 
 /* Frees what is behind the handle, blocks that are held and all, and closes it. It does nothing to a

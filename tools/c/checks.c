@@ -1,18 +1,7 @@
-/* The library for C, called as a C program calls it, wrong numbers and all. A failed check says where. */
-#include "llfree.h"
-#include <stdio.h>
-#include <stdlib.h>
-#include <string.h>
+/* The library for C, called as a C program calls it, wrong numbers and all. */
+#include "check.h"
 
-#define CHECK(x)                                                         \
-    do {                                                                 \
-        if (!(x)) {                                                      \
-            fprintf(stderr, "%s:%d: %s\n", __FILE__, __LINE__, #x);      \
-            exit(1);                                                     \
-        }                                                                \
-    } while (0)
-
-enum { FRAMES = 512, LARGEST = 9 };
+enum { FRAMES = 512 };
 
 /* Each status of each call. */
 static void statuses(void)
@@ -210,9 +199,7 @@ static void random_numbers(void)
 
     CHECK(llfree_plain_open(&h, ALL, NULL, 0) == LLFREE_OK);
     for (int round = 0; round < 1000000; round++) {
-        x ^= x << 13;
-        x ^= x >> 7;
-        x ^= x << 17;
+        next_random(&x);
         uint8_t order = (uint8_t)((x >> 8) % 12);
         uint32_t f = (x >> 16) % 8 == 0 ? (uint32_t)(x >> 20) : (uint32_t)(x >> 20) % ALL;
         uint32_t size = order <= LARGEST ? 1u << order : 0;

@@ -1,17 +1,6 @@
 /* Openings and closings of the library for C with each call of their heap refused in turn, alone and for
  * good: the answer is NO_MEMORY, the handles are as they were, and no block is left. */
-#include "llfree.h"
-#include <stdio.h>
-#include <stdlib.h>
-#include <string.h>
-
-#define CHECK(x)                                                         \
-    do {                                                                 \
-        if (!(x)) {                                                      \
-            fprintf(stderr, "%s:%d: %s\n", __FILE__, __LINE__, #x);      \
-            exit(1);                                                     \
-        }                                                                \
-    } while (0)
+#include "check.h"
 
 enum { CORES = 3, FRAMES = 4300, WORDS = 9 * 9 };
 
@@ -68,10 +57,7 @@ static void refuse(long call, bool is_for_good)
 
 static const llfree_range kept[] = { { 3, 5 }, { 600, 512 } };
 
-static uint32_t open_cores(llfree_core *cores)
-{
-    return llfree_open(cores, CORES, FRAMES, kept, 2);
-}
+typedef uint32_t opening(llfree_core *, size_t, uint32_t, const llfree_range *, size_t);
 
 static uint32_t open_plain(llfree_plain *memory)
 {
@@ -79,7 +65,7 @@ static uint32_t open_plain(llfree_plain *memory)
 }
 
 /* How many calls of the heap an opening makes; each was refused. */
-static long shared_opening(bool is_for_good)
+static long shared_opening(opening *open, bool is_for_good)
 {
     llfree_core cores[CORES], were[CORES];
     long call = 0;
@@ -88,13 +74,13 @@ static long shared_opening(bool is_for_good)
     for (;;) {
         memset(cores, 0, sizeof cores);
         refuse(++call, is_for_good);
-        uint32_t status = open_cores(cores);
+        uint32_t status = open(cores, CORES, FRAMES, kept, 2);
         if (calls < call)
             break;
         CHECK(status == LLFREE_NO_MEMORY);
         CHECK(!memcmp(cores, were, sizeof cores) && blocks == 0);
         refuse(0, false);
-        CHECK(open_cores(cores) == LLFREE_OK);
+        CHECK(open(cores, CORES, FRAMES, kept, 2) == LLFREE_OK);
         for (int i = 0; i < CORES; i++)
             llfree_close(&cores[i]);
         CHECK(blocks == 0);
@@ -152,13 +138,83 @@ static long plain_closing(bool is_for_good)
     return call - 1;
 }
 
+/* The same of the last of several cores. */
+static long shared_closing(bool is_for_good)
+{
+    static uint64_t words[WORDS];
+    llfree_core cores[CORES] = { LLFREE_CLOSED };
+    uint32_t frame = 0;
+    long call = 0, left;
+
+    refuse(0, false);
+    CHECK(llfree_open(cores, CORES, FRAMES, kept, 2) == LLFREE_OK);
+    CHECK(llfree_take(&cores[1], 4, &frame) == LLFREE_OK);
+    for (int i = 1; i < CORES; i++)
+        llfree_close(&cores[i]);
+    left = blocks;
+    for (;;) {
+        refuse(++call, is_for_good);
+        uint32_t status = llfree_close_image(&cores[0], words, WORDS);
+        if (calls < call) {
+            CHECK(status == LLFREE_OK);
+            break;
+        }
+        CHECK(status == LLFREE_NO_MEMORY && blocks == left);
+        CHECK(llfree_give(&cores[0], frame, 4) == LLFREE_OK);
+        CHECK(llfree_take(&cores[0], 4, &frame) == LLFREE_OK);
+    }
+    CHECK(blocks == 0);
+    return call - 1;
+}
+
+/* How many calls of the heap an opening at an image makes; each was refused, and changed nothing. */
+static long reopening(bool is_shared, bool is_for_good)
+{
+    static uint64_t words[WORDS];
+    llfree_core cores[CORES], were[CORES];
+    llfree_plain memory = LLFREE_CLOSED, was;
+    llfree_claim claims[2] = { { 0, 4 }, { 0, 9 } };
+    long call = 0;
+
+    refuse(0, false);
+    CHECK(open_plain(&memory) == LLFREE_OK);
+    for (int i = 0; i < 2; i++)
+        CHECK(llfree_plain_take(&memory, claims[i].order, &claims[i].frame) == LLFREE_OK);
+    CHECK(llfree_plain_close_image(&memory, words, WORDS) == LLFREE_OK && blocks == 0);
+    memset(were, 0, sizeof were);
+    memset(&was, 0, sizeof was);
+    for (;;) {
+        memset(cores, 0, sizeof cores);
+        memset(&memory, 0, sizeof memory);
+        refuse(++call, is_for_good);
+        uint32_t status = is_shared ? llfree_reopen(cores, CORES, FRAMES, words, WORDS, claims, 2)
+                                    : llfree_plain_reopen(&memory, FRAMES, words, WORDS, claims, 2);
+        if (calls < call)
+            break;
+        CHECK(status == LLFREE_NO_MEMORY && blocks == 0);
+        CHECK(!memcmp(cores, were, sizeof cores) && !memcmp(&memory, &was, sizeof memory));
+    }
+    for (int i = 0; i < 2; i++)
+        CHECK((is_shared ? llfree_give(&cores[i], claims[i].frame, claims[i].order)
+                         : llfree_plain_give(&memory, claims[i].frame, claims[i].order)) == LLFREE_OK);
+    llfree_plain_close(&memory);
+    for (int i = 0; i < CORES; i++)
+        llfree_close(&cores[i]);
+    CHECK(blocks == 0);
+    return call - 1;
+}
+
 int main(void)
 {
     for (int is_for_good = 0; is_for_good < 2; is_for_good++) {
-        long shared = shared_opening(is_for_good), plain = plain_opening(is_for_good);
-        long closing = plain_closing(is_for_good);
-        CHECK(shared > 0 && plain > 0 && closing > 0);
-        printf("calls refused, by opening and closing: %ld, %ld, %ld\n", shared, plain, closing);
+        long shared = shared_opening(llfree_open, is_for_good), plain = plain_opening(is_for_good);
+        long unchecked = shared_opening(llfree_open_unchecked, is_for_good);
+        long again = reopening(true, is_for_good), plain_again = reopening(false, is_for_good);
+        long closing = plain_closing(is_for_good), last = shared_closing(is_for_good);
+        CHECK(shared > unchecked && unchecked > 0 && plain > 0 && closing > 0 && last > 0);
+        CHECK(again > shared && plain_again > plain);
+        printf("calls refused, by opening: %ld, %ld, %ld; at an image: %ld, %ld; by closing: %ld, %ld\n",
+               shared, unchecked, plain, again, plain_again, closing, last);
     }
     return 0;
 }

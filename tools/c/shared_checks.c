@@ -1,21 +1,10 @@
 /* The library for C with a handle for each core: every status, blocks that cross between threads,
- * wrong numbers under way, and races of threads for one give. A failed check says where. */
-#include "llfree.h"
+ * wrong numbers under way, and races of threads for one give. */
+#include "check.h"
 #include <pthread.h>
 #include <stdatomic.h>
-#include <stdio.h>
-#include <stdlib.h>
-#include <string.h>
 
-#define CHECK(x)                                                         \
-    do {                                                                 \
-        if (!(x)) {                                                      \
-            fprintf(stderr, "%s:%d: %s\n", __FILE__, __LINE__, #x);      \
-            exit(1);                                                     \
-        }                                                                \
-    } while (0)
-
-enum { CORES = 4, CHILDREN = 32, FRAMES = CHILDREN * 512, LARGEST = 9 };
+enum { CORES = 4, CHILDREN = 32, FRAMES = CHILDREN * 512 };
 enum { HELD = 200, ROUNDS = 60000, CROSSING = 256, RACES = 200 };
 
 static llfree_core cores[CORES];
@@ -110,6 +99,88 @@ static void holes(void)
     llfree_close(&h[1]);
 }
 
+/* The frames that a test holds by blocks below order 9, and the children that it holds whole. */
+static unsigned char held[8 * 512], whole[8];
+
+static void hold(uint32_t f, uint8_t order, unsigned char is_held)
+{
+    if (order == LARGEST)
+        whole[f / 512] = is_held;
+    else
+        memset(held + f, is_held, 1u << order);
+}
+
+static void take_and_hold(llfree_core *core, uint8_t order, uint32_t *f)
+{
+    CHECK(llfree_take(core, order, f) == LLFREE_OK);
+    hold(*f, order, 1);
+}
+
+/* The numbers say what is held, frame by frame, and count what is not. */
+static void check_image(const uint64_t *words, uint32_t children)
+{
+    for (uint32_t child = 0; child < children; child++) {
+        uint32_t free = 0;
+        for (uint32_t i = 0; i < 512; i++) {
+            CHECK((words[9 * child + 1 + i / 64] >> i % 64 & 1) == held[512 * child + i]);
+            free += !held[512 * child + i];
+        }
+        CHECK(words[9 * child] == (whole[child] ? 32768 : free));
+    }
+}
+
+/* The image that the last of three cores leaves, which took, gave and split what the others did. */
+static void images(void)
+{
+    enum { END = 6 * 512 + 77, WORDS = 9 * 7 };
+    static const llfree_range kept[] = { { 3, 2 }, { 600, 8 }, { END - 3, 2 } };
+    static uint64_t words[WORDS + 1];
+    llfree_core h[3] = { LLFREE_CLOSED, LLFREE_CLOSED, LLFREE_CLOSED };
+    uint32_t f[LARGEST + 1], g = 0, huge = 0;
+
+    CHECK(llfree_close_image(&h[0], words, WORDS) == LLFREE_CLOSED_HANDLE);
+    CHECK(llfree_open(h, 3, END, kept, 3) == LLFREE_OK);
+    for (size_t i = 0; i < 3; i++)
+        memset(held + kept[i].first, 1, kept[i].frames);
+    memset(held + END, 1, sizeof held - END);
+    for (uint8_t order = 0; order <= LARGEST; order++)
+        take_and_hold(&h[order % 3], order, &f[order]);
+    /* one huge frame is split, and a part of it given; another one is given whole */
+    take_and_hold(&h[1], LARGEST, &huge);
+    CHECK(llfree_split(&h[2], huge, LARGEST) == LLFREE_OK);
+    hold(huge, LARGEST, 0);
+    hold(huge, 8, 1);
+    CHECK(llfree_give(&h[0], huge + 256, 8) == LLFREE_OK);
+    take_and_hold(&h[0], LARGEST, &g);
+    CHECK(llfree_give(&h[2], g, LARGEST) == LLFREE_OK);
+    hold(g, LARGEST, 0);
+    for (uint8_t order = 1; order < LARGEST; order += 3) {
+        CHECK(llfree_give(&h[2], f[order], order) == LLFREE_OK);
+        hold(f[order], order, 0);
+    }
+    memset(words, 0xa5, sizeof words);
+    llfree_close(&h[1]);
+    CHECK(llfree_close_image(&h[2], words, WORDS) == LLFREE_CORES_OPEN);
+    CHECK(llfree_close_image(&h[0], words, WORDS) == LLFREE_CORES_OPEN);
+    CHECK(llfree_close_image(&h[0], words, WORDS - 1) == LLFREE_NO_ROOM);
+    CHECK(llfree_close_image(&h[1], words, WORDS) == LLFREE_CLOSED_HANDLE);
+    /* nothing changed: each of the two takes and gives */
+    take_and_hold(&h[0], 2, &g);
+    take_and_hold(&h[2], 1, &g);
+    CHECK(llfree_give(&h[0], g, 1) == LLFREE_OK);
+    hold(g, 1, 0);
+    llfree_close(&h[0]);
+    CHECK(llfree_close_image(&h[2], words, WORDS - 1) == LLFREE_NO_ROOM);
+    CHECK(llfree_close_image(&h[2], NULL, 0) == LLFREE_NO_ROOM);
+    CHECK(words[0] == 0xa5a5a5a5a5a5a5a5 && llfree_frames(&h[2]) == END);
+    take_and_hold(&h[2], 0, &g);
+    CHECK(llfree_close_image(&h[2], words, WORDS + 1) == LLFREE_OK);
+    CHECK(words[WORDS] == 0xa5a5a5a5a5a5a5a5);
+    CHECK(llfree_close_image(&h[2], words, WORDS) == LLFREE_CLOSED_HANDLE);
+    CHECK(llfree_frames(&h[2]) == 0);
+    check_image(words, 7);
+}
+
 /* Every frame is given out once, of a memory whose last tree is smaller than the others. */
 static void every_frame_once(void)
 {
@@ -175,9 +246,7 @@ static void *work(void *handle)
     int n = 0;
 
     for (int round = 0; round < ROUNDS; round++) {
-        x ^= x << 13;
-        x ^= x >> 7;
-        x ^= x << 17;
+        next_random(&x);
         uint8_t order = x % 16 < 12 ? 0 : x % 10;
         if (n < HELD && (x >> 20) % 2) {
             uint32_t f = 0, status = llfree_take(me, order, &f);
@@ -273,9 +342,11 @@ static void *race(void *handle)
     return NULL;
 }
 
-/* Threads race for one give, and gives for a split: exactly one has it. */
+/* Threads race for one give, and gives for a split: exactly one has it. At the end nothing is held. */
 static void races(void)
 {
+    static uint64_t words[9 * CHILDREN];
+
     for (int i = 0; i < RACES; i++) {
         splitting = i % 2;
         given = split = arrived = 0;
@@ -288,8 +359,11 @@ static void races(void)
         }
         CHECK(llfree_give(&cores[2], target, 4) == LLFREE_NOT_HELD);
     }
-    for (int i = 0; i < CORES; i++)
+    for (int i = 1; i < CORES; i++)
         llfree_close(&cores[i]);
+    CHECK(llfree_close_image(&cores[0], words, 9 * CHILDREN) == LLFREE_OK);
+    for (int i = 0; i < 9 * CHILDREN; i++)
+        CHECK(words[i] == (i % 9 == 0 ? 512 : 0));
 }
 
 /* A million calls with numbers at random, by one thread through two cores. What is held is remembered
@@ -303,9 +377,7 @@ static void random_numbers(void)
 
     CHECK(llfree_open(h, 2, ALL, NULL, 0) == LLFREE_OK);
     for (int round = 0; round < 1000000; round++) {
-        x ^= x << 13;
-        x ^= x >> 7;
-        x ^= x << 17;
+        next_random(&x);
         llfree_core *me = &h[(x >> 60) % 2];
         uint8_t order = (uint8_t)((x >> 8) % 12);
         uint32_t f = (x >> 16) % 8 == 0 ? (uint32_t)(x >> 20) : (uint32_t)(x >> 20) % ALL;
@@ -350,6 +422,7 @@ int main(void)
 {
     statuses();
     holes();
+    images();
     every_frame_once();
     splits();
     random_numbers();

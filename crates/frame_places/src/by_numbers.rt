@@ -98,7 +98,7 @@ fn fetch(shared: &Shared, frame: u32, order: u8) -> Option<Block>
 }
 
 // Lays the block down at its place. Where one rests there, or there is none, the block is given back.
-fn lay_down(shared: &Shared, core: &mut Core, held: Block) -> Option<Receipt>
+pub(crate) fn lay_down(shared: &Shared, core: &mut Core, held: Block) -> Option<Receipt>
     requires out { IsOutOf shared.now.allocator held }
     requires core { IsCoreOf shared.now.allocator core.old }
     ensures core { IsCoreOf shared.now.allocator core.new }

@@ -35,7 +35,7 @@ pub fn open_cores(
     Ok(states)
 }
 
-fn open_shared(
+pub(crate) fn open_shared(
     alloc: Global,
     geometry: Geometry,
     ranges: &[(u32, u32)],
@@ -55,7 +55,7 @@ fn open_shared(
     Ok((shared, cores))
 }
 
-fn next_core(allocator: &Allocator, cores: &mut Vec<Core>) -> Option<Core>
+pub(crate) fn next_core(allocator: &Allocator, cores: &mut Vec<Core>) -> Option<Core>
     requires { All (IsCoreOf allocator.now) cores.old.items }
     ensures core { IfSome result (IsCoreOf allocator.now) }
     ensures left { All (IsCoreOf allocator.now) cores.new.items }
@@ -65,7 +65,7 @@ fn next_core(allocator: &Allocator, cores: &mut Vec<Core>) -> Option<Core>
     cores.pop()
 }
 
-fn put_back(shared: &Shared, cores: &mut Vec<Core>, core: Core) -> Result<(), Fault>
+pub(crate) fn put_back(shared: &Shared, cores: &mut Vec<Core>, core: Core) -> Result<(), Fault>
     requires cores { All (IsCoreOf shared.now.allocator) cores.old.items }
     requires core { IsCoreOf shared.now.allocator core }
     ensures cores { All (IsCoreOf shared.now.allocator) cores.new.items }
@@ -79,7 +79,7 @@ fn put_back(shared: &Shared, cores: &mut Vec<Core>, core: Core) -> Result<(), Fa
     Ok(())
 }
 
-fn open(
+pub(crate) fn open(
     alloc: Global,
     geometry: Geometry,
     ranges: &[(u32, u32)],
@@ -93,7 +93,7 @@ fn open(
     Allocator::open_with(alloc, geometry, ranges)
 }
 
-fn cores_over(
+pub(crate) fn cores_over(
     alloc: Global,
     shared: &Arc<Shared, Global>,
     mut cores: Vec<Core>,

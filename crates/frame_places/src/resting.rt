@@ -2,12 +2,13 @@
 
 ghost use Rattle.std.specs.Prelude.{◌≡◌, IfOk, IfSome, IfErr};
 ghost use Rattle.core_frames.specs.Cores.{IsOutOf};
+ghost use Rattle.frame_places.specs.Calls.{laid_down};
 ghost use Rattle.frame_places.specs.Places.{IsPlaceOf};
 
 use crate::place::Place;
 use atomic_table::Perch;
 use core_frames::Allocator;
-use frame_core::HeldBlock;
+use frame_core::{FrameBlock, HeldBlock};
 use frame_table::Block;
 
 const EMPTY: u64 = 0;
@@ -27,6 +28,16 @@ impl Receipt {
         ensures { result ≡ self.now.frame }
     {
         self.frame
+    }
+
+    /// The block.
+    pub fn block(&self) -> FrameBlock
+        ensures { result ≡ laid_down self.now }
+    {
+        FrameBlock {
+            frame: self.frame,
+            order: self.order,
+        }
     }
 }
 

@@ -7,6 +7,7 @@ ghost use Rattle.frame_places.specs.Places.{IsPlaceOf, ArePlacesOf};
 
 use crate::place::Place;
 use crate::places::places_of;
+use crate::resting::Receipt;
 use core_frames::{Allocator, Core};
 use frame_words::{Fault, HUGE_ORDER};
 use std::alloc::Global;
@@ -19,6 +20,8 @@ pub struct Shared {
     pub frames: u32,
     // By order, then by frame.
     places: Vec<Vec<Place>>,
+    /// Of the blocks that were laid down before any core was handed out.
+    pub reclaimed: Vec<Receipt>,
     pub ghost sized: { frames ≡ (memory_of allocator).frames },
     pub ghost placed: { All (ArePlacesOf allocator) places.items },
 }
@@ -66,6 +69,20 @@ impl Shared {
             allocator,
             frames,
             places,
+            reclaimed: Vec::new(alloc),
         })
+    }
+
+    /// No places: only blocks whose rights the caller keeps can be taken.
+    pub(crate) fn bare(alloc: Global, allocator: Allocator, frames: u32) -> Shared
+        requires { frames ≡ (memory_of allocator).frames }
+        ensures { result.allocator ≡ allocator }
+    {
+        Shared {
+            allocator,
+            frames,
+            places: Vec::new(alloc),
+            reclaimed: Vec::new(alloc),
+        }
     }
 }

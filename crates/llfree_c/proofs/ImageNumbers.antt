@@ -7,8 +7,9 @@ use Rattle.frame_words.specs.declared.geometry.Geometry.{Geometry}
 use Rattle.frame_model.specs.Key.{key_of}
 use Rattle.frame_model.specs.Words.{bit_word_of, bits_place}
 use Rattle.frame_core.specs.Image.{Contents, key_in}
-use Rattle.core_frames.specs.PlainState.{PlainState, memory_by}
-use Rattle.llfree_c.specs.Images.{SaysOfChild, SaysAll}
+use Rattle.frame_core.specs.Laws.{AddsUp}
+use Rattle.core_frames.specs.PlainState.{PlainState, memory_by, held_by, HoldsExactly}
+use Rattle.llfree_c.specs.Images.{SaysOfChild, SaysAll, LeavesNumbers}
 
 -- what numbers say of the children below stays where those are as before
 pub says_below : (key : Key) (words old new : List ℕ) (child k : ℕ)
@@ -39,3 +40,15 @@ says_of_memory state image numbers e says =
     let at : SaysAll (key_of state.geometry) image.words numbers =
     subst (λ (g : Geometry). SaysAll (key_of g) image.words numbers) e says in
     λ c less. let s = at c less in record { entry = s.entry; bits = s.bits }
+
+-- numbers that say what an image does are left of the memory that the image holds exactly
+pub leaves_numbers : (state : PlainState) (image : Contents) (numbers : List ℕ)
+    → image.geometry ≡ state.geometry → SaysAll (key_in image) image.words numbers
+    → HoldsExactly (memory_by state) image.words (held_by state) → AddsUp (memory_by state) image.words
+    → LeavesNumbers state numbers
+leaves_numbers state image numbers e says exact counters = record {
+  words = image.words;
+  says = says_of_memory state image numbers e says;
+  exact = exact;
+  counters = counters;
+}

@@ -4,7 +4,8 @@ ghost use Rattle.std.specs.Prelude.{◌≡◌, ◌≢◌, ◌⊎◌, ◌≤◌, 
 ghost use Rattle.llfree_c.specs.Images.{LeavesImage, memory_behind, IsUnwritten};
 ghost use Rattle.llfree_c.specs.Openings.{IsUnopened};
 ghost use Rattle.llfree_c.specs.Status.{ok, no_block, bad_order, not_held, closed, not_closed};
-ghost use Rattle.llfree_c.specs.Seen.{Both, OpensFresh, plain_frames, BlockTaken, NoneWasFree, HasNoOrder, BlockGiven, BlockSplit, HasNoHalves, WasNotOut};
+ghost use Rattle.llfree_c.specs.Seen.{Both, OpensFresh, plain_frames, BlockTaken, NoneWasFree, HasNoOrder};
+ghost use Rattle.llfree_c.specs.Seen.{BlockGiven, BlockSplit, HasNoHalves, WasNotOut};
 
 use crate::crossing::may_cross;
 use crate::handle::PlainHandle;

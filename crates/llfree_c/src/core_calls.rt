@@ -1,12 +1,14 @@
 //! What C calls of an allocator for several threads, each with a core of its own.
 
-ghost use Rattle.std.specs.Prelude.{◌≡◌, ◌≢◌, ◌⊎◌, ◌<◌, ◌≤◌, false};
+ghost use Rattle.std.specs.Prelude.{◌≡◌, ◌≢◌, ◌⊎◌, ◌<◌, ◌≤◌, false, length};
 ghost use Rattle.std.specs.List.{All};
 ghost use Rattle.frame_places.specs.Calls.{SharesOne, TakesFor, GivesFor, SplitsFor, FindsNoneFor, LendsNoMore, KeepsCore};
+ghost use Rattle.llfree_c.specs.CoreImages.{LeavesCoreImage, LeavesNoCoreImage};
 ghost use Rattle.llfree_c.specs.Status.{ok, no_block, bad_order, not_held, closed, contended};
 ghost use Rattle.llfree_c.specs.OpenCores.{HasNoCores, IsClosedHandle, OpensCores};
 ghost use Rattle.llfree_c.specs.SeenCores.{OnCores, frames_behind};
 
+use crate::core_closing::leave_core_image;
 use crate::core_handle::CoreHandle;
 use crate::core_opening::{boxed_cores, hand_over};
 use crate::core_steps::{give, split, take};
@@ -28,7 +30,7 @@ pub extern "C" fn llfree_open(
     ensures refused { result ≢ ok → handles.new ≡ handles.old }
     ensures why { result ≢ ok → HasNoCores frames ranges.now handles.old result }
 {
-    match boxed_cores(handles, heap, frames, ranges) {
+    match boxed_cores(handles, heap, frames, ranges, true) {
         Ok(cores) => {
             hand_over(handles, cores);
             OK
@@ -128,4 +130,28 @@ pub extern "C" fn llfree_close(handle: &mut CoreHandle, heap: Global)
     ensures { handle.new.live ≡ false }
 {
     let _state = handle.take_out(heap);
+}
+
+/// Writes the numbers of the memory's image, as many as `llfree_image_words` says, from the last open
+/// handle of an allocator, frees the allocator, and closes the handle.
+#[unsafe(no_mangle)]
+pub extern "C" fn llfree_close_image(
+    handle: &mut CoreHandle,
+    heap: Global,
+    numbers: &mut [u64],
+) -> u32
+    ensures left { result ≡ ok → LeavesCoreImage handle.old.state.value numbers.new }
+    ensures closes { result ≡ ok → handle.new.live ≡ false }
+    ensures same { result ≢ ok → handle.new.state.value ≡ handle.old.state.value }
+    ensures refused { result ≢ ok → (numbers.new ≡ numbers.old)
+        × LeavesNoCoreImage handle.old.state.value (length numbers.old) result }
+{
+    let Some(mut state) = handle.take_out(heap) else {
+        return CLOSED;
+    };
+    let status = leave_core_image(&mut state, heap, numbers);
+    if status != OK {
+        *handle = CoreHandle::of(state);
+    }
+    status
 }

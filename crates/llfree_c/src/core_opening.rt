@@ -2,6 +2,9 @@
 
 ghost use Rattle.std.specs.Prelude.{◌≡◌, ◌+◌, ◌<◌, IfOk, IfErr, length, map, vec_len};
 ghost use Rattle.std.specs.List.{All};
+ghost use Rattle.core_frames.specs.Ranges.{MayHoldBack, IsUnopenedFor};
+ghost use Rattle.frame_model.specs.Key.{sealed_key};
+ghost use Rattle.frame_places.specs.Openings.{AreCoresOf};
 ghost use Rattle.frame_places.specs.declared.shared.Shared.{Shared};
 ghost use Rattle.llfree_c.specs.Status.{no_memory};
 ghost use Rattle.llfree_c.specs.OpenCores.{BoxShares, HasNoCores, ShareOne, IsClosedHandle, IsCoreBehind};
@@ -11,8 +14,8 @@ use crate::crossing::may_cross;
 use crate::ranges::{FrameRange, pairs_in};
 use crate::sizes::geometry_of;
 use crate::statuses::{BAD_GEOMETRY, BAD_RANGE, NO_MEMORY, NOT_CLOSED};
-use frame_places::{CoreState, open_cores};
-use frame_words::{Fault, MOST_CORES};
+use frame_places::{CoreState, open_bare_cores, open_cores};
+use frame_words::{Fault, Geometry, MOST_CORES};
 use std::alloc::Global;
 
 pub(crate) fn boxed_cores(
@@ -20,6 +23,7 @@ pub(crate) fn boxed_cores(
     heap: Global,
     frames: u32,
     ranges: &[FrameRange],
+    has_places: bool,
 ) -> Result<Vec<Box<CoreState, Global>>, u32>
     ensures count { IfOk result (λ cores. vec_len cores ≡ length handles.now) }
     ensures closed { IfOk result (λ _. All IsClosedHandle handles.now) }
@@ -37,7 +41,7 @@ pub(crate) fn boxed_cores(
     }
     let geometry = geometry_of(frames, count as u32)?;
     let pairs = pairs_in(heap, ranges)?;
-    let states = match open_cores(heap, geometry, &pairs) {
+    let states = match states_of(heap, geometry, &pairs, has_places) {
         Ok(states) => states,
         Err(Fault::BadRange) => return Err(BAD_RANGE),
         Err(_) => return Err(NO_MEMORY),
@@ -50,7 +54,27 @@ pub(crate) fn boxed_cores(
     }
 }
 
-fn boxed(heap: Global, states: Vec<CoreState>) -> Result<Vec<Box<CoreState, Global>>, u32>
+fn states_of(
+    heap: Global,
+    geometry: Geometry,
+    pairs: &[(u32, u32)],
+    has_places: bool,
+) -> Result<Vec<CoreState>, Fault>
+    ensures cores { IfOk result (λ states. AreCoresOf (sealed_key geometry pairs.now) states.items) }
+    ensures lawful { IfOk result (λ _. MayHoldBack geometry pairs.now) }
+    ensures refused { IfErr result (IsUnopenedFor geometry pairs.now) }
+{
+    if has_places {
+        open_cores(heap, geometry, pairs)
+    } else {
+        open_bare_cores(heap, geometry, pairs)
+    }
+}
+
+pub(crate) fn boxed(
+    heap: Global,
+    states: Vec<CoreState>,
+) -> Result<Vec<Box<CoreState, Global>>, u32>
     ensures cores { IfOk result (λ cores. map (λ b. b.value) cores.items ≡ states.items) }
     ensures err { IfErr result (λ e. e ≡ no_memory) }
 {

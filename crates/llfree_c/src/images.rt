@@ -3,12 +3,12 @@
 ghost use Rattle.std.specs.Prelude.{◌≡◌, ℕ, ◌⊎◌, ◌+◌, ◌*◌, ◌<◌, ◌≤◌, length, slice_index};
 ghost use Rattle.frame_core.specs.Image.{key_in};
 ghost use Rattle.llfree_c.specs.Images.{image_words, SaysOfChild, SaysAll};
-ghost use Rattle.llfree_c.specs.Openings.{most_frames};
+ghost use Rattle.frame_places.specs.Numbers.{most_frames};
 
 use frame_core::Image;
 use frame_words::{CHILD_FRAMES, CHILD_WORDS, MOST_CHILDREN, entry};
 
-const CHILD_NUMBERS: usize = 1 + CHILD_WORDS as usize;
+pub(crate) const CHILD_NUMBERS: usize = 1 + CHILD_WORDS as usize;
 
 const MOST_FRAMES: u32 = CHILD_FRAMES * MOST_CHILDREN;
 

@@ -1,8 +1,14 @@
 //! LLFree for C: an allocator for one thread and one for several, behind handles that C carries.
 #![tactic(auto)]
 
+mod block_calls;
+mod block_handle;
+mod block_right;
+mod block_steps;
+mod blocks;
 mod calls;
 mod core_calls;
+mod core_closing;
 mod core_handle;
 mod core_opening;
 mod core_steps;
@@ -14,6 +20,11 @@ mod plain;
 mod ranges;
 mod raw_core;
 mod raw_plain;
+mod rebuilding;
+mod reopen_calls;
+mod reopened;
+mod replay;
 mod sizes;
 mod statuses;
 mod steps;
+mod unchecked_opening;

@@ -82,6 +82,7 @@ impl Plain {
 
     /// Writes the numbers of the memory's image. A fresh memory is behind it then, which stood in its
     /// place so that a refusal can put it back.
+    #[tactic(auto, using(crate::proofs::ImageNumbers::leaves_numbers))]
     pub(crate) fn leave_image(&mut self, heap: Global, numbers: &mut [u64]) -> u32
         ensures left { result ≡ ok → LeavesNumbers self.old.allocator numbers.new }
         ensures same { result ≢ ok → self.new.allocator ≡ self.old.allocator }

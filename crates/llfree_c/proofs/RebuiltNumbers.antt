@@ -1,0 +1,120 @@
+-- Numbers that say of words what these will once they are rebuilt.
+use Rattle.std.proofs.Common.{◌≡◌, ⊎_elim, ℕ, ◌+◌, ◌*◌, ◌<◌, ◌≤◌, max, List, [], true, refl, ap, sym, subst, ◌∙◌, arith}
+use Rattle.std.proofs.lemmas.Bool.{cases_lt, cases_eq}
+use Rattle.std.specs.Prelude.{slice_index}
+use Rattle.frame_words.specs.Words.{entry_word}
+use Rattle.frame_model.specs.declared.key.Key.{Key}
+use Rattle.frame_core.specs.Image.{Contents, key_in}
+use Rattle.frame_core.specs.Key.{key_of, frame_count, child_of}
+use Rattle.frame_core.specs.Moves.{HasSizes}
+use Rattle.frame_core.specs.Rebuilt.{rebuilt_free, rebuilt_bits, IsRebuilt}
+use Rattle.frame_core.specs.Report.{held_at}
+use Rattle.frame_core.specs.Words.{free_of, huge_of, bit_of, bit_word_of, bits_place, set_of, AreInRange}
+use Rattle.frame_model.proofs.Steps.Shared.{bit-le}
+use Rattle.frame_model.proofs.Stopping.Existing.{every_rebuilding_exists}
+use Rattle.frame_model.proofs.Stopping.Rebuilding.{kept_bit, cleared_bit, every_rebuilding_is_exact}
+use Rattle.frame_table.specs.Stopping.{IsImageAtStop}
+use Rattle.llfree_c.specs.CoreImages.{SaysOfRebuilt, SaysRebuilt, LeavesStop}
+use Rattle.llfree_c.specs.Images.{SaysAll}
+
+-- what numbers say of the children below stays where those are as before
+says_below : (key : Key) (words old new : List ℕ) (child k : ℕ)
+    → ((i : ℕ) → i < 9 * child → slice_index new i ≡ slice_index old i) → k < child
+    → SaysOfRebuilt key words k old → SaysOfRebuilt key words k new
+says_below key words old new child k same below says = record {
+  entry = same (9 * k) (omega arith) ∙ says.entry;
+  bits = λ w less. same (9 * k + 1 + w) (omega arith) ∙ says.bits w less;
+}
+
+-- one more child is said
+pub says_more : (key : Key) (words old new : List ℕ) (child : ℕ)
+    → ((i : ℕ) → i < 9 * child → slice_index new i ≡ slice_index old i)
+    → ((k : ℕ) → k < child → SaysOfRebuilt key words k old) → SaysOfRebuilt key words child new
+    → (k : ℕ) → k < child + 1 → SaysOfRebuilt key words k new
+says_more key words old new child same all one k less =
+    ⊎_elim
+    (λ (below : k < child). says_below key words old new child k same below (all k below))
+    (λ (above : child ≤ k). let e : child ≡ k = omega arith in subst (λ (n : ℕ). SaysOfRebuilt key words n new) e one)
+    (cases_lt k child)
+
+-- the key of a memory without what its opening held back
+abbrev open_key : Key → Key
+open_key key = record key { ranges = []; sealed = true }
+
+abbrev sized : ℕ → ℕ → ℕ → Key
+sized children cores frames = record {
+  children = children;
+  cores = cores;
+  frames = frames;
+  ranges = [];
+  sealed = true;
+}
+
+same_memory : (key : Key) (words numbers : List ℕ) → SaysRebuilt (open_key key) words numbers
+    → SaysRebuilt key words numbers
+unfolding rebuilt_free rebuilt_bits set_of bit_word_of bits_place
+same_memory key words numbers says = λ c less. let s = says c less in record { entry = s.entry; bits = s.bits }
+
+-- what numbers say of an image's words they say of those of its memory, whatever was held back there
+says_of_memory : (key : Key) (image : Contents) (numbers : List ℕ) → HasSizes key image.geometry
+    → SaysRebuilt (key_in image) image.words numbers → SaysRebuilt key image.words numbers
+says_of_memory key image numbers s says =
+    let g = image.geometry in
+    let is : key_of g ≡ open_key key =
+    ap (λ n. sized n g.cores g.frames) s.0
+    ∙ (ap (λ n. sized key.children n g.frames) s.1 ∙ ap (λ n. sized key.children key.cores n) s.2) in
+    same_memory key image.words numbers (subst (λ k. SaysRebuilt k image.words numbers) is says)
+
+module _ (key : Key) (old new : List ℕ) (r : IsRebuilt key old new) where
+  says_of_words : (numbers : List ℕ) → SaysRebuilt key old numbers → SaysAll key new numbers
+  says_of_words numbers says c less = let s = says c less in record {
+    entry = s.entry ∙ (ap (λ n. entry_word n (huge_of old c)) (sym (r.free c less))
+        ∙ ap (entry_word (free_of new c)) (sym (r.huge c less)));
+    bits = λ w h. s.bits w h ∙ sym (r.bits (8 * c + w) (omega arith));
+  }
+
+  held_max : (ws : List ℕ) (x : ℕ) → held_at key ws x ≡ max (bit_of key ws x) (huge_of ws (child_of x))
+  unfolding held_at
+  held_max ws x = refl
+
+  -- rebuilt words hold the frames that were held
+  rebuilt_held : AreInRange key old → (x : ℕ) → x < frame_count key → held_at key new x ≡ held_at key old x
+  rebuilt_held was x h =
+      let few = was.huge (child_of x) (omega arith) in
+      let same = r.huge (child_of x) (omega arith) in
+      ⊎_elim
+      (λ (z : huge_of old (child_of x) ≡ 0). omega (
+        arith,
+        held_max old x,
+        held_max new x,
+        same,
+        kept_bit key old new was r x h z,
+      ))
+      (λ z. let one : huge_of old (child_of x) ≡ 1 = omega arith in
+      omega (
+        arith,
+        held_max old x,
+        held_max new x,
+        same,
+        cleared_bit key old new was r x h one,
+        bit-le key old x,
+      ))
+      (cases_eq (huge_of old (child_of x)) 0)
+
+pub leaves_stop : (key : Key) (image : Contents) (numbers : List ℕ) → IsImageAtStop key image
+    → SaysRebuilt (key_in image) image.words numbers → LeavesStop key numbers
+leaves_stop key image numbers stop says =
+    let old = image.words in
+    let was : AreInRange key old = subst (AreInRange key) stop.words stop.fits.words_in_range in
+    let again = every_rebuilding_exists key old was in
+    let r : IsRebuilt key old again.0 = again.1 in
+    record {
+      state = stop.state;
+      fits = stop.fits;
+      words = again.0;
+      rebuilt = subst (λ us. IsRebuilt key us again.0) (sym stop.words) r;
+      says = says_of_words key old again.0 r numbers (says_of_memory key image numbers stop.sizes says);
+      exact = every_rebuilding_is_exact key old again.0 was r;
+      held = λ x h. rebuilt_held key old again.0 r was x h ∙ stop.held x h;
+      boot = λ sealed x h named. rebuilt_held key old again.0 r was x h ∙ stop.boot sealed x h named;
+    }

@@ -1,0 +1,58 @@
+-- The image that the last core of an allocator leaves.
+use Rattle.std.specs.Prelude.{◌≡◌, ◌⊎◌, ℕ, ◌+◌, ◌*◌, ◌<◌, List, Option, Some, None, true, slice_index}
+use Rattle.frame_words.specs.Words.{entry_word}
+use Rattle.frame_model.specs.declared.key.Key.{Key}
+use Rattle.frame_core.specs.Events.{State, views_of, Fits}
+use Rattle.frame_core.specs.Laws.{holding_of}
+use Rattle.frame_core.specs.Rebuilt.{rebuilt_free, rebuilt_bits, IsRebuilt}
+use Rattle.frame_core.specs.Stops.{IsExact}
+use Rattle.frame_core.specs.Words.{huge_of}
+use Rattle.frame_table.specs.Stopping.{HoldsFramesOf, HoldsBootFrames}
+use Rattle.core_frames.specs.Cores.{memory_of}
+use Rattle.frame_places.specs.Calls.{allocator_of, frames_by}
+use Rattle.frame_places.specs.declared.core_state.CoreState.{CoreState}
+use Rattle.llfree_c.specs.Images.{image_words, SaysAll}
+use Rattle.llfree_c.specs.Status.{closed, no_memory, no_room, cores_open}
+
+-- the numbers say of a child what these words will once they are rebuilt
+pub record SaysOfRebuilt (key : Key) (words : List ℕ) (c : ℕ) (numbers : List ℕ) : Type 0 where
+  pub entry : slice_index numbers (9 * c) ≡ entry_word (rebuilt_free key words c) (huge_of words c)
+  pub bits : (w : ℕ) → w < 8
+      → slice_index numbers (9 * c + 1 + w) ≡ rebuilt_bits key words (8 * c + w)
+
+-- the numbers say of each child what these words will once they are rebuilt
+abbrev pub SaysRebuilt : Key → List ℕ → List ℕ → Type 0
+SaysRebuilt key words numbers = (c : ℕ) → c < key.children → SaysOfRebuilt key words c numbers
+
+-- the numbers are those of the memory's words at a stop, rebuilt: each counter is exact, and just the
+-- frames of all blocks that were held are held, with those that nobody is ever given
+pub record LeavesStop (key : Key) (numbers : List ℕ) : Type 0 where
+  pub state : State
+  pub fits : Fits key key.cores state
+  pub words : List ℕ
+  pub rebuilt : IsRebuilt key state.words words
+  pub says : SaysAll key words numbers
+  pub exact : IsExact key words
+  pub held : HoldsFramesOf key words (holding_of key (views_of state))
+  pub boot : key.sealed ≡ true → HoldsBootFrames key words
+
+-- these are the numbers of an image of the core's memory
+abbrev pub StopsCore : CoreState → List ℕ → Type 0
+StopsCore s numbers = LeavesStop (memory_of (allocator_of s)) numbers
+
+-- why a core left no image in so much room: it has more numbers, memory was wanting, or other cores
+-- were open
+abbrev pub HasNoStop : CoreState → (room status : ℕ) → Type 0
+HasNoStop s room status =
+    ((status ≡ no_room) × (room < image_words (frames_by s)))
+    ⊎ (status ≡ no_memory) ⊎ (status ≡ cores_open)
+
+-- the core behind a handle left an image
+abbrev pub LeavesCoreImage : Option CoreState → List ℕ → Type 0
+LeavesCoreImage (Some s) numbers = StopsCore s numbers
+LeavesCoreImage None numbers = ⊥
+
+-- why none was left of what is behind a handle: nothing is, or as above
+abbrev pub LeavesNoCoreImage : Option CoreState → (room status : ℕ) → Type 0
+LeavesNoCoreImage (Some s) room status = HasNoStop s room status
+LeavesNoCoreImage None room status = status ≡ closed

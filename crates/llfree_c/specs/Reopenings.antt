@@ -1,0 +1,101 @@
+-- The memories that an opening at an image is asked for, and why there are none.
+use Rattle.std.specs.Prelude.{◌≡◌, ◌⊎◌, ℕ, ◌≤◌, List, [], ◌++◌, Option, Some, None, length, map}
+use Rattle.std.specs.List.{All}
+use Rattle.std.specs.List.Sorted.{IsPermutation}
+use Rattle.std.specs.declared.boxed.Box.{Box}
+use Rattle.frame_model.specs.declared.block.FrameBlock.{FrameBlock}
+use Rattle.frame_core.specs.Block.{block}
+use Rattle.core_frames.specs.PlainState.{PlainState, memory_by}
+use Rattle.frame_places.specs.Claims.{IsHeldAs, ShareNoFrame}
+use Rattle.frame_places.specs.Numbers.{IsImageOf}
+use Rattle.frame_places.specs.Reopenings.{HasLaidDown}
+use Rattle.frame_places.specs.declared.core_state.CoreState.{CoreState}
+use Rattle.frame_places.specs.declared.shared.Shared.{Shared}
+use Rattle.llfree_c.specs.OpenCores.{HasMemory, IsClosedHandle, IsCoreBehind, BoxShares}
+use Rattle.llfree_c.specs.Openings.{HasNoSizes, IsMemoryOf}
+use Rattle.llfree_c.specs.Replays.{HoldsAllOf, HoldsOnly}
+use Rattle.llfree_c.specs.Status.{bad_image, bad_order, contended, no_memory, not_closed, not_held}
+use Rattle.llfree_c.specs.declared.blocks.ClaimedBlock.{ClaimedBlock}
+use Rattle.llfree_c.specs.declared.core_handle.CoreHandle.{CoreHandle}
+use Rattle.llfree_c.specs.declared.plain.Plain.{Plain}
+
+-- the block that a claim names
+abbrev pub block_of : ClaimedBlock → FrameBlock
+block_of b = block b.frame b.order
+
+-- the blocks that claims name
+abbrev pub claimed_blocks : List ClaimedBlock → List FrameBlock
+claimed_blocks claims = map block_of claims
+
+-- the order is one of a block
+abbrev pub NamesAnOrder : ClaimedBlock → Type 0
+NamesAnOrder b = b.order ≤ 9
+
+-- an image of so many frames holds each of the blocks in its own form, and no two share a frame
+pub record MayBeClaimed (frames : ℕ) (numbers : List ℕ) (claims : List ClaimedBlock) : Type 0 where
+  pub held : All (IsHeldAs frames numbers) (claimed_blocks claims)
+  pub apart : ShareNoFrame (claimed_blocks claims)
+
+-- an image was left with these numbers of a memory of so many frames, and these blocks may be claimed
+pub record IsClaimedOf (frames : ℕ) (numbers : List ℕ) (claims : List ClaimedBlock)
+    (blocks : List FrameBlock) : Type 0 where
+  pub image : IsImageOf frames numbers
+  pub held : All (IsHeldAs frames numbers) blocks
+  pub same : IsPermutation (claimed_blocks claims) blocks
+
+-- why blocks are not claimed: the numbers are no image's, an order is none, a block is not held by
+-- itself, or memory was wanting
+abbrev pub HasNoClaims : (frames : ℕ) → List ℕ → List ClaimedBlock → (status : ℕ) → Type 0
+HasNoClaims frames numbers claims status =
+    ((status ≡ bad_image) × ¬ IsImageOf frames numbers)
+    ⊎ ((status ≡ bad_order) × ¬ All NamesAnOrder claims)
+    ⊎ ((status ≡ not_held) × ¬ MayBeClaimed frames numbers claims)
+    ⊎ (status ≡ no_memory)
+
+-- why no memory was opened at an image: there is none of these sizes, blocks are not claimed, or a
+-- claimed block was not reached
+abbrev pub IsNotReopened : (frames cores : ℕ) → List ℕ → List ClaimedBlock → (status : ℕ) → Type 0
+IsNotReopened frames cores numbers claims status =
+    HasNoSizes frames cores status ⊎ HasNoClaims frames numbers claims status ⊎ (status ≡ contended)
+
+-- the memory has so many frames and no ranges, was left with these numbers, and holds just the frames that they
+-- hold; of these just the claimed blocks are out
+pub record Reopens (frames : ℕ) (numbers : List ℕ) (claims : List ClaimedBlock) (state : PlainState)
+    : Type 0 where
+  pub memory : IsMemoryOf frames [] (memory_by state)
+  pub image : IsImageOf frames numbers
+  pub all : HoldsAllOf frames numbers (state.out ++ state.kept)
+  pub only : HoldsOnly numbers (state.out ++ state.kept)
+  pub held : All (IsHeldAs frames numbers) state.out
+  pub out : IsPermutation (claimed_blocks claims) state.out
+
+-- such a memory is behind the handle
+abbrev pub ReopensBehind : ℕ → List ℕ → List ClaimedBlock → Option Plain → Type 0
+ReopensBehind frames numbers claims (Some p) = Reopens frames numbers claims p.allocator
+ReopensBehind frames numbers claims None = ⊥
+
+-- an allocator of a memory that was left with these numbers, which laid down just the claimed blocks
+-- before any core was handed out
+pub record IsReopened (frames : ℕ) (numbers : List ℕ) (claims : List ClaimedBlock) (shared : Shared)
+    : Type 0 where
+  pub memory : HasMemory frames [] shared
+  pub image : IsImageOf frames numbers
+  pub laid : (blocks : List FrameBlock) × HasLaidDown blocks shared
+      × All (IsHeldAs frames numbers) blocks × IsPermutation (claimed_blocks claims) blocks
+
+-- one such allocator is shared by the cores behind all of the handles
+abbrev pub ReopensCores : ℕ → List ℕ → List ClaimedBlock → List CoreHandle → Type 0
+ReopensCores frames numbers claims handles =
+    (shared : Shared) × IsReopened frames numbers claims shared × All (IsCoreBehind shared) handles
+
+-- one such allocator is shared by the cores in all of the boxes
+abbrev pub ShareReopened : {Z : Type 0} → ℕ → List ℕ → List ClaimedBlock → List (Box CoreState Z)
+    → Type 0
+ShareReopened frames numbers claims cores =
+    (shared : Shared) × IsReopened frames numbers claims shared × All (BoxShares shared) cores
+
+-- why no cores were opened at an image behind these handles: one was open, or as above
+abbrev pub HasNoCoresAt : ℕ → List ℕ → List ClaimedBlock → List CoreHandle → ℕ → Type 0
+HasNoCoresAt frames numbers claims handles status =
+    ((status ≡ not_closed) × ¬ All IsClosedHandle handles)
+    ⊎ IsNotReopened frames (length handles) numbers claims status

@@ -1,0 +1,24 @@
+-- The right to a block, as C carries it.
+use base.Fml.{Fml}
+use Rattle.std.specs.Prelude.{◌≡◌, ℕ, List, [], ◌∷◌, Option, None}
+use Rattle.frame_core.specs.Block.{block}
+use Rattle.frame_core.specs.Events.{eye}
+use Rattle.frame_core.specs.View.{holder}
+use Rattle.frame_model.specs.contracts.view.Eye.{the_row}
+use Rattle.frame_model.specs.declared.key.Key.{Key}
+use Rattle.frame_model.specs.declared.view.Eye.{Eye}
+use Rattle.atomic_table.specs.Seated.{badge_owns}
+use Rattle.atomic_table.specs.declared.badge.Badge.{Badge}
+
+-- what a right owns of its table; nothing, where there is none
+abbrev pub right_owned : Badge Eye → Fml
+right_owned b = badge_owns the_row.coded.code b.table_id b.id b.views
+
+-- the memory that a right is about
+abbrev pub memory_in : List Eye → Option Key
+memory_in [] = None
+memory_in (e ∷ es) = e.view.about
+
+-- there is a right, and it owns exactly this block
+abbrev pub IsRightTo : (frame order : ℕ) → List Eye → Type 0
+IsRightTo frame order views = views ≡ eye (holder (memory_in views) (block frame order)) [] ∷ []

@@ -1,0 +1,105 @@
+//! What C calls of an allocator for several threads by blocks that it carries itself.
+
+ghost use Rattle.std.specs.Prelude.{◌≡◌, ◌≢◌, ◌⊎◌, ◌<◌, ◌≤◌, true, false};
+ghost use Rattle.frame_places.specs.Calls.{SharesOne, GivesFor, FindsNoneFor, LendsNoMore, KeepsCore};
+ghost use Rattle.llfree_c.specs.Blocks.{IsOfTheAllocator, TakesHeld, SplitsHeld};
+ghost use Rattle.llfree_c.specs.Status.{ok, no_block, bad_order, not_held, closed, not_closed, contended};
+ghost use Rattle.llfree_c.specs.SeenCores.{OnCores};
+
+use crate::block_handle::BlockHandle;
+use crate::block_steps::{give_block, split_block, take_block};
+use crate::core_handle::CoreHandle;
+use crate::crossing::may_cross;
+use crate::statuses::CLOSED;
+use std::alloc::Global;
+
+/// Takes a block of the order, which the empty `held` carries from then on.
+#[unsafe(no_mangle)]
+pub extern "C" fn llfree_take_block(
+    handle: &mut CoreHandle,
+    heap: Global,
+    order: u8,
+    held: &mut BlockHandle,
+) -> u32
+    ensures taken { result ≡ ok → (held.old.live ≡ false)
+        × OnCores (TakesHeld order held.new) handle.old.state.value handle.new.state.value }
+    ensures none { result ≡ no_block
+        → OnCores (FindsNoneFor order) handle.old.state.value handle.new.state.value }
+    ensures why { (result ≡ bad_order → 9 < order) × (result ≡ not_closed → held.old.live ≡ true) }
+    ensures lends { result ≢ ok → result ≢ closed
+        → OnCores LendsNoMore handle.old.state.value handle.new.state.value }
+    ensures shared { result ≢ closed
+        → OnCores SharesOne handle.old.state.value handle.new.state.value }
+    ensures closed { result ≡ closed → (handle.old.live ≡ false) × (handle.new ≡ handle.old) }
+    ensures refused { result ≢ ok → held.new ≡ held.old }
+    ensures known { (result ≤ bad_order) ⊎ (result ≡ closed) ⊎ (result ≡ not_closed)
+        ⊎ (result ≡ contended) }
+{
+    let Some(mut state) = handle.take_out(heap) else {
+        return CLOSED;
+    };
+    let status = take_block(&mut state, order, held);
+    *handle = CoreHandle::of(state);
+    may_cross(held);
+    status
+}
+
+/// Gives the block that `held` carries, whichever core took it; it is empty from then on.
+#[unsafe(no_mangle)]
+pub extern "C" fn llfree_give_block(
+    handle: &mut CoreHandle,
+    heap: Global,
+    held: &mut BlockHandle,
+) -> u32
+    requires { IsOfTheAllocator handle.old.state.value held.old }
+    ensures given { result ≡ ok → OnCores (GivesFor held.old.order held.old.frame)
+        handle.old.state.value handle.new.state.value }
+    ensures empty { result ≡ ok → (held.old.live ≡ true) × (held.new.live ≡ false) }
+    ensures same { result ≡ not_held → (held.old.live ≡ false)
+        × OnCores KeepsCore handle.old.state.value handle.new.state.value }
+    ensures shared { result ≢ closed
+        → OnCores SharesOne handle.old.state.value handle.new.state.value }
+    ensures closed { result ≡ closed → (handle.old.live ≡ false) × (handle.new ≡ handle.old) }
+    ensures refused { result ≢ ok → held.new ≡ held.old }
+    ensures known { (result ≡ ok) ⊎ (result ≡ not_held) ⊎ (result ≡ closed) }
+{
+    let Some(mut state) = handle.take_out(heap) else {
+        return CLOSED;
+    };
+    let status = give_block(&mut state, held);
+    *handle = CoreHandle::of(state);
+    status
+}
+
+/// Splits the block that `held` carries into its halves, whichever core took it: `held` carries the
+/// lower one from then on, and the empty `upper` the other.
+#[unsafe(no_mangle)]
+pub extern "C" fn llfree_split_block(
+    handle: &mut CoreHandle,
+    heap: Global,
+    held: &mut BlockHandle,
+    upper: &mut BlockHandle,
+) -> u32
+    requires { IsOfTheAllocator handle.old.state.value held.old }
+    ensures split { result ≡ ok → (held.old.live ≡ true) × (upper.old.live ≡ false)
+        × OnCores (SplitsHeld held.old held.new upper.new)
+        handle.old.state.value handle.new.state.value }
+    ensures why { (result ≡ bad_order → held.old.order ≡ 0)
+        × (result ≡ not_held → held.old.live ≡ false)
+        × (result ≡ not_closed → upper.old.live ≡ true) }
+    ensures same { result ≢ ok → result ≢ closed
+        → OnCores KeepsCore handle.old.state.value handle.new.state.value }
+    ensures shared { result ≢ closed
+        → OnCores SharesOne handle.old.state.value handle.new.state.value }
+    ensures closed { result ≡ closed → (handle.old.live ≡ false) × (handle.new ≡ handle.old) }
+    ensures refused { result ≢ ok → (held.new ≡ held.old) × (upper.new ≡ upper.old) }
+    ensures known { (result ≡ ok) ⊎ (result ≡ bad_order) ⊎ (result ≡ not_held) ⊎ (result ≡ closed)
+        ⊎ (result ≡ not_closed) }
+{
+    let Some(mut state) = handle.take_out(heap) else {
+        return CLOSED;
+    };
+    let status = split_block(&mut state, held, upper);
+    *handle = CoreHandle::of(state);
+    status
+}

@@ -1,0 +1,95 @@
+//! The calls on a core, by blocks that are carried.
+
+ghost use Rattle.std.specs.Prelude.{◌≡◌, ◌≢◌, ◌⊎◌, ◌<◌, ◌≤◌, true, false};
+ghost use Rattle.llfree_c.specs.Status.{ok, no_block, bad_order, not_held, not_closed, contended};
+ghost use Rattle.llfree_c.specs.Blocks.{IsEmptyOrOut, TakesHeld, SplitsHeld};
+ghost use Rattle.frame_places.specs.Calls.{SharesOne, GivesFor, FindsNoneFor, LendsNoMore, KeepsCore};
+
+use crate::block_handle::BlockHandle;
+use crate::statuses::{BAD_ORDER, CONTENDED, NO_BLOCK, NOT_CLOSED, NOT_HELD, OK};
+use frame_places::CoreState;
+use frame_words::TakeFault;
+
+pub(crate) fn take_block(state: &mut CoreState, order: u8, held: &mut BlockHandle) -> u32
+    ensures shared { SharesOne state.old state.new }
+    ensures taken { result ≡ ok → TakesHeld order held.new state.old state.new }
+    ensures none { result ≡ no_block → FindsNoneFor order state.old state.new }
+    ensures order { result ≡ bad_order → 9 < order }
+    ensures full { (result ≡ not_closed → held.old.live ≡ true)
+        × (result ≡ ok → held.old.live ≡ false) }
+    ensures lends { result ≢ ok → LendsNoMore state.old state.new }
+    ensures refused { result ≢ ok → held.new ≡ held.old }
+    ensures known { (result ≤ bad_order) ⊎ (result ≡ not_closed) ⊎ (result ≡ contended) }
+{
+    if held.live {
+        return NOT_CLOSED;
+    }
+    match state.take_block(order) {
+        Ok(block) => {
+            *held = BlockHandle::of(block);
+            OK
+        }
+        Err(TakeFault::BadOrder) => BAD_ORDER,
+        Err(TakeFault::NoBlock) => NO_BLOCK,
+        Err(TakeFault::Contended) => CONTENDED,
+    }
+}
+
+pub(crate) fn give_block(state: &mut CoreState, held: &mut BlockHandle) -> u32
+    requires { IsEmptyOrOut state.old held.old }
+    ensures shared { SharesOne state.old state.new }
+    ensures given { result ≡ ok → GivesFor held.old.order held.old.frame state.old state.new }
+    ensures was { result ≡ ok → held.old.live ≡ true }
+    ensures empty { held.new.live ≡ false }
+    ensures same { result ≡ not_held → KeepsCore state.old state.new }
+    ensures refused { result ≡ not_held → held.new ≡ held.old }
+    ensures known { (result ≡ ok) ⊎ (result ≡ not_held) }
+{
+    let Some(block) = held.take_out() else {
+        return NOT_HELD;
+    };
+    state.give_block(block);
+    OK
+}
+
+pub(crate) fn split_block(
+    state: &mut CoreState,
+    held: &mut BlockHandle,
+    upper: &mut BlockHandle,
+) -> u32
+    requires { IsEmptyOrOut state.old held.old }
+    ensures shared { SharesOne state.old state.new }
+    ensures split { result ≡ ok → SplitsHeld held.old held.new upper.new state.old state.new }
+    ensures ready { result ≡ ok → (held.old.live ≡ true) × (upper.old.live ≡ false) }
+    ensures why { (result ≡ bad_order → held.old.order ≡ 0)
+        × (result ≡ not_held → held.old.live ≡ false)
+        × (result ≡ not_closed → upper.old.live ≡ true) }
+    ensures same { result ≢ ok → KeepsCore state.old state.new }
+    ensures refused { result ≢ ok → (held.new ≡ held.old) × (upper.new ≡ upper.old) }
+    ensures known { (result ≡ ok) ⊎ (result ≡ bad_order) ⊎ (result ≡ not_held)
+        ⊎ (result ≡ not_closed) }
+{
+    if !held.live {
+        return NOT_HELD;
+    }
+    if upper.live {
+        return NOT_CLOSED;
+    }
+    if held.order == 0 {
+        return BAD_ORDER;
+    }
+    let Some(block) = held.take_out() else {
+        return NOT_HELD;
+    };
+    match state.split_block(block) {
+        Ok((first, second)) => {
+            *held = BlockHandle::of(first);
+            *upper = BlockHandle::of(second);
+            OK
+        }
+        Err(block) => {
+            *held = BlockHandle::of(block);
+            BAD_ORDER
+        }
+    }
+}

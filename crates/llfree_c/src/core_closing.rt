@@ -1,0 +1,60 @@
+//! The last core leaves an image of the memory.
+
+ghost use Rattle.std.specs.Prelude.{◌≡◌, ◌≢◌, length, IfOk, IfErr};
+ghost use Rattle.llfree_c.specs.Status.{ok, no_memory};
+ghost use Rattle.llfree_c.specs.CoreImages.{StopsCore, HasNoStop};
+
+use crate::images::llfree_image_words;
+use crate::rebuilding::write_rebuilt;
+use crate::sizes::geometry_of;
+use crate::statuses::{CORES_OPEN, NO_MEMORY, NO_ROOM, OK};
+use frame_places::{CoreState, StopFault, open_cores};
+use frame_words::Fault;
+use std::alloc::Global;
+use std::mem::replace;
+
+/// Writes the numbers of the memory's image. A core of a fresh memory is behind it then, which stood
+/// in its place so that a refusal can put it back.
+pub(crate) fn leave_core_image(state: &mut CoreState, heap: Global, numbers: &mut [u64]) -> u32
+    ensures left { result ≡ ok → StopsCore state.old numbers.new }
+    ensures same { result ≢ ok → state.new ≡ state.old }
+    ensures refused { result ≢ ok → (numbers.new ≡ numbers.old)
+        × HasNoStop state.old (length numbers.old) result }
+{
+    if numbers.len() < llfree_image_words(state.frames()) {
+        return NO_ROOM;
+    }
+    let other = match spare_core(heap) {
+        Ok(other) => other,
+        Err(status) => return status,
+    };
+    match replace(state, other).stop(heap) {
+        Ok(image) => {
+            write_rebuilt(&image, numbers);
+            OK
+        }
+        Err(StopFault { fault, core }) => {
+            *state = core;
+            if fault == Fault::MissingCores {
+                CORES_OPEN
+            } else {
+                NO_MEMORY
+            }
+        }
+    }
+}
+
+fn spare_core(heap: Global) -> Result<CoreState, u32>
+    ensures { IfErr result (λ e. e ≡ no_memory) }
+{
+    let Ok(geometry) = geometry_of(1, 1) else {
+        return Err(NO_MEMORY);
+    };
+    let Ok(mut cores) = open_cores(heap, geometry, &[]) else {
+        return Err(NO_MEMORY);
+    };
+    match cores.pop() {
+        Some(core) => Ok(core),
+        None => Err(NO_MEMORY),
+    }
+}
