@@ -6,21 +6,14 @@
 # the refused takes of all threads. It needs rustc, and a built crates/llfree_bench/out/llfree_bench.
 # The two run in turn, RUNS times, each time with ROUNDS rounds of PAIRS pairs a thread; each figure is
 # the least of all rounds. `times` is how many times as long as llfree the other one takes.
-# UNDER stands before both programs: with UNDER='chrt -f 10' threads stand on processors of their own from
-# the start, and other work on the machine does not slow them.
+# UNDER, which stands before both programs: two_programs.sh
 set -eu
 here=$(cd "$(dirname "$0")" && pwd)
-program=$here/../crates/llfree_bench/out/llfree_bench
+top=$(dirname "$here")
 pairs=${PAIRS:-50000}
 rounds=${ROUNDS:-10}
 runs=${RUNS:-5}
-under=${UNDER:-}
-folder=$(mktemp -d)
-trap 'rm -rf "$folder"' EXIT
-[ -x "$program" ] || {
-    echo 'run rt run in crates/llfree_bench once: it builds the program' >&2
-    exit 1
-}
+. "$here/two_programs.sh"
 rustc --edition 2021 -O -o "$folder/reference" "$here/reference/allocator/main.rs"
 "$folder/reference" check
 

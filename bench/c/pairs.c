@@ -1,6 +1,6 @@
-/* How long a take and a give take from C: the library with a core for each thread, the library for one
- * thread, a bitmap and a buddy allocator, each under a mutex, and the C library's own aligned_alloc and
- * free of as much memory, which nobody touches.
+/* How long a take and a give take from C: the library with a core for each thread, the same with blocks
+ * in structs, the library for one thread, a bitmap and a buddy allocator, each under a mutex, and the C
+ * library's own aligned_alloc and free of as much memory, which nobody touches.
  *
  *     pairs COUNT ROUNDS
  *
@@ -54,7 +54,7 @@ static uint64_t nanoseconds(void)
 #define PAIRS(name, type, take, give)                   \
     static void name(struct worker *me)                 \
     {                                                   \
-        type block;                                     \
+        type block = { 0 };                             \
                                                         \
         (void)me;                                       \
         for (long i = 0; i < count; i++) {              \
@@ -65,6 +65,8 @@ static uint64_t nanoseconds(void)
 
 PAIRS(core_pairs, uint32_t, llfree_take(&me->core, order, &block) == LLFREE_OK,
       llfree_give(&me->core, block, order) == LLFREE_OK)
+PAIRS(unchecked_pairs, llfree_block, llfree_take_block(&me->core, order, &block) == LLFREE_OK,
+      llfree_give_block(&me->core, &block) == LLFREE_OK)
 PAIRS(plain_pairs, uint32_t, llfree_plain_take(&plain, order, &block) == LLFREE_OK,
       llfree_plain_give(&plain, block, order) == LLFREE_OK)
 PAIRS(bitmap_pairs, uint32_t, (block = bitmap_take(order)) != NONE,
@@ -82,13 +84,25 @@ PAIRS(malloc_pairs, void *,
       (block = aligned_alloc(FRAME_BYTES, (size_t)FRAME_BYTES << order)) != NULL,
       (release(block), true))
 
-static void open_cores(void)
+typedef uint32_t opening(llfree_core *, size_t, uint32_t, const llfree_range *, size_t);
+
+static void open_by(opening *open)
 {
     llfree_core handles[MOST_THREADS] = { LLFREE_CLOSED };
 
-    want(llfree_open(handles, (size_t)threads, FRAMES, NULL, 0) == LLFREE_OK, "no memory");
+    want(open(handles, (size_t)threads, FRAMES, NULL, 0) == LLFREE_OK, "no memory");
     for (int i = 0; i < threads; i++)
         workers[i].core = handles[i]; /* they move */
+}
+
+static void open_cores(void)
+{
+    open_by(llfree_open);
+}
+
+static void open_unchecked(void)
+{
+    open_by(llfree_open_unchecked);
 }
 
 static void close_cores(void)
@@ -119,6 +133,7 @@ static const struct allocator {
     void (*close)(void);
 } allocators[] = {
     { "llfree", MOST_THREADS, open_cores, core_pairs, close_cores },
+    { "unchecked", MOST_THREADS, open_unchecked, unchecked_pairs, close_cores },
     { "plain", 1, open_plain, plain_pairs, close_plain },
     { "bitmap", MOST_THREADS, nothing, bitmap_pairs, nothing },
     { "buddy", MOST_THREADS, buddy_open, buddy_pairs, nothing },
