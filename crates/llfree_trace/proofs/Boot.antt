@@ -1,10 +1,10 @@
 -- The frames that nobody is ever given.
-use Rattle.std.proofs.Common.{◌≡◌, ◌≢◌, ◌⊎◌, ⊎_elim, ◌+◌, ◌<◌, ◌≤◌, ◌^◌, ℕ, List, Bool, true, false}
-use Rattle.std.proofs.Common.{refl, sym, ap, subst, arith}
+use Rattle.std.proofs.Common.{◌≡◌, ◌+◌, ◌<◌, ◌^◌, ℕ, Bool, true, false}
+use Rattle.std.proofs.Common.{refl, arith}
 use Rattle.std.specs.Prelude.{if◌then◌else◌}
 use Rattle.std.specs.List.{All}
 use Rattle.std.proofs.lemmas.Bool.Decides.{nat_tests}
-use Rattle.frame_core.specs.Block.{IsBlock, covers, smalls, wholes}
+use Rattle.frame_core.specs.Block.{IsBlock, covers}
 use Rattle.frame_core.specs.Holding.{IsFreeBlock, holders}
 use Rattle.frame_core.specs.Key.{child_of, frame_count, is_boot_frame}
 use Rattle.frame_core.specs.View.{boot_blocks}

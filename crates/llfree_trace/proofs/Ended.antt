@@ -1,10 +1,8 @@
 -- What desks hold at the end of a run is just what the closed memory holds.
-use Rattle.std.proofs.Common.{◌≡◌, ⊎_elim, ◌+◌, ◌<◌, ◌≤◌, ◌∙◌, max, ℕ, zero, suc, pos, List, []}
-use Rattle.std.proofs.Common.{◌∷◌, ◌++◌, Bool, true, false, length, map, replicate, refl, sym, ap}
+use Rattle.std.proofs.Common.{◌≡◌, ◌+◌, ◌∙◌, max, ℕ, zero, suc, pos, List, []}
+use Rattle.std.proofs.Common.{◌∷◌, ◌++◌, Bool, true, false, map, replicate, refl, sym, ap}
 use Rattle.std.proofs.Common.{subst, arith}
-use Rattle.std.specs.Prelude.{if◌then◌else◌}
 use Rattle.std.specs.List.{All, sum_by}
-use Rattle.std.proofs.lemmas.Bool.{cases_lt}
 use Rattle.std.proofs.lemmas.List.Elements.{All-append, All-head, All-nil, All-tail}
 use Rattle.std.proofs.lemmas.List.Sums.{sum_by-append}
 use lib.ListN.{get_elem?}
@@ -13,13 +11,11 @@ use Rattle.frame_words.specs.declared.geometry.Geometry.{Geometry}
 use Rattle.frame_model.specs.declared.block.FrameBlock.{FrameBlock}
 use Rattle.frame_model.specs.declared.key.Key.{Key}
 use Rattle.frame_model.specs.declared.view.Eye.{Eye}
-use Rattle.frame_model.specs.declared.view.View.{View}
 use Rattle.frame_core.specs.Block.{IsBlock, covers, small_at, smalls, whole_at, wholes}
 use Rattle.frame_core.specs.Events.{views_of}
-use Rattle.frame_core.specs.Fit.{Fit}
 use Rattle.frame_core.specs.Holding.{holders, IsHolding}
 use Rattle.frame_core.specs.Image.{Contents}
-use Rattle.frame_core.specs.Key.{child_of, frame_count, is_boot_frame, sealed_key}
+use Rattle.frame_core.specs.Key.{child_of, is_boot_frame, sealed_key}
 use Rattle.frame_core.specs.Laws.{HoldsJust}
 use Rattle.frame_core.specs.Moves.{HasSizes}
 use Rattle.frame_core.specs.Mover.{IsApart}

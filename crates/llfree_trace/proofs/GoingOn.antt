@@ -1,5 +1,5 @@
 -- How a run of all cores goes on.
-use Rattle.std.proofs.Common.{◌≡◌, ◌+◌, ◌<◌, ◌≤◌, ◌∙◌, max, ℕ, List, [], ◌∷◌, ◌++◌, ◌-◌, length}
+use Rattle.std.proofs.Common.{◌≡◌, ◌+◌, ◌≤◌, ◌∙◌, max, ℕ, List, [], ◌∷◌, ◌++◌, ◌-◌, length}
 use Rattle.std.proofs.Common.{take, drop, length-drop, refl, sym, ap, subst, arith}
 use Rattle.std.specs.List.{All}
 use Rattle.std.proofs.lemmas.List.{append-nil, append_assoc, take_all}
@@ -7,7 +7,6 @@ use Rattle.held_blocks.specs.Desk.{MayRefuse}
 use Rattle.core_frames.specs.Cores.{memory_of}
 use Rattle.core_frames.specs.Desks.{IsDeskOf}
 use Rattle.core_frames.specs.declared.allocator.Allocator.{Allocator}
-use Rattle.core_frames.specs.declared.desk.Desk.{Desk}
 use Rattle.llfree_trace.specs.Outcome.{Runs}
 use Rattle.llfree_trace.specs.Rounds.{asks_from, GoesOn, IsAsk, lists_at, MovesAt, RoundRan}
 use Rattle.llfree_trace.specs.Trace.{cores_in}

@@ -1,12 +1,12 @@
 -- Desks of a list, and blocks that move between two of them.
-use Rattle.std.proofs.Common.{◌≡◌, ◌+◌, ◌-◌, ◌<◌, ◌∙◌, ℕ, zero, suc, pos, ◌+ℤ◌, ◌-ℤ◌, List, [], ◌∷◌}
-use Rattle.std.proofs.Common.{◌++◌, Ok, Err, length, get_or, set, map, refl, sym, ap, ap₂, subst}
+use Rattle.std.proofs.Common.{◌≡◌, ◌<◌, ◌∙◌, ℕ, zero, suc, pos, ◌+ℤ◌, ◌-ℤ◌, List, [], ◌∷◌}
+use Rattle.std.proofs.Common.{◌++◌, Ok, Err, length, get_or, set, sym, ap, ap₂, subst}
 use Rattle.std.proofs.Common.{arith}
 use Rattle.std.specs.List.{All}
 use Rattle.std.proofs.Math.ListN.{length-set}
 use Rattle.std.proofs.Math.Seq.{map-set_same}
 use Rattle.std.proofs.lemmas.Int.{ints}
-use Rattle.std.proofs.lemmas.List.{get_or_default, length-map, map-set}
+use Rattle.std.proofs.lemmas.List.{map-set}
 use Rattle.std.proofs.lemmas.List.Elements.{All-set}
 use Rattle.frame_core.specs.Block.{block}
 use Rattle.frame_core.specs.Holding.{IsHolding}

@@ -1,13 +1,8 @@
 -- What desks answer, as replies to requests.
-use Rattle.std.proofs.Common.{◌≡◌, ◌≢◌, ◌<◌, ◌≤◌, ℕ, List, Result, Ok, Err, refl, true, sym, subst}
-use Rattle.std.proofs.Common.{ap, arith, ◌∙◌}
-use Rattle.std.specs.Prelude.{IfOk, if◌then◌else◌, Bool, false}
-use Rattle.frame_core.specs.Block.{block, covers, IsBlock}
-use Rattle.frame_core.specs.Holding.{IsFreeBlock, holders}
-use Rattle.frame_core.specs.Key.{frame_count, is_boot_frame}
-use Rattle.frame_core.specs.View.{boot_blocks}
+use Rattle.std.proofs.Common.{◌≡◌, ◌≢◌, ℕ, List, Result, Ok, Err, refl, true}
+use Rattle.std.specs.Prelude.{IfOk}
+use Rattle.frame_core.specs.Block.{block}
 use Rattle.frame_model.specs.declared.key.Key.{Key}
-use Rattle.frame_model.specs.declared.block.FrameBlock.{FrameBlock}
 use Rattle.frame_words.specs.declared.fault.Fault.{Fault}
 use Rattle.frame_words.specs.declared.fault.Fault.TheVariants as fault
 use Rattle.low_frames.specs.Outcomes.{HasNoBootFrame}

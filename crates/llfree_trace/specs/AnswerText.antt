@@ -31,8 +31,10 @@ answer_row a = decimal a.line ∷ decimal a.core ∷ reply_fields a.reply
 abbrev pub closing_row : ℕ → ℕ → List (List ℕ)
 closing_row held free = codes "end" ∷ [] ∷ codes "Closed" ∷ decimal held ∷ decimal free ∷ []
 
--- the records of answers and the last one, as csv writes them with its defaults
+-- the records of answers, as csv writes them with its defaults
+unfoldable pub answer_rows_text : List Answer → List ℕ
+answer_rows_text answers = flat_map (λ a. row_text default_writer (answer_row a)) answers
+
+-- the records of answers and the last one
 unfoldable pub answers_of : List Answer → ℕ → ℕ → List ℕ
-answers_of answers held free =
-    flat_map (λ a. row_text default_writer (answer_row a)) answers
-    ++ row_text default_writer (closing_row held free)
+answers_of answers held free = answer_rows_text answers ++ row_text default_writer (closing_row held free)

@@ -1,5 +1,6 @@
 pub mod Trace
 pub mod TraceText
+pub mod Parts
 pub mod AnswerText
 pub mod Outcome
 pub mod Rounds

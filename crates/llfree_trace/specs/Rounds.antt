@@ -1,6 +1,6 @@
 -- A round: what the desks of several cores answer to requests, each core on a thread of its own.
 use Rattle.std.specs.Prelude.{ℕ, ℤ, ◌≡◌, ◌≢◌, ◌==◌, ◌+◌, ◌<◌, List, [], ◌∷◌, ◌++◌, filter, map, length}
-use Rattle.std.specs.Prelude.{◌≤◌, take, slice_index_or, Result, Ok, Err}
+use Rattle.std.specs.Prelude.{◌≤◌, true, take, slice_index_or, Result, Ok, Err}
 use Rattle.std.specs.List.{All}
 use Rattle.frame_model.specs.declared.key.Key.{Key}
 use Rattle.frame_table.specs.Closing.{lent_through}
@@ -96,6 +96,21 @@ DeskRun key old (ask ∷ asks) (a ∷ answers) new =
     × (mid : List LabelledBlock) × DeskStep MayRefuse key old ask.request a.reply mid
     × DeskRun key mid asks answers new
 DeskRun key old _ _ new = ⊥
+
+-- records, the first of which has this number, may run from a desk of a sealed memory: each is a
+-- request, and no number is too great
+pub record MayRun (a : Allocator) (own : Desk) (first : ℕ) (records : List Line) : Type 0 where
+  pub desk : IsDeskOf a own
+  pub sealed : (memory_of a).sealed ≡ true
+  pub asks : All IsAsk records
+  pub few : first + length records ≤ 2_000_000
+
+-- they may run from these desks
+pub record MayRunAll (a : Allocator) (all : List Desk) (first : ℕ) (records : List Line) : Type 0 where
+  pub desks : All (IsDeskOf a) all
+  pub sealed : (memory_of a).sealed ≡ true
+  pub asks : All IsAsk records
+  pub few : first + length records ≤ 2_000_000
 
 -- the requests of one core ran, from one desk to another that lends as many blocks
 pub record Ran (a : Allocator) (core : ℕ) (old : Desk) (asks : List Ask) (done : Done) : Type 0 where

@@ -3,7 +3,7 @@
 ghost use Rattle.std.specs.Prelude.{◌≡◌, ◌≤◌, ◌+◌, ◌++◌, ◌∷◌, [], codes, decimal, false, length};
 ghost use Rattle.std.specs.Prelude.{IfErr, IfOk, OnOk};
 ghost use Rattle.csv.specs.Writing.{default_writer, needs_quotes, row_text};
-ghost use Rattle.llfree_trace.specs.AnswerText.{answer_row, answers_of, closing_row};
+ghost use Rattle.llfree_trace.specs.AnswerText.{answer_row, answers_of, closing_row, answer_rows_text};
 ghost use Rattle.llfree_trace.specs.AnswerText.{word_of as the_word_of};
 
 use crate::reply::{Answer, Reply};
@@ -23,11 +23,21 @@ pub fn answers_text(
     ensures text { IfOk result (λ text. text.items ≡ answers_of answers.now held free) }
     ensures fault { IfErr result (λ e. e ≡ Fault.NoMemory) }
 {
+    let mut text = rows_text(alloc, answers)?;
+    write_closing(&mut text, held, free)?;
+    Ok(text)
+}
+
+/// The text of answers, a record each.
+#[tactic(auto, unfolding(crate::specs::AnswerText::answer_rows_text))]
+pub(crate) fn rows_text(alloc: Global, answers: &[Answer]) -> Result<Vec<u8>, Fault>
+    ensures text { IfOk result (λ text. text.items ≡ answer_rows_text answers.now) }
+    ensures fault { IfErr result (λ e. e ≡ Fault.NoMemory) }
+{
     let mut text = Vec::new(alloc);
     for answer in answers {
         write_answer(&mut text, *answer)?;
     }
-    write_closing(&mut text, held, free)?;
     Ok(text)
 }
 
@@ -98,8 +108,8 @@ fn put_place(row: &mut Row, answer: Answer)
     row.put_number(answer.line);
 }
 
-// Adds how many frames are held and free at the end.
-fn write_closing(text: &mut Vec<u8>, held: u32, free: u32) -> Result<(), Fault>
+/// Adds how many frames are held and free at the end.
+pub(crate) fn write_closing(text: &mut Vec<u8>, held: u32, free: u32) -> Result<(), Fault>
     ensures text { OnOk result
         (text.new.items ≡ text.old.items ++ row_text default_writer (closing_row held free)) }
     ensures fault { IfErr result (λ e. e ≡ Fault.NoMemory) }

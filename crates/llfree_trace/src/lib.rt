@@ -1,10 +1,12 @@
 //! Traces of takes and gives: reading them, running them and answering them.
 #![tactic(auto)]
 
+mod answer_parts;
 mod answers;
 mod command;
 mod desk;
 mod gate;
+mod going;
 mod image_streams;
 mod line;
 mod lines;
@@ -13,6 +15,7 @@ mod many_streams;
 mod merge;
 mod one_core;
 mod parser;
+mod parts;
 mod program;
 mod progress;
 mod reply;

@@ -1,11 +1,12 @@
 //! The records of a trace.
 
-ghost use Rattle.std.specs.Prelude.{◌≡◌, ◌≤◌, ◌+◌, length, max};
+ghost use Rattle.std.specs.Prelude.{◌≡◌, ◌≤◌, ◌+◌, ◌++◌, length, max, IfOk};
 ghost use Rattle.frame_words.specs.Geometry.{most_cores};
 ghost use Rattle.llfree_trace.specs.Trace.{core_count, cores_in as the_cores_in};
 ghost use Rattle.llfree_trace.specs.Trace.{most_records, ranges_in};
 
 use core_frames::Label;
+use std::alloc::AllocError;
 use std::marker::Model;
 
 /// What a core asks for.
@@ -61,6 +62,24 @@ impl Trace {
         ensures { result ≡ lines.items }
     {
         Trace { lines, ranges }
+    }
+
+    // These records, and behind them the others.
+    pub(crate) fn followed_by(self, behind: Trace) -> Result<Trace, AllocError>
+        requires { length self + length behind ≤ most_records }
+        ensures { IfOk result (λ trace. trace ≡ self ++ behind) }
+    {
+        let Trace {
+            mut lines,
+            mut ranges,
+        } = self;
+        let Trace {
+            lines: mut more_lines,
+            ranges: mut more_ranges,
+        } = behind;
+        lines.append(&mut more_lines)?;
+        ranges.append(&mut more_ranges)?;
+        Ok(Trace { lines, ranges })
     }
 
     /// The records, in order.

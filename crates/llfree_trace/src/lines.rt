@@ -1,13 +1,13 @@
 //! The requests of one core, on one thread.
 
-ghost use Rattle.std.specs.Prelude.{◌≡◌, ◌≢◌, ◌+◌, ◌≤◌, true, length, IfOk, IfErr, IfSome, IfNone};
+ghost use Rattle.std.specs.Prelude.{◌≡◌, ◌≢◌, ◌+◌, true, IfOk, IfErr, IfSome, IfNone};
 ghost use Rattle.std.specs.Bool.{OnFalse};
 ghost use Rattle.std.specs.List.{All};
 ghost use Rattle.held_blocks.specs.Desk.{MayRefuse};
 ghost use Rattle.core_frames.specs.Cores.{memory_of, lent_by};
 ghost use Rattle.core_frames.specs.Desks.{list_of, core_of, IsDeskOf};
 ghost use Rattle.llfree_trace.specs.Outcome.{DeskStep};
-ghost use Rattle.llfree_trace.specs.Rounds.{IsAsk, IsNoAskOf, asks_from, given_reply, Ran};
+ghost use Rattle.llfree_trace.specs.Rounds.{IsNoAskOf, MayRun, asks_from, given_reply, Ran};
 ghost use Rattle.llfree_trace.specs.Rounds.{IsTakenReply};
 
 use crate::gate::Gate;
@@ -34,10 +34,7 @@ pub(crate) fn run_lines<G: Gate>(
     first: u32,
     lines: &[Line],
 ) -> Result<Done, Fault>
-    requires desk { IsDeskOf allocator.now desk }
-    requires sealed { (memory_of allocator.now).sealed ≡ true }
-    requires asks { All IsAsk lines.now }
-    requires few { first + length lines.now ≤ 2_000_000 }
+    requires { MayRun allocator.now desk first lines.now }
     ensures ran { IfOk result (λ d. Ran allocator.now core desk (asks_from first lines.now) d) }
     ensures fault { IfErr result (λ e. e ≡ Fault.NoMemory) }
 {

@@ -3,13 +3,15 @@
 ghost use Rattle.std.specs.Prelude.{◌≡◌, ◌≢◌, true, false, IfErr, IfOk, IfSome, IsErrOf, OnOk};
 ghost use Rattle.frame_image.specs.Devices.{device_of, has_failed};
 ghost use Rattle.llfree_trace.specs.ManyStreams.{IsManyRunOf, WritesFrontOfManyRun, WritesManyRun};
-ghost use Rattle.llfree_trace.specs.Streams.{EndsRun, ExplainsRun, TellsReading};
+ghost use Rattle.llfree_trace.specs.Streams.{EndsRun, ExplainsRun, TellsReading, shown_of};
 
+use crate::answer_parts::answers_apart;
 use crate::gate::Gate;
 use crate::many_cores::run_trace;
-use crate::parser::parse_trace;
-use crate::streams::{Show, shown_text};
-use frame_image::{Watched, read_all, write_out};
+use crate::parts::parse_parts;
+use crate::reply::Outcome;
+use crate::streams::{Show, frames_at_end};
+use frame_image::{Watched, image_text, read_all, write_out};
 use frame_words::{Fault, Geometry};
 use std::alloc::Global;
 use std::io::{Read, Write};
@@ -19,7 +21,8 @@ use std::thread::Threads;
 /// Runs the trace that the reader has left, each core on a thread of its own in each round, and
 /// writes what is to be shown.
 ///
-/// All text is made before the first byte is written.
+/// A text of 64 KiB or more is read, and 4,096 answers or more are spelled, on as many threads at once as
+/// there are cores. All text is made before the first byte is written.
 pub fn run_many_over<Rt: Threads + Wait, G: Gate, R: Read, W: Write>(
     rt: &Rt,
     alloc: Global,
@@ -67,7 +70,28 @@ fn run_many_text<Rt: Threads + Wait, G: Gate>(
     ensures ok { IfOk result (λ out. IsManyRunOf geometry show text.now out.items) }
     ensures err { IfErr result (ExplainsRun geometry text.now) }
 {
-    let trace = parse_trace(alloc, &geometry, text)?;
+    let trace = parse_parts(rt, alloc, &geometry, text)?;
     let outcome = run_trace(rt, alloc, geometry, &trace, gate)?;
-    shown_text(alloc, show, &outcome)
+    shown_apart(rt, alloc, show, &outcome)
+}
+
+// What is shown of an outcome. The text of many answers is made on as many threads as there are cores.
+fn shown_apart<Rt: Threads + Wait>(
+    rt: &Rt,
+    alloc: Global,
+    show: Show,
+    outcome: &Outcome,
+) -> Result<Vec<u8>, Fault>
+    ensures text { IfOk result (λ text. text.items ≡ shown_of show outcome.now.answers.items
+        outcome.now.image) }
+    ensures fault { IfErr result (λ e. e ≡ Fault.NoMemory) }
+{
+    match show {
+        Show::Answers => {
+            let (held, free) = frames_at_end(outcome);
+            let threads = outcome.image.geometry().cores() as usize;
+            answers_apart(rt, alloc, outcome.answers.as_slice(), held, free, threads)
+        }
+        Show::Picture => image_text(alloc, &outcome.image),
+    }
 }

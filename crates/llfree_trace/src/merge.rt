@@ -1,11 +1,9 @@
 //! The answers of a round, in the order of its records.
 
-ghost use Rattle.std.specs.Prelude.{◌≡◌, ◌+◌, ◌≤◌, ◌<◌, true, length, map, vec_len, IfOk, IfErr};
+ghost use Rattle.std.specs.Prelude.{◌≡◌, ◌+◌, ◌≤◌, ◌<◌, length, map, vec_len, IfOk, IfErr};
 ghost use Rattle.std.specs.Prelude.{slice_index, slice_index_or, slice_set};
 ghost use Rattle.std.specs.List.{All};
-ghost use Rattle.core_frames.specs.Cores.{memory_of};
-ghost use Rattle.core_frames.specs.Desks.{IsDeskOf};
-ghost use Rattle.llfree_trace.specs.Rounds.{IsAsk, ask_core, asks_from, Fitting, Merged, RoundRan};
+ghost use Rattle.llfree_trace.specs.Rounds.{IsAsk, MayRunAll, ask_core, asks_from, Fitting, Merged, RoundRan};
 ghost use Rattle.llfree_trace.specs.Trace.{cores_in};
 
 use crate::gate::Gate;
@@ -81,11 +79,8 @@ pub(crate) fn answer_round<G: Gate, R: Threads + Wait>(
     lines: &[Line],
 ) -> Result<(Vec<Desk>, Vec<Answer>), Fault>
     requires few { vec_len desks ≤ 64 }
-    requires desks { All (IsDeskOf allocator.now) desks.items }
-    requires sealed { (memory_of allocator.now).sealed ≡ true }
-    requires asks { All IsAsk lines.now }
+    requires all { MayRunAll allocator.now desks.items first lines.now }
     requires inside { All (λ l. cores_in l ≤ vec_len desks) lines.now }
-    requires end { first + length lines.now ≤ 2_000_000 }
     ensures round { IfOk result (λ r. RoundRan allocator.now desks.items
         (asks_from first lines.now) r.1.items r.0.items) }
     ensures fault { IfErr result (λ e. e ≡ Fault.NoMemory) }

@@ -17,7 +17,7 @@ use frame_words::{Fault, Geometry};
 use std::alloc::{AllocError, Global};
 
 /// The most records of a trace.
-const MOST_RECORDS: usize = 1_000_000;
+pub(crate) const MOST_RECORDS: usize = 1_000_000;
 
 /// Reads a text as a trace for the cores of the geometry.
 ///
@@ -76,9 +76,9 @@ fn line_after(cores: u32, lines: &[Line], row: &ByteRecord) -> Option<Line>
     Some(line)
 }
 
-// Whether a record may come straight behind that one, or first where there is none.
+/// Whether a record may come straight behind that one, or first where there is none.
 #[tactic(auto, unfolding(crate::specs::TraceText::may_follow))]
-fn may_follow(before: Option<&Line>, line: &Line) -> bool
+pub(crate) fn may_follow(before: Option<&Line>, line: &Line) -> bool
     ensures { result ≡ Spec.may_follow (option_copied before.entry) line.now }
 {
     match line {

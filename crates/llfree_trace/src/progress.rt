@@ -6,7 +6,7 @@ ghost use Rattle.std.specs.Prelude.{slice_index_or};
 ghost use Rattle.std.specs.List.{All};
 ghost use Rattle.core_frames.specs.Cores.{memory_of};
 ghost use Rattle.core_frames.specs.Desks.{IsDeskOf};
-ghost use Rattle.llfree_trace.specs.Rounds.{IsAsk, IsNoAsk, GoesOn, GoesOnBy};
+ghost use Rattle.llfree_trace.specs.Rounds.{IsAsk, IsNoAsk, GoesOn, GoesOnBy, MayRunAll};
 ghost use Rattle.llfree_trace.specs.Trace.{cores_in, most_records};
 ghost use Rattle.llfree_trace.specs.declared.line.Line.{Line as OneLine};
 
@@ -122,11 +122,8 @@ fn run_asks<G: Gate, R: Threads + Wait>(
     lines: &[Line],
 ) -> Result<Progress, Fault>
     requires few { vec_len progress.desks ≤ 64 }
-    requires desks { All (IsDeskOf allocator.now) progress.desks.items }
-    requires sealed { (memory_of allocator.now).sealed ≡ true }
-    requires asks { All IsAsk lines.now }
+    requires all { MayRunAll allocator.now progress.desks.items number lines.now }
     requires inside { All (λ l. cores_in l ≤ vec_len progress.desks) lines.now }
-    requires end { number + length lines.now ≤ 2_000_000 }
     ensures goes { IfOk result (λ p. GoesOn allocator.now number lines.now progress p) }
     ensures fault { IfErr result (λ e. e ≡ Fault.NoMemory) }
 {

@@ -1,10 +1,7 @@
 //! A round: the requests of each core on a thread of their own.
 
-ghost use Rattle.std.specs.Prelude.{◌≡◌, ◌+◌, ◌≤◌, true, length, vec_len, IfOk, IfErr};
-ghost use Rattle.std.specs.List.{All};
-ghost use Rattle.core_frames.specs.Cores.{memory_of};
-ghost use Rattle.core_frames.specs.Desks.{IsDeskOf};
-ghost use Rattle.llfree_trace.specs.Rounds.{IsAsk, IsPromiseOf, asks_from, Ran, RanAll};
+ghost use Rattle.std.specs.Prelude.{◌≡◌, ◌+◌, ◌≤◌, vec_len, IfOk, IfErr};
+ghost use Rattle.llfree_trace.specs.Rounds.{IsPromiseOf, MayRun, MayRunAll, asks_from, Ran, RanAll};
 
 use crate::gate::Gate;
 use crate::line::Line;
@@ -48,10 +45,7 @@ fn start<'s, E, G: Gate>(
     first: u32,
     lines: &'s [Line],
 ) -> Result<PromisedHandle<Result<Done, Fault>, Running<'s>>, Fault>
-    requires desk { IsDeskOf allocator.now desk }
-    requires sealed { (memory_of allocator.now).sealed ≡ true }
-    requires asks { All IsAsk lines.now }
-    requires few { first + length lines.now ≤ 2_000_000 }
+    requires run { MayRun allocator.now desk first lines.now }
     ensures promise { IfOk result (λ h.
         IsPromiseOf allocator.now core desk first lines.now h.promise) }
     ensures fault { IfErr result (λ e. e ≡ Fault.NoMemory) }
@@ -64,10 +58,7 @@ fn start<'s, E, G: Gate>(
         lines,
     };
     let run = move || -> Result<Done, Fault>
-        requires desk { IsDeskOf allocator.now desk }
-        requires sealed { (memory_of allocator.now).sealed ≡ true }
-        requires asks { All IsAsk lines.now }
-        requires few { first + length lines.now ≤ 2_000_000 }
+        requires { MayRun allocator.now desk first lines.now }
         ensures ran { IfOk result (λ d.
             Ran allocator.entry.now core desk (asks_from first lines.entry.now) d) }
         ensures fault { IfErr result (λ e. e ≡ Fault.NoMemory) }
@@ -91,10 +82,7 @@ fn run_cores<'s, E, G: Gate, R: Threads>(
     lines: &'s [Line],
 ) -> Result<Vec<Done>, Fault>
     requires few { vec_len desks ≤ 64 }
-    requires desks { All (IsDeskOf allocator.now) desks.items }
-    requires sealed { (memory_of allocator.now).sealed ≡ true }
-    requires asks { All IsAsk lines.now }
-    requires end { first + length lines.now ≤ 2_000_000 }
+    requires all { MayRunAll allocator.now desks.items first lines.now }
     ensures ran { IfOk result (λ all.
         RanAll allocator.now 0 desks.items (asks_from first lines.now) all.items) }
     ensures fault { IfErr result (λ e. e ≡ Fault.NoMemory) }
@@ -130,10 +118,7 @@ pub(crate) fn run_round<G: Gate, R: Threads + Wait>(
     lines: &[Line],
 ) -> Result<Vec<Done>, Fault>
     requires few { vec_len desks ≤ 64 }
-    requires desks { All (IsDeskOf allocator.now) desks.items }
-    requires sealed { (memory_of allocator.now).sealed ≡ true }
-    requires asks { All IsAsk lines.now }
-    requires end { first + length lines.now ≤ 2_000_000 }
+    requires all { MayRunAll allocator.now desks.items first lines.now }
     ensures ran { IfOk result (λ all.
         RanAll allocator.now 0 desks.items (asks_from first lines.now) all.items) }
     ensures fault { IfErr result (λ e. e ≡ Fault.NoMemory) }
@@ -143,10 +128,7 @@ pub(crate) fn run_round<G: Gate, R: Threads + Wait>(
         rt,
         |scope| -> Result<Vec<Done>, Fault>
             requires few { vec_len desks ≤ 64 }
-            requires desks { All (IsDeskOf allocator.now) desks.items }
-            requires sealed { (memory_of allocator.now).sealed ≡ true }
-            requires asks { All IsAsk lines.now }
-            requires end { first + length lines.now ≤ 2_000_000 }
+            requires all { MayRunAll allocator.now desks.items first lines.now }
             ensures ran { IfOk result (λ all. RanAll allocator.entry.now 0 desks.items
                 (asks_from first lines.entry.now) all.items) }
             ensures fault { IfErr result (λ e. e ≡ Fault.NoMemory) }

@@ -1,6 +1,8 @@
 //! Runs from a reader to a writer.
 
 ghost use Rattle.std.specs.Prelude.{◌≡◌, ◌≢◌, true, false, IfErr, IfOk, IfSome, IsErrOf, OnOk};
+ghost use Rattle.frame_core.specs.Image.{key_in};
+ghost use Rattle.frame_core.specs.Report.{free_frames as frames_free, held_frames as frames_held};
 ghost use Rattle.frame_image.specs.Devices.{device_of, has_failed};
 ghost use Rattle.llfree_trace.specs.Streams.{EndsRun, ExplainsRun, IsRunOf, TellsReading};
 ghost use Rattle.llfree_trace.specs.Streams.{WritesFrontOfRun, WritesRun, outcome_answers, shown_of};
@@ -72,8 +74,8 @@ fn run_text(alloc: Global, geometry: Geometry, show: Show, text: &[u8]) -> Resul
     shown_text(alloc, show, &outcome)
 }
 
-/// What is shown of an outcome.
-pub(crate) fn shown_text(alloc: Global, show: Show, outcome: &Outcome) -> Result<Vec<u8>, Fault>
+// What is shown of an outcome.
+fn shown_text(alloc: Global, show: Show, outcome: &Outcome) -> Result<Vec<u8>, Fault>
     ensures text { IfOk result (λ text. text.items ≡ shown_of show outcome.now.answers.items
         outcome.now.image) }
     ensures fault { IfErr result (λ e. e ≡ Fault.NoMemory) }
@@ -90,7 +92,16 @@ fn outcome_text(alloc: Global, outcome: &Outcome) -> Result<Vec<u8>, Fault>
         outcome.now.image) }
     ensures fault { IfErr result (λ e. e ≡ Fault.NoMemory) }
 {
+    let (held, free) = frames_at_end(outcome);
+    answers_text(alloc, outcome.answers.as_slice(), held, free)
+}
+
+/// How many frames are held and free at the end of a run.
+pub(crate) fn frames_at_end(outcome: &Outcome) -> (u32, u32)
+    ensures held { result.0 ≡ frames_held (key_in outcome.now.image) outcome.now.image.words }
+    ensures free { result.1 ≡ frames_free (key_in outcome.now.image) outcome.now.image.words }
+{
     let held = held_frames(&outcome.image);
     let free = CHILD_FRAMES * outcome.image.geometry().children() - held;
-    answers_text(alloc, outcome.answers.as_slice(), held, free)
+    (held, free)
 }

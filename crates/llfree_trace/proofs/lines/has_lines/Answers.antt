@@ -1,4 +1,3 @@
-use Rattle.std.proofs.Common.{arith, length, ◌≤◌}
 use Rattle.std.proofs.lemmas.List.{take_all}
 use Rattle.llfree_trace.proofs.Workers.{none_more}
 use Rattle.llfree_trace.proofs.lines.has_lines.Goals as goal

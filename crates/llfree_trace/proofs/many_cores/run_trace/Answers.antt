@@ -1,10 +1,8 @@
-use Rattle.std.proofs.Common.{◌≡◌, ◌∙◌, ◌≤◌, [], length, map, refl, true, replicate, vec_len, ap, arith}
+use Rattle.std.proofs.Common.{◌≡◌, ◌∙◌, length, refl, vec_len, ap, arith}
 use Rattle.std.proofs.lemmas.List.{length-map}
 use Rattle.frame_core.specs.Key.{sealed_key}
 use Rattle.frame_model.specs.declared.key.Key.{Key}
-use Rattle.core_frames.specs.Cores.{memory_of}
 use Rattle.core_frames.specs.Desks.{core_of}
-use Rattle.llfree_trace.specs.Rounds.{lists_at}
 use Rattle.llfree_trace.specs.Trace.{ranges_in}
 use Rattle.llfree_trace.proofs.Cores.{cores_in_at}
 use Rattle.llfree_trace.proofs.Ended.{image_is, is_answered}

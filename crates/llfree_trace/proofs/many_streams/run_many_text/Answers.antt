@@ -6,7 +6,7 @@ use Rattle.llfree_trace.proofs.many_streams.run_many_text.Goals as goal
 
 pub returns-clause-ok : goal.returns-clause-ok
 returns-clause-ok g c =
-    IfOk-weaker c.shown_text.result
+    IfOk-weaker c.shown_apart.result
     (λ text. text.items ≡ shown_of c.args.show c.in_ok-outcome.outcome.answers.items c.in_ok-outcome.outcome.image)
     (λ out. IsManyRunOf c.args.geometry c.args.show c.args.text.now out.items)
     (λ out spells. record {
@@ -18,4 +18,4 @@ returns-clause-ok g c =
       ranges = c.in_ok-outcome.ensures.lawful;
       fits = c.in_ok-outcome.ensures.fits;
       spells = spells;
-    }) c.shown_text.ensures.text
+    }) c.shown_apart.ensures.text

@@ -10,7 +10,7 @@ merge-requires-clause-fit g c =
     rw c.as_slice.ensures.value
     (fitting c.args.allocator.now c.args.desks.items (asks_from c.args.first c.args.lines.now)
     c.in_ok-done.done.items c.in_ok-done.ensures.ran
-    (λ i d lt. omega (arith, inside i d c.requires.asks c.requires.inside lt, c.args.desks.ok)))
+    (λ i d lt. omega (arith, inside i d c.requires.all.asks c.requires.inside lt, c.args.desks.ok)))
 
 pub returns-clause-round : goal.returns-clause-round
 returns-clause-round g c =

@@ -1,4 +1,4 @@
-use Rattle.std.proofs.Common.{◌≡◌, ◌+◌, ◌≤◌, take, drop, length, arith, rules}
+use Rattle.std.proofs.Common.{◌≡◌, ◌+◌, take, drop, length, arith, rules}
 use Rattle.std.proofs.Math.Seq.{take-add}
 use Rattle.std.proofs.lemmas.List.{length-take}
 use Rattle.llfree_trace.proofs.GoingOn.{goes_both, rest_of, stands_still}

@@ -1,4 +1,4 @@
-use Rattle.std.proofs.Common.{◌≡◌, ◌-◌, ◌≤◌, length, take}
+use Rattle.std.proofs.Common.{◌-◌, ◌≤◌, length, take}
 use Rattle.llfree_trace.specs.Rounds.{GoesOn}
 use Rattle.llfree_trace.proofs.progress.run_all.Given as goal
 

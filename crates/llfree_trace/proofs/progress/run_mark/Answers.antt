@@ -1,8 +1,7 @@
-use Rattle.std.proofs.Common.{arith, refl, inl, ◌≡◌, ◌++◌, ◌∷◌, [], length, ◌≤◌, ◌+◌, max, subst, sym}
+use Rattle.std.proofs.Common.{arith, refl}
 use Rattle.held_blocks.specs.Desk.{MayRefuse}
 use Rattle.core_frames.specs.Cores.{memory_of}
-use Rattle.llfree_trace.specs.Rounds.{GoesOn, lists_at}
-use Rattle.llfree_trace.specs.Trace.{cores_in}
+use Rattle.llfree_trace.specs.Rounds.{lists_at}
 use Rattle.llfree_trace.proofs.GoingOn.{goes_move, goes_unanswered}
 use Rattle.llfree_trace.proofs.Running.{unanswered}
 use Rattle.llfree_trace.proofs.progress.run_mark.Goals as goal

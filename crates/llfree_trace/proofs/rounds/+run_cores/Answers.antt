@@ -3,20 +3,24 @@ use Rattle.llfree_trace.specs.Rounds.{asks_from}
 use Rattle.llfree_trace.proofs.Workers.{front_desks, last_ran, none_ran}
 use Rattle.llfree_trace.proofs.rounds.+run_cores.Goals as goal
 
-pub start-requires-clause-desk : goal.start-requires-clause-desk
-start-requires-clause-desk g t c κs within =
-    (front_desks _ _ _ _ c.in-Some.ensures.items c.requires.desks).1
+pub start-requires-clause-run : goal.start-requires-clause-run
+start-requires-clause-run g t c κs within =
+    let all = c.requires.all in
+    let desk = (front_desks _ _ _ _ c.in-Some.ensures.items all.desks).1 in
+    record { desk = desk; sealed = all.sealed; asks = all.asks; few = all.few }
 
-pub run_cores-others-requires-clause-desks : goal.run_cores-others-requires-clause-desks
-run_cores-others-requires-clause-desks g t c κs within =
-    (front_desks _ _ _ _ c.in-Some.ensures.items c.requires.desks).0
+pub run_cores-others-requires-clause-all : goal.run_cores-others-requires-clause-all
+run_cores-others-requires-clause-all g t c κs within =
+    let all = c.requires.all in
+    let desks = (front_desks _ _ _ _ c.in-Some.ensures.items all.desks).0 in
+    record { desks = desks; sealed = all.sealed; asks = all.asks; few = all.few }
 
 pub returns-then-not-has_lines-clause-ran : goal.returns-then-not-has_lines-clause-ran
 returns-then-not-has_lines-clause-ran g t c =
     let asks = asks_from c.args.first c.args.lines.now in
     let core = c.len-core.result in
     let place : core ≡ length c.pop.new.self.items = search rules in
-    let desk = (front_desks _ _ _ _ c.in-Some.ensures.items c.requires.desks).1 in
+    let desk = (front_desks _ _ _ _ c.in-Some.ensures.items c.requires.all.desks).1 in
     let one = none_ran c.args.allocator.now core c.args.first c.args.lines.now c.in-Some.desk _ desk c.if-not-has_lines.ensures refl
     c.new-answers.ensures.items in
     last_ran _ _ _ asks _ _ core _ _ c.in-Some.ensures.items place c.in_ok-push.ensures.items c.in_ok-all.ensures.ran one

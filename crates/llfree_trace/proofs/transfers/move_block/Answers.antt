@@ -1,4 +1,4 @@
-use Rattle.std.proofs.Common.{length, ◌<◌, ◌≡◌, set, refl, arith}
+use Rattle.std.proofs.Common.{length, ◌<◌, set, refl, arith}
 use Rattle.std.proofs.Math.ListN.{length-set}
 use Rattle.std.proofs.lemmas.List.Elements.{All-set}
 use Rattle.frame_table.specs.Seats.{block_in}

@@ -1,4 +1,4 @@
-use Rattle.std.proofs.Common.{◌≡◌, ◌≤◌, ap, arith, decimal, length, length-append, length-drop}
+use Rattle.std.proofs.Common.{◌≤◌, ap, arith, decimal, length, length-append, length-drop}
 use Rattle.std.proofs.lemmas.Fmt.{length-decimal-le}
 use Rattle.llfree_trace.proofs.row.Row.put_number.Goals as goal
 

@@ -2,7 +2,7 @@ use Rattle.std.proofs.Common.{◌≡◌, take}
 use Rattle.std.specs.List.{flat_map}
 use Rattle.csv.specs.Writing.{default_writer, row_text}
 use Rattle.llfree_trace.specs.AnswerText.{answer_row}
-use Rattle.llfree_trace.proofs.answers.answers_text.Given as goal
+use Rattle.llfree_trace.proofs.answers.rows_text.Given as goal
 
 abbrev pub invariant-loop-answer : goal.invariant-loop-answer
 invariant-loop-answer l =
