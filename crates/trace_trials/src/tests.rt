@@ -1,4 +1,5 @@
 mod images;
+mod long;
 mod records;
 mod threads;
 mod worked;
