@@ -1,10 +1,10 @@
 #!/usr/bin/env python3
 """Measures `llfree run` of a million records on 1, 2 and 4 cores, which share the records evenly.
 
-Each core takes and gives blocks in its own round, on a tree of its own. Printed are the cores, the least
-wall time of some runs, the same for a trace that only has the ends of rounds (what reading and
-printing of nothing costs), how many records a second that makes beside one core, and the greatest
-memory of a run for each record. It needs a built crates/llfree/out/llfree.
+Each core takes and gives blocks in its own round, on a tree of its own. All runs are made in turn, some
+times over. Printed are the cores, the least wall time, the same for records that are refused without a
+step (what text and threads cost), how many times the records a second of one core that makes, and the
+greatest memory of a run for each record. It needs a built crates/llfree/out/llfree.
 """
 import os
 import subprocess
@@ -13,7 +13,7 @@ import tempfile
 import time
 
 RECORDS = 1_000_000
-CHILDREN = 64
+CHILDREN = int(os.environ.get('CHILDREN', '1024'))
 RUNS = int(os.environ.get('RUNS', '5'))
 HERE = os.path.dirname(os.path.abspath(__file__))
 PROGRAM = os.path.join(HERE, '../crates/llfree/out/llfree')
@@ -31,34 +31,38 @@ def trace(cores, kind):
     return ''.join(rows)
 
 
-def least(cores, name):
+def run(cores, name):
     """Wall seconds, and the greatest memory in bytes."""
-    best, most = None, 0
-    for _ in range(RUNS):
-        with open(name, 'rb') as text:
-            start = time.perf_counter()
-            child = subprocess.Popen([PROGRAM, 'run', str(CHILDREN), str(cores)], stdin=text,
-                                     stdout=subprocess.DEVNULL)
-            _, status, usage = os.wait4(child.pid, 0)
-            spent = time.perf_counter() - start
-        if status:
-            sys.exit(f'{name}: status {status}')
-        best = spent if best is None else min(best, spent)
-        most = max(most, usage.ru_maxrss * 1024)
-    return best, most
+    with open(name, 'rb') as text:
+        start = time.perf_counter()
+        child = subprocess.Popen([PROGRAM, 'run', str(CHILDREN), str(cores)], stdin=text,
+                                 stdout=subprocess.DEVNULL)
+        _, status, usage = os.wait4(child.pid, 0)
+        spent = time.perf_counter() - start
+    if status:
+        sys.exit(f'{name}: status {status}')
+    return spent, usage.ru_maxrss * 1024
 
 
 def main():
-    print(f'{"cores":>5} {"pairs s":>9} {"no step s":>10} {"bytes a record":>15}')
+    cases = [(cores, kind) for cores in (1, 2, 4) for kind in ('pairs', 'refused')]
+    least, most = {}, {}
     with tempfile.TemporaryDirectory() as folder:
-        for cores in (1, 2, 4):
-            row = []
-            for kind in ('pairs', 'refused'):
-                name = os.path.join(folder, f'{kind}-{cores}')
-                with open(name, 'w', encoding='ascii') as out:
-                    out.write(trace(cores, kind))
-                row.append(least(cores, name))
-            print(f'{cores:>5} {row[0][0]:>9.3f} {row[1][0]:>10.3f} {row[0][1] / RECORDS:>15.0f}', flush=True)
+        names = {}
+        for cores, kind in cases:
+            names[cores, kind] = os.path.join(folder, f'{kind}-{cores}')
+            with open(names[cores, kind], 'w', encoding='ascii') as out:
+                out.write(trace(cores, kind))
+        for _ in range(RUNS):
+            for case in cases:
+                spent, memory = run(case[0], names[case])
+                least[case] = min(spent, least.get(case, spent))
+                most[case] = max(memory, most.get(case, memory))
+    print(f'{"cores":>5} {"pairs s":>9} {"times":>6} {"no step s":>10} {"bytes a record":>15}')
+    for cores in (1, 2, 4):
+        pairs, none = least[cores, 'pairs'], least[cores, 'refused']
+        times = least[1, 'pairs'] / pairs
+        print(f'{cores:>5} {pairs:>9.3f} {times:>6.2f} {none:>10.3f} {most[cores, "pairs"] / RECORDS:>15.0f}')
 
 
 if __name__ == '__main__':

@@ -573,7 +573,7 @@ def a_trace(chance):
     if chance.random() < 0.2:
         frames -= chance.randrange(CHILD_FRAMES)
         sizes.append(str(frames))
-    rows, last = [], ''
+    rows = []
     if chance.random() < 0.2:
         start = 0
         for _ in range(chance.randrange(1, 4)):
@@ -581,7 +581,13 @@ def a_trace(chance):
             count = chance.randrange(1, 40)
             rows.append(f',reserve,{start},{count}')
             start += count
-    for _ in range(chance.choice([0, 1, 3, 10, 30, 100])):
+    rows += some_rows(chance, cores, frames, chance.choice([0, 1, 3, 10, 30, 100]))
+    return [chance.choice(['run', 'image']), *sizes], as_text(rows)
+
+
+def some_rows(chance, cores, frames, count):
+    rows, last = [], ''
+    for _ in range(count):
         core, label = chance.randrange(cores), chance.choice('abcde')
         kind = chance.choice(['take'] * 6 + ['give'] * 3 + ['giveat'] * 2 + ['round', 'move'])
         if kind == 'take':
@@ -597,7 +603,19 @@ def a_trace(chance):
         else:
             rows.append(f'{core},move,{label},{chance.randrange(cores)}')
         last = kind
-    return [chance.choice(['run', 'image']), *sizes], ''.join(row + '\n' for row in rows).encode()
+    return rows
+
+
+def as_text(rows):
+    return ''.join(row + '\n' for row in rows).encode()
+
+
+def a_long_trace(chance):
+    """More bytes than one thread reads where there are several cores."""
+    cores, rows = chance.choice([2, 3, 4]), []
+    while len(rows) < 7_000:
+        rows += some_rows(chance, cores, 32 * CHILD_FRAMES, 50) + [',round,,']
+    return ['run', '32', str(cores)], as_text(rows)
 
 
 def an_image(chance):
@@ -669,6 +687,14 @@ def a_case(seed, place):
     return words, data
 
 
+def a_long_case(seed, place):
+    chance = random.Random(seed * 1_000_003 + place)
+    words, data = a_long_trace(chance)
+    if chance.random() < 0.75:
+        data = hurt(chance, data)
+    return words, data
+
+
 def great_cases():
     """Texts at the limits of length and of records."""
     one = ['run', '1', '1']
@@ -709,6 +735,8 @@ def try_case(case):
 def all_cases(arguments):
     for place, (words, data) in enumerate(great_cases()):
         yield arguments.program, f'great-{place}', words, data
+    for place in range(arguments.cases // 50):
+        yield arguments.program, f'long-{arguments.seed}-{place}', *a_long_case(arguments.seed, place)
     for place in range(arguments.cases):
         yield arguments.program, f'{arguments.seed}-{place}', *a_case(arguments.seed, place)
 

@@ -48,6 +48,7 @@ def texts():
     yield 'run 1 1', b',reserve,0,8\n,reserve,16,1\n0,take,a,3\n0,giveat,0,3\n'
     yield 'run 8 2', b'0,take,a,0\n,round,,\n0,move,a,1\n1,give,a,\n0,take,b,5\n'
     yield 'run 24 3', b'0,take,a,9\n1,take,b,0\n2,take,c,8\n,round,,\n1,move,b,2\n2,give,b,\n'
+    yield 'run 16 2', b'0,take,a,10\n1,give,a,\n' * 3_500
     yield 'run 1 1', b'0,take,a,0\n0,take,a,x\n'
     yield 'run 1 1', b',reserve,8,4\n,reserve,11,1\n'
     yield 'image 1 1', b'0,take,a,0\n'
