@@ -1,6 +1,5 @@
 use Rattle.frame_model.proofs.WrongSteps.Claims.{bits_before_the_charge, claims_uncharged}
 use Rattle.frame_model.proofs.WrongSteps.Entries.{refund_before_the_release, huge_from_511, flag_dropped_before_the_bits}
-use Rattle.frame_model.proofs.WrongSteps.Met.{are_met}
 use Rattle.frame_model.proofs.WrongSteps.Seats.{hands_out_half}
 use Rattle.frame_model.proofs.WrongSteps.Trees.{drops_the_resting_count, reserves_twice}
 use Rattle.frame_model.proofs.wrong.wrong_steps_do_not_fit.Goals as goal
@@ -15,5 +14,4 @@ returns c = record {
   reserves_twice = reserves_twice;
   hands_out_half = hands_out_half;
   flag_dropped_before_the_bits = flag_dropped_before_the_bits;
-  met = are_met;
 }
