@@ -1,5 +1,5 @@
 -- What a desk answers leaves a list whose blocks are disjoint.
-use Rattle.std.proofs.Common.{◌≡◌, ◌<◌, ◌≤◌, ℕ, List, [], ◌∷◌, Bool, true, false, nat_le, refl, arith, Result, Ok, Err}
+use Rattle.std.proofs.Common.{◌≡◌, ◌<◌, ◌≤◌, ℕ, List, Bool, true, false, nat_le, refl, arith, Result, Ok, Err}
 use Rattle.std.proofs.lemmas.Grind.{common_steps}
 use Rattle.frame_core.specs.Block.{block}
 use Rattle.frame_core.specs.Holding.{IsHolding}
@@ -9,7 +9,7 @@ use Rattle.frame_words.specs.declared.fault.Fault.{Fault}
 use Rattle.frame_words.specs.declared.fault.Fault.TheVariants as fault
 use Rattle.held_blocks.specs.Desk.{blocks_of, PutsLast, TakesUnder, GivesFirst, GivesExactly}
 use Rattle.held_blocks.specs.Desk.{pair_block, MayRefuse, MustRefuse}
-use Rattle.held_blocks.specs.LabelledBlocks.{IsTheBlock, TakesFirst}
+use Rattle.held_blocks.specs.LabelledBlocks.{IsTheBlock}
 use Rattle.held_blocks.specs.declared.labelled_block.LabelledBlock.{LabelledBlock}
 use Rattle.held_blocks.proofs.HeldLemmas.{less_lawful, more_lawful}
 

@@ -53,6 +53,13 @@ pub record IsReadyFor (store : BlockStore) (key : ℕ) : Type 0 where
 abbrev pub IsReadyUnder : BlockStore → List ℕ → Type 0
 IsReadyUnder store label = IsReadyFor store (packed label)
 
+-- what there was room for, there is room for but one entry less; what is known, and the pages, stay
+pub record UsesRoomOfOne (old new : BlockStore) : Type 0 where
+  pub room : (n : ℕ) → HasRoom old (n + 1) → HasRoom new n
+  pub known : (q : ℕ) → Knows old.chains q → Knows new.chains q
+  pub pages : (f : ℕ) → HasPage old.places f → HasPage new.places f
+  pub spare : HasSpare old.places → HasSpare new.places
+
 -- P holds for the entry of this slot
 pub record HoldsAt {T : Type 0} (P : T → Type 0) (slots : List (Option T)) (i : ℕ) : Type 0 where
   pub entry : T

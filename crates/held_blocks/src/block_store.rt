@@ -5,7 +5,7 @@ ghost use Rattle.std.specs.Prelude.{◌≡◌, ◌<◌, ◌+◌, ◌^◌, ◌++�
 ghost use Rattle.held_blocks.specs.Label.{packed};
 ghost use Rattle.held_blocks.specs.LabelChains.{Knows};
 ghost use Rattle.held_blocks.specs.FramePlaces.{HasPage, HasSpare};
-ghost use Rattle.held_blocks.specs.BlockStore.{entries_of, FindsEntries, HasRoom, IsReadyFor};
+ghost use Rattle.held_blocks.specs.BlockStore.{entries_of, FindsEntries, HasRoom, IsReadyFor, UsesRoomOfOne};
 ghost use Rattle.held_blocks.specs.LabelledBlocks.{BeginsAt, HasNone};
 
 use crate::compaction;
@@ -124,10 +124,7 @@ pub(crate) fn put_last(store: &mut BlockStore, entry: LabelledBlock)
     requires apart { HasNone (BeginsAt entry.block.frame) (entries_of store.old) }
     ensures fits { FindsEntries store.new }
     ensures entries { entries_of store.new ≡ entries_of store.old ++ entry ∷ [] }
-    ensures room { (n : ℕ) → HasRoom store.old (n + 1) → HasRoom store.new n }
-    ensures known { (q : ℕ) → Knows store.old.chains q → Knows store.new.chains q }
-    ensures pages { (f : ℕ) → HasPage store.old.places f → HasPage store.new.places f }
-    ensures spare { HasSpare store.old.places → HasSpare store.new.places }
+    ensures room { UsesRoomOfOne store.old store.new }
 {
     let key = key_of(&entry.label);
     label_chains::put_last(&mut store.chains, store.slots.as_slice(), key);

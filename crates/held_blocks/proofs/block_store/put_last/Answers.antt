@@ -24,7 +24,13 @@ returns-clause-fits c =
     (table.pages x.block.frame c.requires.page) here table.pages (rw frame at table.others) c.requires.apart refl
 
 pub returns-clause-room : goal.returns-clause-room
-returns-clause-room c n h =
+returns-clause-room c =
     let p = c.push_reserved.ensures in
-    let more = c.put_last.ensures.room n h.1 in
-    (omega (arith, p.len, p.capacity, h.0), more)
+    let chains = c.put_last.ensures in
+    let table = c.put_place.ensures in
+    record {
+      room = λ n h. (omega (arith, p.len, p.capacity, h.0), chains.room n h.1);
+      known = chains.known;
+      pages = table.pages;
+      spare = table.spare;
+    }

@@ -66,10 +66,10 @@ loop-place-preserved c =
             moved = rw w.store-is (p.entries ∙ ap (λ l. l ++ e ∷ []) inv.moved ∙ sym (moved_some old i e stands));
             rest = rw (w.slots-is, t.slots) (drop-set-lt (i + 1) slots i _ (omega arith) ∙ rest_more slots old i inv.rest);
             same = rw w.slots-is (t.len ∙ inv.same);
-            room = rw w.store-is (p.room (length (held (drop (i + 1) old)) + 1) room);
-            known = rw w.store-is (λ q h. p.known q (inv.known q h));
-            pages = rw w.store-is (λ f h. p.pages f (inv.pages f h));
-            spare = rw w.store-is (p.spare inv.spare);
+            room = rw w.store-is (p.room.room (length (held (drop (i + 1) old)) + 1) room);
+            known = rw w.store-is (λ q h. p.room.known q (inv.known q h));
+            pages = rw w.store-is (λ f h. p.room.pages f (inv.pages f h));
+            spare = rw w.store-is (p.room.spare inv.spare);
           }
       | else-is_some w ↦
           let none : get_or old i None ≡ None =
