@@ -15,7 +15,6 @@ pub mod PlainCompany
 pub mod Checks
 pub mod Cues
 pub mod Scripts
-pub mod ByHand
 pub mod Counters
 pub mod SetRuns
 pub mod Blank

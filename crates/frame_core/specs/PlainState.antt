@@ -1,6 +1,7 @@
 -- What plain moves have: the key, the words and the own view.
 use Rattle.std.specs.Prelude.{◌≡◌, ℕ, List, [], vec_len}
 use Rattle.frame_core.specs.declared.plain.PlainMoves.{PlainMoves}
+use Rattle.frame_core.specs.declared.plain.party.Company.{Company}
 use Rattle.frame_core.specs.declared.plain.party.Party.{Party}
 use Rattle.frame_model.specs.declared.key.Key.{Key}
 use Rattle.frame_model.specs.declared.view.View.{View}
@@ -29,6 +30,14 @@ view_by m =
 -- nobody waits beside the own view
 abbrev pub IsByItself : PlainMoves → Type 0
 IsByItself m = m.them.parties.items ≡ []
+
+-- a company came beside the own view, and nothing else has changed
+pub record Admits (company : Company) (old new : PlainMoves) : Type 0 where
+  pub key : (new.geometry ≡ old.geometry) × (new.sealed ≡ old.sealed)
+  pub words : new.words ≡ old.words
+  pub outs : new.outs ≡ old.outs
+  pub view : view_by new ≡ view_by old
+  pub them : new.them ≡ company
 
 -- the party has what the one who steps has in flight
 pub record IsParked (p : Party) (m : PlainMoves) : Type 0 where

@@ -8,8 +8,6 @@ mod moves;
 mod plain;
 mod script;
 mod step;
-#[cfg(test)]
-mod tests;
 pub mod turns;
 
 pub use act::Act;

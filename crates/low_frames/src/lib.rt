@@ -6,8 +6,6 @@ mod gives;
 mod huge;
 mod in_tree;
 mod small;
-#[cfg(test)]
-mod tests;
 mod wide;
 
 pub use gives::give_low;

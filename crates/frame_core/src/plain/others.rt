@@ -4,7 +4,7 @@ ghost use Rattle.std.specs.Prelude.{◌≡◌, ◌*◌, ◌<◌, [], Some, vec_l
 ghost use Rattle.std.specs.List.{All};
 ghost use Rattle.frame_core.specs.Plain.{HasRoomToFill, IsFresh};
 ghost use Rattle.frame_core.specs.declared.plain.party.Party.{Party};
-ghost use Rattle.frame_core.specs.PlainState.{view_by, IsParked};
+ghost use Rattle.frame_core.specs.PlainState.{Admits, IsParked};
 
 use super::PlainMoves;
 use super::party::Company;
@@ -17,12 +17,7 @@ impl PlainMoves {
         requires fresh { All IsFresh them.parties.items }
         requires room { All (HasRoomToFill self.old.geometry.children) them.parties.items }
         requires outs { them.outs.items ≡ replicate (512 * self.old.geometry.children) 0 }
-        ensures key { (self.new.geometry ≡ self.old.geometry)
-            × (self.new.sealed ≡ self.old.sealed) }
-        ensures words { self.new.words ≡ self.old.words }
-        ensures outs { self.new.outs ≡ self.old.outs }
-        ensures view { view_by self.new ≡ view_by self.old }
-        ensures them { self.new.them ≡ them }
+        ensures { Admits them self.old self.new }
     {
         self.them = them;
     }

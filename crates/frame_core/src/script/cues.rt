@@ -1,13 +1,12 @@
 //! What happens just before a move, as the script says.
 
-ghost use Rattle.std.specs.Prelude.{◌≡◌, ◌≢◌, ◌<◌, ◌↔◌, Some, true, false, length, slice_get};
+ghost use Rattle.std.specs.Prelude.{◌≡◌, ◌<◌, ◌↔◌, Some, true, false, length, slice_get};
 ghost use Rattle.frame_core.specs.PlainState.{IsStill};
 ghost use Rattle.frame_core.specs.Script.{HasCue, LosesAt};
 ghost use Rattle.frame_core.specs.ScriptState.{
   at_by,
   one_skipped,
-  Copies,
-  CountsCue,
+  CueHappens,
   IsButPlain,
   IsReady,
   IsUntold,
@@ -72,13 +71,8 @@ impl ScriptMoves {
     fn play(&mut self, cue: Cue, is_exchange: bool) -> bool
         requires is_cue { HasCue self.old.cues.items cue }
         requires at { cue.at ≡ at_by self.old }
-        ensures still { IsStill self.old.plain self.new.plain }
-        ensures untold { IsUntold self.old self.new }
+        ensures happens { CueHappens cue is_exchange self.old self.new }
         ensures loses { (result ≡ true) ↔ ((is_exchange ≡ true) × (cue.what ≡ What.Lose)) }
-        ensures counts { CountsCue cue.what is_exchange self.old self.new }
-        ensures quiet { cue.what ≡ What.Lose → self.new.plain ≡ self.old.plain }
-        ensures stops { cue.what ≡ What.Stop → Copies self.old self.new }
-        ensures goes_on { cue.what ≢ What.Stop → ShowsSame self.old self.new }
     {
         match cue.what {
             What::Lose => {

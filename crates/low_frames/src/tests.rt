@@ -1,7 +1,0 @@
-//! What no clause says.
-
-mod answers;
-mod calls;
-mod counts;
-mod ends;
-mod scripted;

@@ -1,0 +1,6 @@
+//! Trials of `frame_core` and `low_frames`: images and moves by hand, what takes answer, and the words
+//! between two moves.
+#![tactic(auto)]
+
+#[cfg(test)]
+mod tests;
