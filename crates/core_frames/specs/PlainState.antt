@@ -1,5 +1,6 @@
 -- What a contract sees of an allocator for one thread, and what the image says that it leaves.
-use Rattle.std.specs.Prelude.{◌≡◌, ℕ, ◌<◌, List, ◌++◌}
+use Rattle.std.specs.Prelude.{◌≡◌, ℕ, ◌<◌, List, ◌∷◌, ◌++◌}
+use Rattle.std.specs.List.Sorted.{IsPermutation}
 use Rattle.frame_words.specs.declared.geometry.Geometry.{Geometry}
 use Rattle.frame_model.specs.declared.block.FrameBlock.{FrameBlock}
 use Rattle.frame_model.specs.declared.key.Key.{Key}
@@ -9,6 +10,7 @@ use Rattle.frame_core.specs.Block.{smalls, wholes}
 use Rattle.frame_core.specs.Holding.{holders}
 use Rattle.frame_core.specs.Report.{held_at}
 use Rattle.frame_core.specs.Words.{bit_of, huge_of}
+use Rattle.core_frames.specs.Splits.{AreHalves}
 
 -- the memory and the ranges that its opening held back, the blocks that were taken and neither given
 -- nor kept, and those that were kept
@@ -26,6 +28,11 @@ memory_by state = sealed_key state.geometry state.ranges
 -- ever given, past the end and in the ranges
 abbrev pub held_by : PlainState → List FrameBlock
 held_by state = (state.out ++ state.kept) ++ boot_blocks (memory_by state)
+
+-- a block that was out is split: its halves, the lower first, are out in its place
+pub record Splits (b lower upper : FrameBlock) (old new : PlainState) : Type 0 where
+  pub halves : AreHalves b lower upper
+  pub out : IsPermutation (b ∷ new.out) (lower ∷ upper ∷ old.out)
 
 -- the words hold exactly the frames of these blocks: those of order 9 by the flag of their child,
 -- the others by the bits of their frames

@@ -15,8 +15,7 @@ ghost use Rattle.frame_core.specs.QuietTake.{QuietTake};
 ghost use Rattle.frame_core.specs.Stops.{unsealed};
 ghost use Rattle.core_frames.specs.PlainAgree.{AreOfCores};
 ghost use Rattle.core_frames.specs.Ranges.{MayHoldBack, IsUnopenedFor};
-ghost use Rattle.core_frames.specs.Splits.{AreHalves};
-ghost use Rattle.core_frames.specs.PlainState.{memory_by, held_by, HoldsExactly};
+ghost use Rattle.core_frames.specs.PlainState.{memory_by, held_by, HoldsExactly, Splits};
 
 mod starts;
 
@@ -208,9 +207,7 @@ impl PlainAllocator {
     ) -> Result<(PlainBlock, PlainBlock), PlainBlock>
         requires core { core < self.old.geometry.cores }
         requires out { Contains self.old.out block }
-        ensures halves { IfOk result (λ r. AreHalves block r.0 r.1) }
-        ensures out { IfOk result (λ r.
-            IsPermutation (block ∷ self.new.out) (r.0 ∷ r.1 ∷ self.old.out)) }
+        ensures split { IfOk result (λ r. Splits block r.0 r.1 self.old self.new) }
         ensures kept { self.new.kept ≡ self.old.kept }
         ensures whole { IfErr result (λ same. (same ≡ block) × (block.order ≡ 0)) }
         ensures unchanged { OnErr result (self.new ≡ self.old) }

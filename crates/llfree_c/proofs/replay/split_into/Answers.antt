@@ -17,9 +17,9 @@ returns-clause-same c =
     subst (λ (ps : List FrameBlock). IsPermutation (c.args.laid.now.items ++ ps) new)
     (sym (c.in-Ok-push-2.ensures.items ∙ ap (λ (bs : List FrameBlock). bs ++ u ∷ []) c.in-Ok-push.ensures.items))
     (halved c.args.laid.now.items c.args.pending.now.items c.args.allocator.now.out c.args.block l u new c.requires.same
-    c.in-Ok.ensures.out)
+    c.in-Ok.ensures.split.out)
 
 pub returns-clause-held : goal.returns-clause-held
 returns-clause-held c =
     halved_holders [] c.args.block [] c.in-Ok.lower c.in-Ok.upper c.args.allocator.now.out c.split.new.self.out
-    c.in-Ok.ensures.halves c.in-Ok.ensures.out
+    c.in-Ok.ensures.split.halves c.in-Ok.ensures.split.out

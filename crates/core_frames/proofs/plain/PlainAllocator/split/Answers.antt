@@ -64,8 +64,8 @@ invariant_of-self-2 c =
     (divided (sealed_key m.geometry a.ranges.items) _ _ m.words.items n.words.items a.starts.items a.habits.items a.refused
     c.self.invariant refl b c.in-Ok.halves.0 c.in-Ok.halves.1 (has_it c) c.split_by.ensures.splits.keeps c.in-Ok.ensures.splits.ok))
 
-pub returns-clause-out : goal.returns-clause-out
-returns-clause-out c =
+pub returns-clause-split : goal.returns-clause-split
+returns-clause-split c =
     let a = c.self.inside in
     let m = a.moves in
     let n = c.split_by.new.m in
@@ -81,7 +81,10 @@ returns-clause-out c =
     let second : IsPermutation (b ∷ out_of now) (c.in-Ok.halves.0 ∷ c.in-Ok.halves.1 ∷ out_of a.starts.items) =
     subst (λ (bs : List FrameBlock). IsPermutation (b ∷ out_of now) bs)
     (λ i. sym are.lower i ∷ sym are.upper i ∷ out_of a.starts.items) first in
-    subst (λ (s : PlainState). IsPermutation (b ∷ out_of now) (c.in-Ok.halves.0 ∷ c.in-Ok.halves.1 ∷ s.out)) c.self.view_is second
+    record {
+      halves = are;
+      out = subst (λ (s : PlainState). IsPermutation (b ∷ out_of now) (c.in-Ok.halves.0 ∷ c.in-Ok.halves.1 ∷ s.out)) c.self.view_is second;
+    }
 
 pub returns-clause-kept : goal.returns-clause-kept
 returns-clause-kept c =
