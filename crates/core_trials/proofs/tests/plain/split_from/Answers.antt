@@ -43,7 +43,7 @@ returns-in_ok-push-in-Ok-2-clause-same c =
     let inside : c.args.place < length old = omega (arith, c.requires.place, c.args.blocks.now.ok.0) in
     let one : IsPermutation (b ∷ left) out = IsPermutation-trans (b ∷ left) old out (IsPermutation-sym old (b ∷ left)
     (IsPermutation-remove old c.args.place b inside c.remove-block.ensures.value)) c.requires.same in
-    let both : IsPermutation (u ∷ l ∷ left) new = halves b l u left out new one c.in-Ok.ensures.out in
+    let both : IsPermutation (u ∷ l ∷ left) new = halves b l u left out new one c.in-Ok.ensures.split.out in
     let pushed : IsPermutation (left ++ l ∷ []) (l ∷ left) =
     IsPermutation-push_more left left (l ∷ left) l (IsPermutation-refl left) (IsPermutation-refl (l ∷ left)) in
     let last : IsPermutation ((left ++ l ∷ []) ++ u ∷ []) new = IsPermutation-push_more (left ++ l ∷ []) (l ∷ left) new u pushed both in
