@@ -1,9 +1,10 @@
 //! Each move of the caller: first what the script says, then the move.
 
-ghost use Rattle.std.specs.Prelude.{◌≡◌, Some, true, false, slice_get, slice_index};
+ghost use Rattle.std.specs.Prelude.{◌≡◌, Some, true, false, length, slice_get, slice_index};
+ghost use Rattle.frame_core.specs.declared.script.ScriptMoves.{ScriptMoves};
 ghost use Rattle.frame_core.specs.Moves.{place_of, IsPlace};
 ghost use Rattle.frame_core.specs.PlainState.{key_by, words_by};
-ghost use Rattle.frame_core.specs.ScriptState.{read_by, IsReady, IsLost, FindsWord};
+ghost use Rattle.frame_core.specs.ScriptState.{read_by, FindsWord, IsLost, IsReady, MeetsFirst};
 
 use super::ScriptMoves;
 use crate::moves::Moves;
@@ -18,6 +19,7 @@ impl ScriptMoves {
         ensures value { slice_index (words_by self.old.plain)
             (place_of (key_by self.old.plain) place) ≡ result }
         ensures here { read_by self.new (place_of (key_by self.old.plain) place) ≡ Some result }
+        ensures skipped { self.new.skipped ≡ self.old.skipped }
     {
         let found = self.plain.stands(place);
         self.read[self.plain.number_at(place)] = found;
@@ -32,6 +34,8 @@ impl ScriptMoves {
             (place_of (key_by self.old.plain) place) ≡ Some seen }
         ensures lost { result ≡ true
             → IsLost (place_of (key_by self.old.plain) place) seen self.old self.new }
+        ensures met { (ready : ScriptMoves) × (MeetsFirst self.old.cues.items true
+            (length self.old.cues.items) self.old ready × (self.new.skipped ≡ ready.skipped)) }
     {
         if !self.prompt(true) && self.plain.stands(place) == seen {
             return false;

@@ -25,3 +25,9 @@ returns-clause-lost c = λ yes.
     ] in
     lost_found m r _ c.find.new.self c.args.place c.args.seen c.find.result c.prompt.ensures.ready c.lose.ensures
     c.find.ensures.found c.find.ensures.value c.find.ensures.here why refl refl refl refl
+
+pub returns-then-stands-seen-clause-met : goal.returns-then-stands-seen-clause-met
+returns-then-stands-seen-clause-met c = (c.prompt.new.self, (c.prompt.ensures.met, refl))
+
+pub returns-clause-met : goal.returns-clause-met
+returns-clause-met c = (c.prompt.new.self, (c.prompt.ensures.met, c.find.ensures.skipped))
