@@ -23,6 +23,3 @@ pub use sizes::{
     TREE_FRAMES, WORD_FRAMES, WORD_ORDER, frames_of,
 };
 pub use tree_word::{tree, tree_free, tree_reserved};
-
-#[cfg(test)]
-mod tests;

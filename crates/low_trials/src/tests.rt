@@ -9,3 +9,4 @@ mod image;
 mod plain;
 mod script;
 mod scripted;
+mod words;

@@ -1,6 +1,9 @@
 //! The worked values of the words, the masks and the searches, and the text of each refusal.
 
-use super::*;
+use frame_words::{
+    Fault, Geometry, TakeFault, child_of, entry, entry_free, entry_huge, find_run, find_words,
+    lane, local, local_of, mask, tree, tree_free, tree_of, tree_reserved, with_lane,
+};
 use std::alloc::{AllocError, AllocFailed};
 use std::test::Fail;
 
