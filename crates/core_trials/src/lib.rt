@@ -1,4 +1,5 @@
-//! Trials of `core_frames`: which blocks are answered, in how many moves, and the words in between.
+//! Trials of `held_blocks` and `core_frames`: lists of blocks, which blocks are answered, in how many
+//! moves, and the words in between.
 #![tactic(auto)]
 
 #[cfg(test)]

@@ -1,6 +1,8 @@
 //! What no clause says.
 
 mod desk;
+mod labels;
+mod lists;
 mod moves;
 mod plain;
 mod random_scripts;

@@ -10,8 +10,6 @@ mod labelled_block;
 mod labelled_blocks;
 mod lookups;
 mod removals;
-#[cfg(test)]
-mod tests;
 
 pub use label::Label;
 pub use labelled_block::LabelledBlock;

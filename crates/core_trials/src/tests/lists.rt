@@ -1,7 +1,7 @@
 //! The list of labelled blocks: each call once, and long runs beside a plain list.
 
-use crate::{Label, LabelledBlock, LabelledBlocks};
 use frame_core::{HeldBlock, PlainBlock};
+use held_blocks::{Label, LabelledBlock, LabelledBlocks};
 use std::process::Abort;
 use std::test::Fail;
 

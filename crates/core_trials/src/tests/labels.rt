@@ -1,6 +1,6 @@
 //! The label rule, by examples.
 
-use crate::Label;
+use held_blocks::Label;
 
 // Whether these bytes are taken as a label and come back.
 fn is_taken(bytes: &[u8]) -> bool {

@@ -1,4 +1,0 @@
-//! What no clause says.
-
-mod labels;
-mod lists;
