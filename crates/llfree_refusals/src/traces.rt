@@ -1,7 +1,7 @@
 //! Traces, and the program that runs them.
 
 ghost use Rattle.std.specs.Prelude.{◌≤◌, IfOk};
-ghost use Rattle.llfree_trace.specs.Trace.{core_count};
+ghost use Rattle.trace_text.specs.Trace.{core_count};
 
 use crate::calls::{Calls, room, twice};
 use crate::samples::{

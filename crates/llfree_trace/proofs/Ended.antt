@@ -36,10 +36,10 @@ use Rattle.core_frames.specs.declared.desk.Desk.{Desk}
 use Rattle.core_frames.proofs.PlainCalls.{same_geometry}
 use Rattle.llfree_trace.specs.Outcome.{all_blocks, HoldsFrames, IsAnsweredBy, key_under, Runs}
 use Rattle.llfree_trace.specs.Rounds.{GoesOn, lent_by_desks, lists_at}
-use Rattle.llfree_trace.specs.Trace.{ranges_in}
-use Rattle.llfree_trace.specs.declared.line.Line.{Line}
+use Rattle.trace_text.specs.Trace.{ranges_in}
+use Rattle.trace_text.specs.declared.line.Line.{Line}
 use Rattle.llfree_trace.specs.declared.progress.Progress.{Progress}
-use Rattle.llfree_trace.specs.declared.reply.Answer.{Answer}
+use Rattle.trace_text.specs.declared.reply.Answer.{Answer}
 use Rattle.llfree_trace.proofs.Boot.{boot_are}
 
 -- sizes make a geometry

@@ -9,11 +9,11 @@ use Rattle.core_frames.specs.Desks.{IsDeskOf}
 use Rattle.core_frames.specs.declared.allocator.Allocator.{Allocator}
 use Rattle.llfree_trace.specs.Outcome.{Runs}
 use Rattle.llfree_trace.specs.Rounds.{asks_from, GoesOn, IsAsk, lists_at, MovesAt, RoundRan}
-use Rattle.llfree_trace.specs.Trace.{cores_in}
-use Rattle.llfree_trace.specs.declared.line.Line.{Line}
-use Rattle.llfree_trace.specs.declared.line.Line.TheVariants as line
+use Rattle.trace_text.specs.Trace.{cores_in}
+use Rattle.trace_text.specs.declared.line.Line.{Line}
+use Rattle.trace_text.specs.declared.line.Line.TheVariants as line
 use Rattle.llfree_trace.specs.declared.progress.Progress.{Progress}
-use Rattle.llfree_trace.specs.declared.reply.Answer.{Answer}
+use Rattle.trace_text.specs.declared.reply.Answer.{Answer}
 use Rattle.llfree_trace.proofs.Interleaving.{round_runs}
 use Rattle.llfree_trace.proofs.MovingDesks.{list_lawful}
 use Rattle.llfree_trace.proofs.Running.{runs_append}

@@ -20,11 +20,11 @@ use Rattle.llfree_trace.proofs.Running.{step_lawful}
 use Rattle.llfree_trace.specs.Outcome.{Runs, core_list}
 use Rattle.llfree_trace.specs.Rounds.{Ask, DeskRun, IsAsk, answers_by, asks_from, asks_by, ask_spot}
 use Rattle.llfree_trace.specs.Rounds.{spot, RoundRan}
-use Rattle.llfree_trace.specs.Trace.{cores_in}
-use Rattle.llfree_trace.specs.declared.line.Line.{Line}
-use Rattle.llfree_trace.specs.declared.line.Line.TheVariants as line
-use Rattle.llfree_trace.specs.declared.line.Request.{Request}
-use Rattle.llfree_trace.specs.declared.reply.Answer.{Answer}
+use Rattle.trace_text.specs.Trace.{cores_in}
+use Rattle.trace_text.specs.declared.line.Line.{Line}
+use Rattle.trace_text.specs.declared.line.Line.TheVariants as line
+use Rattle.trace_text.specs.declared.line.Request.{Request}
+use Rattle.trace_text.specs.declared.reply.Answer.{Answer}
 
 -- what the lists of all cores do, each by its own requests and answers
 pub record Apart (key : Key) (old : List (List LabelledBlock)) (asks : List Ask) (answers : List Answer)

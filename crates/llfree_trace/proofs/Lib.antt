@@ -1,12 +1,3 @@
-pub mod Fields
-pub mod Cores
-pub mod Ranges
-pub mod Parsing
-pub mod Cutting
-pub mod Joining
-pub mod InParts
-pub mod PlainRows
-pub mod AnswerRows
 pub mod Desks
 pub mod Moving
 pub mod Running

@@ -17,11 +17,11 @@ use Rattle.core_frames.specs.Cores.{memory_of}
 use Rattle.core_frames.specs.declared.allocator.Allocator.{Allocator}
 use Rattle.core_frames.specs.declared.desk.Desk.{Desk}
 use Rattle.frame_model.specs.declared.key.Key.{Key}
-use Rattle.llfree_trace.specs.declared.reply.Answer.{Answer}
+use Rattle.trace_text.specs.declared.reply.Answer.{Answer}
 use Rattle.llfree_trace.specs.declared.lines.Done.{Done}
 use Rattle.llfree_trace.proofs.Workers.{ask_core_is, ask_count}
-use Rattle.llfree_trace.specs.declared.line.Line.{Line}
-use Rattle.llfree_trace.specs.declared.line.Request.TheVariants as request
+use Rattle.trace_text.specs.declared.line.Line.{Line}
+use Rattle.trace_text.specs.declared.line.Request.TheVariants as request
 use Rattle.llfree_trace.specs.Rounds.{IsAsk, ask_core, asks_from, Ask, DeskRun, Fitting, Merged}
 use Rattle.llfree_trace.specs.Rounds.{Ran, RanAll, RoundRan, answers_by, asks_by, lent_by_desks}
 use Rattle.llfree_trace.specs.Rounds.{ask_spot, spot}

@@ -26,7 +26,7 @@ use Rattle.core_frames.specs.declared.allocator.Core.{Core}
 use Rattle.core_frames.specs.declared.desk.Desk.{Desk}
 use Rattle.llfree_trace.specs.Outcome.{core_list, Moves}
 use Rattle.llfree_trace.specs.Rounds.{lent_by_desks, lists_at, MovesAt}
-use Rattle.llfree_trace.specs.declared.reply.Reply.TheVariants as reply
+use Rattle.trace_text.specs.declared.reply.Reply.TheVariants as reply
 use Rattle.llfree_trace.proofs.Interleaving.{list_there}
 
 -- the desk at a place

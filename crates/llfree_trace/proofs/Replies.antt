@@ -10,9 +10,9 @@ use Rattle.held_blocks.specs.Desk.{GivesExactly, GivesOldest, MayFail, MayRefuse
 use Rattle.held_blocks.specs.declared.labelled_block.LabelledBlock.{LabelledBlock}
 use Rattle.llfree_trace.specs.Outcome.{DeskStep, LeavesBootFrames, SaysGiven, SaysTaken}
 use Rattle.llfree_trace.specs.Rounds.{given_reply, taken_reply, IsTakenReply}
-use Rattle.llfree_trace.specs.declared.line.Request.TheVariants as request
-use Rattle.llfree_trace.specs.declared.reply.Reply.{Reply}
-use Rattle.llfree_trace.specs.declared.reply.Reply.TheVariants as reply
+use Rattle.trace_text.specs.declared.line.Request.TheVariants as request
+use Rattle.trace_text.specs.declared.reply.Reply.{Reply}
+use Rattle.trace_text.specs.declared.reply.Reply.TheVariants as reply
 use Rattle.llfree_trace.proofs.Boot.{boot_free}
 
 -- a take that did not want memory may be refused so

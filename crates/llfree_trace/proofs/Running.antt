@@ -9,13 +9,13 @@ use Rattle.frame_model.specs.declared.block.FrameBlock.{FrameBlock}
 use Rattle.frame_model.specs.declared.key.Key.{Key}
 use Rattle.frame_words.specs.declared.fault.Fault.{Fault}
 use Rattle.frame_words.specs.declared.fault.Fault.TheVariants as fault
-use Rattle.llfree_trace.specs.declared.line.Line.{Line}
-use Rattle.llfree_trace.specs.declared.line.Line.TheVariants as line
-use Rattle.llfree_trace.specs.declared.line.Request.{Request}
-use Rattle.llfree_trace.specs.declared.line.Request.TheVariants as request
-use Rattle.llfree_trace.specs.declared.reply.Answer.{Answer}
-use Rattle.llfree_trace.specs.declared.reply.Reply.{Reply}
-use Rattle.llfree_trace.specs.declared.reply.Reply.TheVariants as reply
+use Rattle.trace_text.specs.declared.line.Line.{Line}
+use Rattle.trace_text.specs.declared.line.Line.TheVariants as line
+use Rattle.trace_text.specs.declared.line.Request.{Request}
+use Rattle.trace_text.specs.declared.line.Request.TheVariants as request
+use Rattle.trace_text.specs.declared.reply.Answer.{Answer}
+use Rattle.trace_text.specs.declared.reply.Reply.{Reply}
+use Rattle.trace_text.specs.declared.reply.Reply.TheVariants as reply
 use Rattle.held_blocks.specs.Desk.{MayRefuse, TakesUnder, blocks_of}
 use Rattle.held_blocks.specs.LabelledBlocks.{IsUnder}
 use Rattle.held_blocks.specs.declared.labelled_block.LabelledBlock.{LabelledBlock}

@@ -10,7 +10,7 @@ use Rattle.llfree_trace.specs.ImageStreams.{EndsImage}
 use Rattle.llfree_trace.specs.Program.{AreLawful, CanDo, Does, EndsCommand, IsOfSizes, IsRefused}
 use Rattle.llfree_trace.specs.Program.{IsUnlawful}
 use Rattle.llfree_trace.specs.Streams.{EndsRun, HasBadRanges}
-use Rattle.llfree_trace.specs.TraceText.{trace_of}
+use Rattle.trace_text.specs.TraceText.{trace_of}
 use Rattle.llfree_trace.specs.declared.command.Command.{Command}
 use Rattle.llfree_trace.specs.declared.command.Command.TheVariants as command
 use Rattle.llfree_trace.specs.declared.command.Sizes.{Sizes}

@@ -15,12 +15,12 @@ use Rattle.core_frames.specs.declared.allocator.Allocator.{Allocator}
 use Rattle.core_frames.specs.declared.desk.Desk.{Desk}
 use Rattle.frame_model.specs.declared.key.Key.{Key}
 use Rattle.llfree_trace.specs.Outcome.{DeskStep}
-use Rattle.llfree_trace.specs.declared.reply.Answer.{Answer}
-use Rattle.llfree_trace.specs.declared.line.Line.{Line}
-use Rattle.llfree_trace.specs.declared.line.Line.TheVariants as line
-use Rattle.llfree_trace.specs.declared.line.Request.{Request}
+use Rattle.trace_text.specs.declared.reply.Answer.{Answer}
+use Rattle.trace_text.specs.declared.line.Line.{Line}
+use Rattle.trace_text.specs.declared.line.Line.TheVariants as line
+use Rattle.trace_text.specs.declared.line.Request.{Request}
 use Rattle.llfree_trace.specs.declared.lines.Done.{Done}
-use Rattle.llfree_trace.specs.Trace.{cores_in}
+use Rattle.trace_text.specs.Trace.{cores_in}
 use Rattle.llfree_trace.specs.Rounds.{Ask, DeskRun, IsAsk, IsNoAskOf, Ran, RanAll, ask_core}
 use Rattle.llfree_trace.specs.Rounds.{asks_from, asks_by}
 

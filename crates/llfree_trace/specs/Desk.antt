@@ -11,10 +11,10 @@ use Rattle.frame_words.specs.declared.geometry.Geometry.{Geometry}
 use Rattle.held_blocks.specs.Desk.{blocks_of}
 use Rattle.held_blocks.specs.declared.labelled_block.LabelledBlock.{LabelledBlock}
 use Rattle.llfree_trace.specs.Outcome.{Moves, MustRefuseHere, Runs}
-use Rattle.llfree_trace.specs.declared.line.Line.{Line}
-use Rattle.llfree_trace.specs.declared.reply.Answer.{Answer}
-use Rattle.llfree_trace.specs.declared.reply.Reply.{Reply}
-use Rattle.llfree_trace.specs.declared.reply.Reply.TheVariants as reply
+use Rattle.trace_text.specs.declared.line.Line.{Line}
+use Rattle.trace_text.specs.declared.reply.Answer.{Answer}
+use Rattle.trace_text.specs.declared.reply.Reply.{Reply}
+use Rattle.trace_text.specs.declared.reply.Reply.TheVariants as reply
 
 -- a memory, the ranges that its opening held back, and the list of what its one core holds
 pub record DeskState : Type 0 where

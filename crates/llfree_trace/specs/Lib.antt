@@ -1,7 +1,3 @@
-pub mod Trace
-pub mod TraceText
-pub mod Parts
-pub mod AnswerText
 pub mod Outcome
 pub mod Rounds
 pub mod Desk

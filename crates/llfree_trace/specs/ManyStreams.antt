@@ -8,10 +8,10 @@ use Rattle.frame_words.specs.declared.geometry.Geometry.{Geometry}
 use Rattle.held_blocks.specs.Desk.{MayRefuse}
 use Rattle.llfree_trace.specs.Outcome.{IsAnsweredBy}
 use Rattle.llfree_trace.specs.Streams.{shown_of}
-use Rattle.llfree_trace.specs.Trace.{ranges_in}
-use Rattle.llfree_trace.specs.TraceText.{trace_of}
-use Rattle.llfree_trace.specs.declared.line.Line.{Line}
-use Rattle.llfree_trace.specs.declared.reply.Answer.{Answer}
+use Rattle.trace_text.specs.Trace.{ranges_in}
+use Rattle.trace_text.specs.TraceText.{trace_of}
+use Rattle.trace_text.specs.declared.line.Line.{Line}
+use Rattle.trace_text.specs.declared.reply.Answer.{Answer}
 use Rattle.llfree_trace.specs.declared.streams.Show.{Show}
 
 -- the bytes show an outcome that fits what the text says as a trace, whose ranges may be held back

@@ -10,7 +10,7 @@ use Rattle.llfree_trace.specs.Command.{command_of}
 use Rattle.llfree_trace.specs.ImageStreams.{IsRebuiltText, IsReportText, WritesSo, WritesFrontSo}
 use Rattle.llfree_trace.specs.ManyStreams.{WritesFrontOfManyRun, WritesManyRun}
 use Rattle.llfree_trace.specs.Streams.{HasBadRanges, IsTooLong, WritesFrontOfRun, WritesRun}
-use Rattle.llfree_trace.specs.TraceText.{trace_of}
+use Rattle.trace_text.specs.TraceText.{trace_of}
 use Rattle.llfree_trace.specs.declared.command.Command.{Command}
 use Rattle.llfree_trace.specs.declared.command.Command.TheVariants as command
 use Rattle.llfree_trace.specs.declared.command.Sizes.{Sizes}

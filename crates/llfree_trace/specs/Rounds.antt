@@ -13,14 +13,14 @@ use Rattle.core_frames.specs.Desks.{list_of, core_of, IsDeskOf}
 use Rattle.core_frames.specs.declared.allocator.Allocator.{Allocator}
 use Rattle.core_frames.specs.declared.desk.Desk.{Desk}
 use Rattle.llfree_trace.specs.Outcome.{DeskStep, Moves, Runs}
-use Rattle.llfree_trace.specs.declared.line.Line.{Line}
-use Rattle.llfree_trace.specs.declared.line.Line.TheVariants as line
-use Rattle.llfree_trace.specs.declared.line.Request.{Request}
+use Rattle.trace_text.specs.declared.line.Line.{Line}
+use Rattle.trace_text.specs.declared.line.Line.TheVariants as line
+use Rattle.trace_text.specs.declared.line.Request.{Request}
 use Rattle.llfree_trace.specs.declared.lines.Done.{Done}
 use Rattle.llfree_trace.specs.declared.progress.Progress.{Progress}
-use Rattle.llfree_trace.specs.declared.reply.Answer.{Answer}
-use Rattle.llfree_trace.specs.declared.reply.Reply.{Reply}
-use Rattle.llfree_trace.specs.declared.reply.Reply.TheVariants as reply
+use Rattle.trace_text.specs.declared.reply.Answer.{Answer}
+use Rattle.trace_text.specs.declared.reply.Reply.{Reply}
+use Rattle.trace_text.specs.declared.reply.Reply.TheVariants as reply
 use Rattle.llfree_trace.specs.declared.rounds.Running.{Running}
 
 -- Replies.

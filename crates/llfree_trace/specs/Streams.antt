@@ -11,13 +11,13 @@ use Rattle.frame_image.specs.declared.devices.TheConstants.{MOST_BYTES}
 use Rattle.frame_words.specs.declared.fault.Fault.{Fault}
 use Rattle.frame_words.specs.declared.fault.Fault.TheVariants as fault
 use Rattle.frame_words.specs.declared.geometry.Geometry.{Geometry}
-use Rattle.llfree_trace.specs.AnswerText.{answers_of}
+use Rattle.trace_text.specs.AnswerText.{answers_of}
 use Rattle.held_blocks.specs.Desk.{MayRefuse}
 use Rattle.llfree_trace.specs.Outcome.{IsAnsweredBy, MustRefuseHere}
-use Rattle.llfree_trace.specs.Trace.{ranges_in}
-use Rattle.llfree_trace.specs.TraceText.{ExplainsTrace, trace_of}
-use Rattle.llfree_trace.specs.declared.line.Line.{Line}
-use Rattle.llfree_trace.specs.declared.reply.Answer.{Answer}
+use Rattle.trace_text.specs.Trace.{ranges_in}
+use Rattle.trace_text.specs.TraceText.{ExplainsTrace, trace_of}
+use Rattle.trace_text.specs.declared.line.Line.{Line}
+use Rattle.trace_text.specs.declared.reply.Answer.{Answer}
 use Rattle.llfree_trace.specs.declared.streams.Show.{Show}
 use Rattle.llfree_trace.specs.declared.streams.Show.TheVariants as show
 

@@ -6,16 +6,15 @@ ghost use Rattle.core_frames.specs.Ranges.{IsUnopenedFor, MayHoldBack};
 ghost use Rattle.frame_words.specs.Faults.{fault_of};
 ghost use Rattle.llfree_trace.specs.Desk.{desk_key, CountsBy, IsLawful, IsSameMemory, MovesToEnd};
 ghost use Rattle.llfree_trace.specs.Desk.{RunsOne};
-ghost use Rattle.llfree_trace.specs.Trace.{cores_in};
+ghost use Rattle.trace_text.specs.Trace.{cores_in};
 
-use crate::line::{Line, Request};
-use crate::reply::{Answer, Reply};
 use crate::transfers::moved;
 use core_frames::{Label, LabelledBlock, LabelledBlocks, PlainAllocator};
 use frame_core::{HeldBlock, Image};
 use frame_words::{Fault, Geometry, HUGE_ORDER, TakeFault};
 use std::alloc::Global;
 use std::marker::Model;
+use trace_text::{Answer, Line, Reply, Request};
 
 // An allocator, and the list of the blocks that are out.
 #[derive(Drop)]

@@ -11,11 +11,10 @@ ghost use Rattle.llfree_trace.specs.Rounds.{IsNoAskOf, MayRun, asks_from, given_
 ghost use Rattle.llfree_trace.specs.Rounds.{IsTakenReply};
 
 use crate::gate::Gate;
-use crate::line::{Line, Request};
-use crate::reply::{Answer, Reply};
 use core_frames::{Allocator, Desk};
 use frame_words::Fault;
 use std::alloc::Global;
+use trace_text::{Answer, Line, Reply, Request};
 
 /// A desk after its requests, and its answers to them.
 #[derive(Drop)]

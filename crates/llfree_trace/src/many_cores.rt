@@ -4,18 +4,18 @@ ghost use Rattle.std.specs.Prelude.{◌≡◌, ◌≤◌, IfErr, IfOk};
 ghost use Rattle.core_frames.specs.Ranges.{IsUnopenedFor, MayHoldBack};
 ghost use Rattle.held_blocks.specs.Desk.{MayRefuse};
 ghost use Rattle.llfree_trace.specs.Outcome.{IsAnsweredBy};
-ghost use Rattle.llfree_trace.specs.Trace.{core_count, ranges_in};
+ghost use Rattle.trace_text.specs.Trace.{core_count, ranges_in};
 
 use crate::gate::Gate;
-use crate::line::Trace;
+use crate::outcome::Outcome;
 use crate::progress::{Progress, run_all};
-use crate::reply::Outcome;
 use crate::seating::{finish_all, open_desks};
 use core_frames::Allocator;
 use frame_words::{Fault, Geometry};
 use std::alloc::Global;
 use std::sync::Wait;
 use std::thread::Threads;
+use trace_text::Trace;
 
 /// Runs a trace. In each round, every core that has requests answers them on a thread of its own;
 /// all threads are started before the first is joined. Moves and ends of rounds stand between.

@@ -5,11 +5,9 @@ ghost use Rattle.frame_image.specs.Devices.{device_of, has_failed};
 ghost use Rattle.llfree_trace.specs.ManyStreams.{IsManyRunOf, WritesFrontOfManyRun, WritesManyRun};
 ghost use Rattle.llfree_trace.specs.Streams.{EndsRun, ExplainsRun, TellsReading, shown_of};
 
-use crate::answer_parts::answers_apart;
 use crate::gate::Gate;
 use crate::many_cores::run_trace;
-use crate::parts::parse_parts;
-use crate::reply::Outcome;
+use crate::outcome::Outcome;
 use crate::streams::{Show, frames_at_end};
 use frame_image::{Watched, image_text, read_all, write_out};
 use frame_words::{Fault, Geometry};
@@ -17,6 +15,7 @@ use std::alloc::Global;
 use std::io::{Read, Write};
 use std::sync::Wait;
 use std::thread::Threads;
+use trace_text::{answers_apart, parse_parts};
 
 /// Runs the trace that the reader has left, each core on a thread of its own in each round, and
 /// writes what is to be shown.

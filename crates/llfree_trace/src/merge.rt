@@ -4,18 +4,17 @@ ghost use Rattle.std.specs.Prelude.{◌≡◌, ◌+◌, ◌≤◌, ◌<◌, leng
 ghost use Rattle.std.specs.Prelude.{slice_index, slice_index_or, slice_set};
 ghost use Rattle.std.specs.List.{All};
 ghost use Rattle.llfree_trace.specs.Rounds.{IsAsk, MayRunAll, ask_core, asks_from, Fitting, Merged, RoundRan};
-ghost use Rattle.llfree_trace.specs.Trace.{cores_in};
+ghost use Rattle.trace_text.specs.Trace.{cores_in};
 
 use crate::gate::Gate;
-use crate::line::Line;
 use crate::lines::Done;
-use crate::reply::Answer;
 use crate::rounds::run_round;
 use core_frames::{Allocator, Desk};
 use frame_words::Fault;
 use std::alloc::Global;
 use std::sync::Wait;
 use std::thread::Threads;
+use trace_text::{Answer, Line};
 
 // Puts the answers of all cores into the order of the records.
 fn merge(alloc: Global, first: u32, lines: &[Line], done: &[Done]) -> Result<Vec<Answer>, Fault>

@@ -4,13 +4,13 @@ ghost use Rattle.std.specs.Prelude.{◌≡◌, ◌≤◌, IfErr, IfOk};
 ghost use Rattle.core_frames.specs.Ranges.{IsUnopenedFor, MayHoldBack};
 ghost use Rattle.held_blocks.specs.Desk.{MayRefuse};
 ghost use Rattle.llfree_trace.specs.Outcome.{IsAnsweredBy, MustRefuseHere};
-ghost use Rattle.llfree_trace.specs.Trace.{core_count, ranges_in};
+ghost use Rattle.trace_text.specs.Trace.{core_count, ranges_in};
 
 use crate::desk::PlainDesk;
-use crate::line::Trace;
-use crate::reply::Outcome;
+use crate::outcome::Outcome;
 use frame_words::{Fault, Geometry};
 use std::alloc::Global;
+use trace_text::Trace;
 
 /// Runs a trace that names no core but 0.
 ///

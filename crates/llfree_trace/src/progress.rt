@@ -7,19 +7,18 @@ ghost use Rattle.std.specs.List.{All};
 ghost use Rattle.core_frames.specs.Cores.{memory_of};
 ghost use Rattle.core_frames.specs.Desks.{IsDeskOf};
 ghost use Rattle.llfree_trace.specs.Rounds.{IsAsk, IsNoAsk, GoesOn, GoesOnBy, MayRunAll};
-ghost use Rattle.llfree_trace.specs.Trace.{cores_in, most_records};
-ghost use Rattle.llfree_trace.specs.declared.line.Line.{Line as OneLine};
+ghost use Rattle.trace_text.specs.Trace.{cores_in, most_records};
+ghost use Rattle.trace_text.specs.declared.line.Line.{Line as OneLine};
 
 use crate::gate::Gate;
-use crate::line::{Line, number_after};
 use crate::merge::answer_round;
-use crate::reply::Answer;
 use crate::transfers::move_block;
 use core_frames::{Allocator, Desk};
 use frame_words::Fault;
 use std::alloc::Global;
 use std::sync::Wait;
 use std::thread::Threads;
+use trace_text::{Answer, Line, number_after};
 
 /// The desks of all cores, and the answers so far.
 #[derive(Drop)]

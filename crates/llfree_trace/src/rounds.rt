@@ -4,7 +4,6 @@ ghost use Rattle.std.specs.Prelude.{◌≡◌, ◌+◌, ◌≤◌, vec_len, IfOk
 ghost use Rattle.llfree_trace.specs.Rounds.{IsPromiseOf, MayRun, MayRunAll, asks_from, Ran, RanAll};
 
 use crate::gate::Gate;
-use crate::line::Line;
 use crate::lines::{Done, has_lines, run_lines};
 use core_frames::{Allocator, Desk};
 use frame_words::Fault;
@@ -13,6 +12,7 @@ use std::snapshot::Snapshot;
 use std::sync::Wait;
 use std::thread;
 use std::thread::{Promise, PromisedHandle, Scope, Threads};
+use trace_text::Line;
 
 /// What a core's thread promises: that the core's requests ran, from the desk that it was given.
 #[derive(Drop)]

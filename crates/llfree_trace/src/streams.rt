@@ -7,14 +7,13 @@ ghost use Rattle.frame_image.specs.Devices.{device_of, has_failed};
 ghost use Rattle.llfree_trace.specs.Streams.{EndsRun, ExplainsRun, IsRunOf, TellsReading};
 ghost use Rattle.llfree_trace.specs.Streams.{WritesFrontOfRun, WritesRun, outcome_answers, shown_of};
 
-use crate::answers::answers_text;
 use crate::one_core::run_one;
-use crate::parser::parse_trace;
-use crate::reply::Outcome;
+use crate::outcome::Outcome;
 use frame_image::{Watched, held_frames, image_text, read_all, write_out};
 use frame_words::{CHILD_FRAMES, Fault, Geometry};
 use std::alloc::Global;
 use std::io::{Read, Write};
+use trace_text::{answers_text, parse_trace};
 
 /// What a run shows.
 #[derive(Clone, Copy, Debug, PartialEq, Eq)]

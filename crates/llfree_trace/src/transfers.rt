@@ -5,10 +5,10 @@ ghost use Rattle.std.specs.List.{All};
 ghost use Rattle.core_frames.specs.Desks.{IsDeskOf};
 ghost use Rattle.llfree_trace.specs.Rounds.{MovesAt};
 
-use crate::reply::Reply;
 use core_frames::{Allocator, Desk, Label};
 use frame_core::HeldBlock;
 use frame_words::Fault;
+use trace_text::Reply;
 
 /// The oldest block under the label goes from a core's desk to the end of another's. Refused only
 /// for want of memory.

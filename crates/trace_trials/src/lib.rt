@@ -1,4 +1,4 @@
-//! Trials of `llfree_trace`: worked traces, limits, and devices that are slow or fail.
+//! Trials of `trace_text` and `llfree_trace`: worked traces, limits, and devices that are slow or fail.
 #![tactic(auto)]
 
 #[cfg(test)]

@@ -3,7 +3,7 @@ use Rattle.std.proofs.lemmas.List.{take_all}
 use Rattle.core_frames.specs.Cores.{memory_of}
 use Rattle.core_frames.specs.Desks.{list_of}
 use Rattle.llfree_trace.specs.Rounds.{Ask, DeskRun, asks_from}
-use Rattle.llfree_trace.specs.declared.line.Request.TheVariants as request
+use Rattle.trace_text.specs.declared.line.Request.TheVariants as request
 use Rattle.llfree_trace.proofs.Workers.{ask_count, ask_is, ask_other, line_ran, line_skipped}
 use Rattle.llfree_trace.proofs.lines.run_lines.Goals as goal
 use Rattle.llfree_trace.proofs.lines.run_lines.Goals.{in-Some+in_ok-answer+in_ok-push, in_default}

@@ -3,8 +3,8 @@ use Rattle.std.proofs.lemmas.List.{length-map}
 use Rattle.frame_core.specs.Key.{sealed_key}
 use Rattle.frame_model.specs.declared.key.Key.{Key}
 use Rattle.core_frames.specs.Desks.{core_of}
-use Rattle.llfree_trace.specs.Trace.{ranges_in}
-use Rattle.llfree_trace.proofs.Cores.{cores_in_at}
+use Rattle.trace_text.specs.Trace.{ranges_in}
+use Rattle.trace_text.proofs.Cores.{cores_in_at}
 use Rattle.llfree_trace.proofs.Ended.{image_is, is_answered}
 use Rattle.llfree_trace.proofs.NewDesks.{all_cores, none_lent}
 use Rattle.llfree_trace.proofs.many_cores.run_trace.Goals as goal

@@ -4,7 +4,7 @@ use Rattle.std.specs.Result.{is_ok}
 use Rattle.std.specs.Option.{option_to_list}
 use Rattle.std.proofs.lemmas.List.{append-nil, length-take, take_all, take_more}
 use Rattle.llfree_trace.specs.Outcome.{Runs}
-use Rattle.llfree_trace.proofs.Cores.{cores_in_at}
+use Rattle.trace_text.proofs.Cores.{cores_in_at}
 use Rattle.llfree_trace.proofs.Running.{blocks_of_one, first_list, may_runs, none_lawful}
 use Rattle.llfree_trace.proofs.Running.{renumbered, runs_append}
 use Rattle.llfree_trace.proofs.one_core.run_one.Goals as goal

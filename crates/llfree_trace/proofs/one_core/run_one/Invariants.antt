@@ -2,7 +2,7 @@ use Rattle.std.proofs.Common.{◌≡◌, ◌-◌, ◌∷◌, [], replicate, take
 use Rattle.frame_core.specs.Key.{sealed_key}
 use Rattle.llfree_trace.specs.Desk.{IsLawful}
 use Rattle.llfree_trace.specs.Outcome.{MustRefuseHere, Runs}
-use Rattle.llfree_trace.specs.Trace.{ranges_in}
+use Rattle.trace_text.specs.Trace.{ranges_in}
 use Rattle.llfree_trace.proofs.one_core.run_one.Given as goal
 
 abbrev pub invariant-loop-line : goal.invariant-loop-line

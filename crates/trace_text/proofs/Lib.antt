@@ -1,0 +1,9 @@
+pub mod Fields
+pub mod Cores
+pub mod Ranges
+pub mod Parsing
+pub mod Cutting
+pub mod Joining
+pub mod InParts
+pub mod PlainRows
+pub mod AnswerRows

@@ -1,0 +1,4 @@
+pub mod Trace
+pub mod TraceText
+pub mod Parts
+pub mod AnswerText

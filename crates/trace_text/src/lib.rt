@@ -1,0 +1,18 @@
+//! Traces and answers, as values and as texts.
+#![tactic(auto)]
+
+mod answer_parts;
+mod answers;
+mod going;
+mod line;
+mod parser;
+mod parts;
+mod reply;
+mod row;
+
+pub use answer_parts::answers_apart;
+pub use answers::answers_text;
+pub use line::{Line, Request, Trace, number_after};
+pub use parser::parse_trace;
+pub use parts::parse_parts;
+pub use reply::{Answer, Reply};
