@@ -53,6 +53,48 @@ fn label(rt: &impl Abort, bytes: &[u8]) -> Label {
     Label::of(bytes).expect(rt, "a label")
 }
 
+// Takes a block under a label: its first frame and its order.
+fn take(
+    allocator: &Allocator,
+    desk: &mut Desk,
+    label: &Label,
+    order: u8,
+) -> Result<(u32, u8), Fault>
+    requires { IsDeskOf allocator.now desk.old }
+    ensures { IsDeskOf allocator.now desk.new }
+{
+    desk.take(allocator, label.again(), order)
+}
+
+// Gives the oldest block under a label.
+fn give(allocator: &Allocator, desk: &mut Desk, label: &Label) -> Result<(u32, u8), Fault>
+    requires { IsDeskOf allocator.now desk.old }
+    ensures { IsDeskOf allocator.now desk.new }
+{
+    desk.give(allocator, label)
+}
+
+// Moves the oldest block under a label to the end of another desk's list, under a label there.
+fn move_over(
+    allocator: &Allocator,
+    from: &mut Desk,
+    label: &Label,
+    to: &mut Desk,
+    under: &Label,
+) -> Result<(u32, u8), Fault>
+    requires from { IsDeskOf allocator.now from.old }
+    requires to { IsDeskOf allocator.now to.old }
+    ensures from { IsDeskOf allocator.now from.new }
+    ensures to { IsDeskOf allocator.now to.new }
+{
+    let block = from.lift(allocator, label)?;
+    let moved = (block.frame(), block.order());
+    match to.lay(allocator, under.again(), block) {
+        Ok(()) => Ok(moved),
+        Err(_) => Err(Fault::NoMemory),
+    }
+}
+
 // Asks for a block that the desk does not hold.
 fn is_not_held(rt: &impl Abort, allocator: &Allocator, desk: &mut Desk, frame: u32, order: u8)
     requires { IsDeskOf allocator.now desk.old }
@@ -75,14 +117,14 @@ fn finds_none(rt: &impl Abort, allocator: &Allocator, desk: &mut Desk, label: &L
 fn a_desk_gives_the_oldest_block_under_a_label(rt: HostRuntime) -> Result<(), Fail> {
     let (allocator, mut desk, other) = open(rt.alloc(), 1)?;
     let (a, b) = (label(&rt, b"a"), label(&rt, b"b"));
-    let first = desk.take(&allocator, a.again(), 0)?;
-    let middle = desk.take(&allocator, b.again(), 6)?;
-    let last = desk.take(&allocator, a.again(), 3)?;
+    let first = take(&allocator, &mut desk, &a, 0)?;
+    let middle = take(&allocator, &mut desk, &b, 6)?;
+    let last = take(&allocator, &mut desk, &a, 3)?;
     assert_eq!(rt; (first.1, middle.1, last.1, desk.len()), (0, 6, 3, 3));
-    assert_eq!(rt; desk.give(&allocator, &a)?, first);
-    assert_eq!(rt; desk.give(&allocator, &a)?, last);
-    assert_eq!(rt; desk.give(&allocator, &a).err(), Some(Fault::NotHeld));
-    assert_eq!(rt; desk.give(&allocator, &b)?, middle);
+    assert_eq!(rt; give(&allocator, &mut desk, &a)?, first);
+    assert_eq!(rt; give(&allocator, &mut desk, &a)?, last);
+    assert_eq!(rt; give(&allocator, &mut desk, &a).err(), Some(Fault::NotHeld));
+    assert_eq!(rt; give(&allocator, &mut desk, &b)?, middle);
     assert_eq!(rt; desk.len(), 0);
     let image = close(rt.alloc(), allocator, desk, other)?;
     assert_eq!(rt; held_and_free(&image), (0, 512));
@@ -92,7 +134,7 @@ fn a_desk_gives_the_oldest_block_under_a_label(rt: HostRuntime) -> Result<(), Fa
 #[test]
 fn a_part_of_a_block_is_not_given(rt: HostRuntime) -> Result<(), Fail> {
     let (allocator, mut desk, mut other) = open(rt.alloc(), 1)?;
-    let (frame, order) = desk.take(&allocator, label(&rt, b"a"), 5)?;
+    let (frame, order) = take(&allocator, &mut desk, &label(&rt, b"a"), 5)?;
     is_not_held(&rt, &allocator, &mut desk, frame, 4);
     is_not_held(&rt, &allocator, &mut desk, frame, 6);
     is_not_held(&rt, &allocator, &mut desk, frame ^ 1, 0);
@@ -117,7 +159,7 @@ fn refused_takes_leave_the_list(rt: HostRuntime) -> Result<(), Fail> {
         desk.take(&allocator, a.again(), 10).err(),
         Some(Fault::BadOrder)
     );
-    assert_eq!(rt; desk.take(&allocator, a.again(), 9)?, (0, 9));
+    assert_eq!(rt; take(&allocator, &mut desk, &a, 9)?, (0, 9));
     finds_none(&rt, &allocator, &mut desk, &a, 0);
     finds_none(&rt, &allocator, &mut desk, &a, 8);
     finds_none(&rt, &allocator, &mut desk, &a, 9);
@@ -133,21 +175,19 @@ fn refused_takes_leave_the_list(rt: HostRuntime) -> Result<(), Fail> {
 fn a_block_moves_from_one_desk_to_another(rt: HostRuntime) -> Result<(), Fail> {
     let (allocator, mut from, mut to) = open(rt.alloc(), 8)?;
     let (a, b) = (label(&rt, b"a"), label(&rt, b"b"));
-    let moved = from.take(&allocator, a.again(), 4)?;
-    let stays = from.take(&allocator, a.again(), 4)?;
-    let before = to.take(&allocator, b.again(), 0)?;
-    let block = from.lift(&allocator, &a)?;
-    assert_eq!(rt; (block.frame(), block.order()), moved);
-    assert_eq!(rt; to.lay(&allocator, b.again(), block).is_ok(), true);
+    let moved = take(&allocator, &mut from, &a, 4)?;
+    let stays = take(&allocator, &mut from, &a, 4)?;
+    let before = take(&allocator, &mut to, &b, 0)?;
+    assert_eq!(rt; move_over(&allocator, &mut from, &a, &mut to, &b)?, moved);
     assert_eq!(rt; (from.len(), to.len()), (1, 2));
+    is_not_held(&rt, &allocator, &mut from, moved.0, moved.1);
     assert_eq!(rt;
-        from.give_at(&allocator, moved.0, moved.1).err(),
+        move_over(&allocator, &mut from, &b, &mut to, &a).err(),
         Some(Fault::NotHeld)
     );
-    assert_eq!(rt; from.lift(&allocator, &b).err(), Some(Fault::NotHeld));
-    assert_eq!(rt; to.give(&allocator, &b)?, before);
-    assert_eq!(rt; to.give(&allocator, &b)?, moved);
-    assert_eq!(rt; from.give(&allocator, &a)?, stays);
+    assert_eq!(rt; give(&allocator, &mut to, &b)?, before);
+    assert_eq!(rt; give(&allocator, &mut to, &b)?, moved);
+    assert_eq!(rt; give(&allocator, &mut from, &a)?, stays);
     let image = close(rt.alloc(), allocator, from, to)?;
     assert_eq!(rt; held_and_free(&image), (0, 4096));
     Ok(())

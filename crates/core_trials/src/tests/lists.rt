@@ -39,19 +39,30 @@ fn adds(
     Ok(true)
 }
 
+// Adds two blocks under the first label, and one under the second between them.
+fn add_three(
+    rt: &impl Abort,
+    list: &mut LabelledBlocks,
+    first: &Label,
+    second: &Label,
+) -> Result<(), Fail> {
+    assert_eq!(rt; list.len(), 0);
+    assert!(rt; list.remove_oldest(first).is_none());
+    assert!(rt; adds(rt, list, first, 512, 3)?);
+    assert!(rt; adds(rt, list, second, 0, 9)?);
+    assert!(rt; adds(rt, list, first, 2_097_151, 0)?);
+    assert!(rt; !adds(rt, list, second, 512, 0)?);
+    assert_eq!(rt; list.len(), 3);
+    assert_eq!(rt; list.at(1).block.frame(), 0);
+    Ok(())
+}
+
 #[test]
 fn the_oldest_and_the_named_block_leave(rt: HostRuntime) -> Result<(), Fail> {
     let mut list: LabelledBlocks = LabelledBlocks::new(rt.alloc());
     let first = label_at(&rt, 0);
     let second = label_at(&rt, 1);
-    assert_eq!(rt; list.len(), 0);
-    assert!(rt; list.remove_oldest(&first).is_none());
-    assert!(rt; adds(&rt, &mut list, &first, 512, 3)?);
-    assert!(rt; adds(&rt, &mut list, &second, 0, 9)?);
-    assert!(rt; adds(&rt, &mut list, &first, 2_097_151, 0)?);
-    assert!(rt; !adds(&rt, &mut list, &second, 512, 0)?);
-    assert_eq!(rt; list.len(), 3);
-    assert_eq!(rt; list.at(1).block.frame(), 0);
+    add_three(&rt, &mut list, &first, &second)?;
     assert!(rt; list.begins_at(2_097_151) && !list.begins_at(513));
     assert!(rt; list.remove_exact(512, 2).is_none());
     let oldest = list.remove_oldest(&first).ok_or("the oldest")?;

@@ -47,6 +47,13 @@ fn give(m: &mut PlainMoves, habit: &mut Habit, held: PlainBlock)
     give_by(m, habit, held)
 }
 
+// What rests with a core.
+fn rest_of(m: &PlainMoves, alloc: Global, core: u32) -> Result<Option<(u32, u32)>, Fault>
+    requires { core < (⟦<PlainMoves as Moves>⟧.at m.now).key.cores }
+{
+    Ok(m.image(alloc)?.local_at(core))
+}
+
 // The first take reserves the tree; the second pays from the own reservation.
 #[test]
 fn a_core_takes_and_gives_in_its_own_tree(rt: HostRuntime) -> Result<(), Fail> {
@@ -57,14 +64,14 @@ fn a_core_takes_and_gives_in_its_own_tree(rt: HostRuntime) -> Result<(), Fail> {
         return Err(Fail::from("a block"));
     };
     assert_eq!(rt; (first.frame(), m.moves()), (0, 10));
-    assert_eq!(rt; m.image(rt.alloc())?.local_at(0), Some((0, 511)));
+    assert_eq!(rt; rest_of(&m, rt.alloc(), 0)?, Some((0, 511)));
     let Ok(second) = take(&mut m, &mut habit, 0) else {
         return Err(Fail::from("a block"));
     };
     assert_eq!(rt; (second.frame(), m.moves()), (1, 17));
     give(&mut m, &mut habit, second);
     assert_eq!(rt; m.moves(), 22);
-    assert_eq!(rt; m.image(rt.alloc())?.local_at(0), Some((0, 511)));
+    assert_eq!(rt; rest_of(&m, rt.alloc(), 0)?, Some((0, 511)));
     Ok(())
 }
 
@@ -78,15 +85,15 @@ fn a_take_drains_the_other_cores(rt: HostRuntime) -> Result<(), Fail> {
     let Ok(small) = take(&mut m, &mut one, 0) else {
         return Err(Fail::from("a block"));
     };
-    assert_eq!(rt; m.image(rt.alloc())?.local_at(0), Some((0, 1023)));
+    assert_eq!(rt; rest_of(&m, rt.alloc(), 0)?, Some((0, 1023)));
     let Ok(huge) = take(&mut m, &mut other, 9) else {
         return Err(Fail::from("a huge frame"));
     };
     assert_eq!(rt; (small.frame(), huge.frame()), (0, 512));
-    assert_eq!(rt; m.image(rt.alloc())?.local_at(0), None);
-    assert_eq!(rt; m.image(rt.alloc())?.local_at(1), Some((0, 511)));
+    assert_eq!(rt; rest_of(&m, rt.alloc(), 0)?, None);
+    assert_eq!(rt; rest_of(&m, rt.alloc(), 1)?, Some((0, 511)));
     assert!(rt; take(&mut m, &mut one, 9).is_err());
-    assert_eq!(rt; m.image(rt.alloc())?.local_at(1), None);
+    assert_eq!(rt; rest_of(&m, rt.alloc(), 1)?, None);
     assert_eq!(rt; m.image(rt.alloc())?.tree_free(0), 511);
     Ok(())
 }

@@ -503,16 +503,19 @@ fn no_frame_past_the_end_is_taken(rt: HostRuntime) -> Result<(), Fail> {
     Ok(())
 }
 
+// How many frames are held and free of one child with a range after the calls, if each answers as it is to.
+fn counts_beside(alloc: Global, range: (u32, u32), asks: &[Ask]) -> Result<(u32, u32), Fail> {
+    let image = image_after(alloc, Geometry::new(1, 1)?, &[range], asks)?;
+    Ok(held_and_free(&image))
+}
+
 #[test]
 fn no_frame_of_a_range_is_taken(rt: HostRuntime) -> Result<(), Fail> {
-    let geometry = Geometry::new(1, 1)?;
     let asks = [Ask::Take(0, 3, Ok(8)), Ask::Take(0, 0, Ok(16))];
-    let image = image_after(rt.alloc(), geometry, &[(0, 8)], &asks)?;
-    assert_eq!(rt; held_and_free(&image), (17, 495));
+    assert_eq!(rt; counts_beside(rt.alloc(), (0, 8), &asks)?, (17, 495));
     let none = [Ask::Take(0, 0, NONE)];
-    let all = image_after(rt.alloc(), geometry, &[(0, 512)], &none)?;
-    assert_eq!(rt; held_and_free(&all), (512, 0));
-    let last = image_after(rt.alloc(), geometry, &[(0, 1), (511, 1)], &[])?;
+    assert_eq!(rt; counts_beside(rt.alloc(), (0, 512), &none)?, (512, 0));
+    let last = image_after(rt.alloc(), Geometry::new(1, 1)?, &[(0, 1), (511, 1)], &[])?;
     assert_eq!(rt;
         child_at(&last, 0, (0, 7)),
         Some((510, false, 1, 0x8000_0000_0000_0000))

@@ -2,13 +2,15 @@
 
 ghost use Rattle.std.specs.Prelude.{IfOk, IfSome};
 ghost use Rattle.std.specs.List.{All};
-ghost use Rattle.core_frames.specs.Cores.{IsCoreOf};
+ghost use Rattle.core_frames.specs.Cores.{IsCoreOf, IsOutOf};
 
 use super::plain::held_and_free;
 use core_frames::{Allocator, CloseFault, Core};
 use frame_core::{HeldBlock, Image};
+use frame_table::Block;
 use frame_words::{Fault, Geometry, TakeFault};
 use std::alloc::Global;
+use std::process::Abort;
 use std::test::Fail;
 use std::thread::join;
 
@@ -63,34 +65,62 @@ fn closing_wants_each_core(rt: HostRuntime) -> Result<(), Fail> {
     Ok(())
 }
 
+// Asks for a block that is refused.
+fn is_refused(
+    rt: &impl Abort,
+    allocator: &Allocator,
+    core: &mut Core,
+    order: u8,
+    refusal: TakeFault,
+)
+    requires { IsCoreOf allocator.now core.old }
+    ensures { IsCoreOf allocator.now core.new }
+{
+    assert_eq!(rt; allocator.take(core, order).err(), Some(refusal));
+}
+
+// The halves of a block.
+fn halves(rt: &impl Abort, allocator: &Allocator, core: &mut Core, block: Block) -> (Block, Block)
+    requires core { IsCoreOf allocator.now core.old }
+    requires block { IsOutOf allocator.now block }
+    ensures core { IsCoreOf allocator.now core.new }
+    ensures lower { IsOutOf allocator.now result.0 }
+    ensures upper { IsOutOf allocator.now result.1 }
+{
+    let Ok(both) = allocator.split(core, block) else {
+        panic!(rt; "it has halves");
+    };
+    both
+}
+
+// The block, kept and handed out again.
+fn recalled(allocator: &Allocator, core: &mut Core, block: Block) -> Block
+    requires core { IsCoreOf allocator.now core.old }
+    requires block { IsOutOf allocator.now block }
+    ensures core { IsCoreOf allocator.now core.new }
+    ensures block { IsOutOf allocator.now result }
+{
+    let (frame, order) = allocator.keep(core, block);
+    allocator.recall(core, frame, order)
+}
+
 #[test]
 fn a_huge_frame_is_split_to_the_end(rt: HostRuntime) -> Result<(), Fail> {
     let (allocator, mut cores) = open(rt.alloc(), 1, 2)?;
     let mut first = next_core(&allocator, &mut cores).ok_or("a core")?;
     let mut second = next_core(&allocator, &mut cores).ok_or("a core")?;
     let block = allocator.take(&mut first, 9).map_err(Fault::from)?;
-    assert_eq!(rt;
-        allocator.take(&mut second, 0).err(),
-        Some(TakeFault::NoBlock)
-    );
-    assert_eq!(rt;
-        allocator.take(&mut second, 10).err(),
-        Some(TakeFault::BadOrder)
-    );
-    let Ok((low, high)) = allocator.split(&mut second, block) else {
-        panic!(rt; "it has halves");
-    };
+    is_refused(&rt, &allocator, &mut second, 0, TakeFault::NoBlock);
+    is_refused(&rt, &allocator, &mut second, 10, TakeFault::BadOrder);
+    let (low, high) = halves(&rt, &allocator, &mut second, block);
     assert_eq!(rt; (low.frame(), low.order()), (0, 8));
     assert_eq!(rt; (high.frame(), high.order()), (256, 8));
     allocator.give(&mut first, high);
-    let Ok((low, high)) = allocator.split(&mut first, low) else {
-        panic!(rt; "it has halves");
-    };
+    let (low, high) = halves(&rt, &allocator, &mut first, low);
     assert_eq!(rt; (high.frame(), high.order()), (128, 7));
-    let (frame, order) = allocator.keep(&mut first, high);
     allocator.give(&mut second, low);
-    let kept = allocator.recall(&mut first, frame, order);
-    assert_eq!(rt; allocator.keep(&mut second, kept), (128, 7));
+    let high = recalled(&allocator, &mut first, high);
+    assert_eq!(rt; allocator.keep(&mut second, high), (128, 7));
     let one = allocator.take(&mut first, 0).map_err(Fault::from)?;
     let Err(one) = allocator.split(&mut first, one) else {
         panic!(rt; "a frame has no halves");
