@@ -24,7 +24,7 @@ fn merge(alloc: Global, first: u32, lines: &[Line], done: &[Done]) -> Result<Vec
     ensures fault { IfErr result (λ e. e ≡ Fault.NoMemory) }
 {
     let mut used = vec![in alloc; 0usize; done.len()]?;
-    let mut all = Vec::new(alloc);
+    let mut all = Vec::with_capacity(alloc, lines.len())?;
     for line in lines {
         let core = core_of(line) as usize;
         let own = &done[core];

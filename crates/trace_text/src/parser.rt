@@ -19,6 +19,9 @@ use std::alloc::{AllocError, Global};
 /// The most records of a trace.
 pub(crate) const MOST_RECORDS: usize = 1_000_000;
 
+/// The fewest bytes of a record, with the end of its line: `,round,,`.
+const LEAST_RECORD: usize = 9;
+
 /// Reads a text as a trace for the cores of the geometry.
 ///
 /// `BadTrace` names the lowest refused record.
@@ -30,7 +33,7 @@ pub fn parse_trace(alloc: Global, geometry: &Geometry, text: &[u8]) -> Result<Tr
     let cores = geometry.cores();
     let mut records = RecordReader::new(alloc, text);
     let mut row = ByteRecord::new(alloc);
-    let mut lines = Vec::new(alloc);
+    let mut lines = Vec::with_capacity(alloc, most_records_of(text))?;
     let mut ranges = Vec::new(alloc);
     loop {
         let found = records.read(&mut row)?;
@@ -46,6 +49,11 @@ pub fn parse_trace(alloc: Global, geometry: &Geometry, text: &[u8]) -> Result<Tr
             None => return Err(Fault::BadTrace { line: number }),
         }
     }
+}
+
+/// How many records a text has at most, so that room for them is made once.
+pub(crate) fn most_records_of(text: &[u8]) -> usize {
+    (text.len() / LEAST_RECORD + 1).min(MOST_RECORDS)
 }
 
 // Adds the range that a record holds back, if it is of that kind.

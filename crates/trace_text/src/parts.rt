@@ -10,7 +10,7 @@ ghost use Rattle.trace_text.specs.TraceText.{ExplainsTrace, trace_of};
 
 use crate::going::{Going, TURNS, join_all, keep};
 use crate::line::{Line, Trace};
-use crate::parser::{MOST_RECORDS, may_follow, parse_trace};
+use crate::parser::{MOST_RECORDS, may_follow, most_records_of, parse_trace};
 use frame_words::{Fault, Geometry};
 use memchr::memrchr;
 use std::alloc::Global;
@@ -111,7 +111,8 @@ fn read_parts<'s, E, R: Threads>(
 {
     let most = geometry.cores() as usize;
     let size = (text.len() / (TURNS * most)).max(LEAST_PART);
-    let mut trace = Trace::of(Vec::new(alloc), Vec::new(alloc));
+    let lines = Vec::with_capacity(alloc, most_records_of(text))?;
+    let mut trace = Trace::of(lines, Vec::new(alloc));
     let mut rest = text;
     loop {
         if going.len() < most {

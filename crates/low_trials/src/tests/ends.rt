@@ -5,7 +5,8 @@ ghost use Rattle.frame_core.specs.View.{IsIdle};
 use super::answers::{assert_child, assert_tree};
 use super::calls::take;
 use frame_core::{HeldBlock, Moves, PlainMoves};
-use frame_words::{Geometry, HUGE_ORDER, frames_of};
+use frame_words::{Fault, Geometry, HUGE_ORDER, frames_of};
+use std::alloc::Global;
 use std::test::Fail;
 
 const FRAMES: u32 = 300;
@@ -30,6 +31,13 @@ fn take_all(m: &mut PlainMoves, order: u8) -> Option<u32>
     Some(count)
 }
 
+// How many blocks of the order a memory that ends inside its child has.
+fn count_of(alloc: Global, order: u8) -> Result<Option<u32>, Fault> {
+    let geometry = Geometry::with_frames(1, 1, FRAMES)?;
+    let mut m = PlainMoves::new(alloc, &geometry)?;
+    Ok(take_all(&mut m, order))
+}
+
 #[test]
 fn no_frame_past_the_end_is_taken(rt: HostRuntime) -> Result<(), Fail> {
     let rows = [
@@ -45,9 +53,7 @@ fn no_frame_past_the_end_is_taken(rt: HostRuntime) -> Result<(), Fail> {
         (9, 0),
     ];
     for (order, blocks) in rows {
-        let geometry = Geometry::with_frames(1, 1, FRAMES)?;
-        let mut m = PlainMoves::new(rt.alloc(), &geometry)?;
-        assert_eq!(rt; take_all(&mut m, order), Some(blocks), "order {order}");
+        assert_eq!(rt; count_of(rt.alloc(), order)?, Some(blocks), "order {order}");
     }
     Ok(())
 }

@@ -3,6 +3,7 @@
 
 ghost use Rattle.std.specs.Prelude.{◌≡◌};
 
+use super::answers::{assert_child, assert_tree};
 use frame_core::Image;
 use frame_words::Geometry;
 use std::test::Fail;
@@ -25,13 +26,9 @@ fn two_children() -> Geometry
 #[test]
 fn frames_past_the_end_are_held(rt: HostRuntime) -> Result<(), Fail> {
     let image = Image::new(rt.alloc(), &two_children())?;
-    for word in 0..8u32 {
-        assert_eq!(rt; image.word(0, word), 0);
-        assert_eq!(rt; image.word(1, word), SECOND[word as usize]);
-    }
-    assert_eq!(rt; (image.free(0), image.huge(0)), (512, false));
-    assert_eq!(rt; (image.free(1), image.huge(1)), (88, false));
-    assert_eq!(rt; (image.tree_free(0), image.tree_reserved(0)), (600, false));
+    assert_child(&rt, &image, 0, (512, false), [0; 8]);
+    assert_child(&rt, &image, 1, (88, false), SECOND);
+    assert_tree(&rt, &image, 0, 600);
     assert_eq!(rt; image.local_at(0), None);
     Ok(())
 }
@@ -43,15 +40,9 @@ fn frames_of_the_ranges_are_held(rt: HostRuntime) -> Result<(), Fail> {
     let ranges = [(0, 1), (70, 130), (511, 2)];
     let image = Image::with_ranges(rt.alloc(), &two_children(), &ranges)?;
     let first = [1, FULL << 6, FULL, 0xff, 0, 0, 0, 1 << 63];
-    for word in 0..8u32 {
-        assert_eq!(rt; image.word(0, word), first[word as usize]);
-    }
-    assert_eq!(rt; image.word(1, 0), 1);
-    for word in 1..8u32 {
-        assert_eq!(rt; image.word(1, word), SECOND[word as usize]);
-    }
-    assert_eq!(rt; (image.free(0), image.free(1)), (512 - 132, 88 - 1));
-    assert_eq!(rt; image.tree_free(0), 600 - 133);
-    assert!(rt; !image.huge(0) && !image.huge(1));
+    assert_child(&rt, &image, 0, (512 - 132, false), first);
+    let second = [1, FULL << 24, FULL, FULL, FULL, FULL, FULL, FULL];
+    assert_child(&rt, &image, 1, (88 - 1, false), second);
+    assert_tree(&rt, &image, 0, 600 - 133);
     Ok(())
 }

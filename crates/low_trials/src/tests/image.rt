@@ -1,7 +1,9 @@
 //! An image by its readers, before and after each writer, and where the words of a table stand.
 
+use super::answers::{assert_child, assert_tree};
 use frame_core::{FrameBlock, HeldBlock, Image, PlainBlock, layout};
-use frame_words::Geometry;
+use frame_words::{Fault, Geometry};
+use std::alloc::Global;
 use std::test::Fail;
 
 fn first_and_order<H: HeldBlock>(held: &H) -> (u32, u8) {
@@ -48,57 +50,52 @@ fn a_new_image_is_all_free(rt: HostRuntime) -> Result<(), Fail> {
     let image = Image::new(rt.alloc(), &geometry)?;
     assert_eq!(rt; image.geometry(), geometry);
     for child in 0..9u32 {
-        assert_eq!(rt; image.free(child), 512);
-        assert!(rt; !image.huge(child));
-        for word in 0..8u32 {
-            assert_eq!(rt; image.word(child, word), 0);
-        }
+        assert_child(&rt, &image, child, (512, false), [0; 8]);
     }
-    for (tree, size) in [(0u32, 4096u32), (1, 512)] {
-        assert!(rt; tree < 2);
-        assert_eq!(rt; image.tree_free(tree), size);
-        assert!(rt; !image.tree_reserved(tree));
-    }
+    assert_tree(&rt, &image, 0, 4096);
+    assert_tree(&rt, &image, 1, 512);
     for core in 0..2u32 {
         assert_eq!(rt; image.local_at(core), None);
     }
     Ok(())
 }
 
-#[test]
-fn the_writers_change_what_they_name(rt: HostRuntime) -> Result<(), Fail> {
+// An image of two trees, by each of its writers.
+fn written(alloc: Global) -> Result<Image, Fault> {
     let geometry = Geometry::new(16, 1)?;
-    let mut image = Image::new(rt.alloc(), &geometry)?;
+    let mut image = Image::new(alloc, &geometry)?;
     image.set_child(0, 510, false, [1, 0, 0, 0, 0, 0, 0, 1 << 63]);
     image.set_entry(1, 0, true);
     image.set_word(2, 1, u64::MAX);
     image.set_tree(0, 0, true);
     image.set_tree(1, 3584, false);
     image.set_local(0, Some((0, 2048)));
-    let entries = [
-        (0, 510, false),
-        (1, 0, true),
-        (2, 512, false),
-        (3, 512, false),
-    ];
-    for (child, free, huge) in entries {
-        assert!(rt; child < 4);
-        assert_eq!(rt; (image.free(child), image.huge(child)), (free, huge));
+    Ok(image)
+}
+
+// The counter and the flag of a tree.
+fn tree_at(image: &Image, tree: u32) -> Option<(u32, bool)> {
+    if tree >= image.geometry().trees() {
+        return None;
     }
-    let words = [
-        (0, 0, 1),
-        (0, 6, 0),
-        (0, 7, 1 << 63),
-        (1, 0, 0),
-        (2, 1, u64::MAX),
-        (2, 2, 0),
-    ];
-    for (child, word, bits) in words {
-        assert!(rt; child < 3 && word < 8);
-        assert_eq!(rt; image.word(child, word), bits);
-    }
-    assert_eq!(rt; (image.tree_free(0), image.tree_reserved(0)), (0, true));
-    assert_eq!(rt; (image.tree_free(1), image.tree_reserved(1)), (3584, false));
+    Some((image.tree_free(tree), image.tree_reserved(tree)))
+}
+
+#[test]
+fn the_writers_change_what_they_name(rt: HostRuntime) -> Result<(), Fail> {
+    let mut image = written(rt.alloc())?;
+    assert_child(&rt, &image, 0, (510, false), [1, 0, 0, 0, 0, 0, 0, 1 << 63]);
+    assert_child(&rt, &image, 1, (0, true), [0; 8]);
+    assert_child(
+        &rt,
+        &image,
+        2,
+        (512, false),
+        [0, u64::MAX, 0, 0, 0, 0, 0, 0],
+    );
+    assert_child(&rt, &image, 3, (512, false), [0; 8]);
+    assert_eq!(rt; tree_at(&image, 0), Some((0, true)));
+    assert_eq!(rt; tree_at(&image, 1), Some((3584, false)));
     assert_eq!(rt; image.local_at(0), Some((0, 2048)));
     image.set_local(0, None);
     assert_eq!(rt; image.local_at(0), None);

@@ -7,6 +7,7 @@ ghost use Rattle.frame_model.specs.Rebuilt.{IsRebuilt};
 ghost use Rattle.frame_model.specs.WorkedRuns.{one_child, words_of_one};
 ghost use Rattle.frame_core.specs.Plain.{plain_key};
 
+use super::answers::{assert_child, assert_tree};
 use frame_core::{Image, Moves, Place, PlainMoves};
 use frame_words::{Fault, Geometry};
 use std::alloc::Global;
@@ -75,12 +76,8 @@ fn a_huge_frame_becomes_set_bits(rt: HostRuntime) -> Result<(), Fail> {
     let filled = m.image(rt.alloc())?;
     m.drop_flag(0);
     let dropped = m.image(rt.alloc())?;
-    assert_eq!(rt; (filled.free(0), filled.huge(0)), (0, true));
-    assert_eq!(rt; (dropped.free(0), dropped.huge(0)), (0, false));
-    for word in 0..8u32 {
-        assert_eq!(rt; filled.word(0, word), u64::MAX);
-        assert_eq!(rt; dropped.word(0, word), u64::MAX);
-    }
+    assert_child(&rt, &filled, 0, (0, true), [u64::MAX; 8]);
+    assert_child(&rt, &dropped, 0, (0, false), [u64::MAX; 8]);
     Ok(())
 }
 
@@ -99,18 +96,15 @@ fn small_memory() -> Geometry
 fn no_frame_past_the_end_is_free(rt: HostRuntime) -> Result<(), Fail> {
     let m = PlainMoves::new(rt.alloc(), &small_memory())?;
     let image = m.image(rt.alloc())?;
-    for (word, bits) in [
-        (0, 0),
-        (3, 0),
-        (4, u64::MAX << 44),
-        (5, u64::MAX),
-        (7, u64::MAX),
-    ] {
-        assert!(rt; word < 8);
-        assert_eq!(rt; image.word(0, word), bits);
-    }
-    assert_eq!(rt; (image.free(0), image.huge(0)), (300, false));
-    assert_eq!(rt; image.tree_free(0), 300);
+    let full = u64::MAX;
+    assert_child(
+        &rt,
+        &image,
+        0,
+        (300, false),
+        [0, 0, 0, 0, full << 44, full, full, full],
+    );
+    assert_tree(&rt, &image, 0, 300);
     Ok(())
 }
 

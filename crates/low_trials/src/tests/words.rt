@@ -36,6 +36,11 @@ fn each_fault_has_its_text(rt: HostRuntime) -> Result<(), Fail> {
     for (fault, text) in texts {
         assert_eq!(rt; fault.to_string(rt.alloc())?.as_str(), text);
     }
+    Ok(())
+}
+
+#[test]
+fn a_refused_take_has_the_text_of_its_fault(rt: HostRuntime) -> Result<(), Fail> {
     let texts = [
         (TakeFault::BadOrder, "bad order"),
         (TakeFault::NoBlock, "no block"),
@@ -45,9 +50,13 @@ fn each_fault_has_its_text(rt: HostRuntime) -> Result<(), Fail> {
         assert_eq!(rt; fault.to_string(rt.alloc())?.as_str(), text);
         assert_eq!(rt; Fault::from(fault).to_string(rt.alloc())?.as_str(), text);
     }
+    Ok(())
+}
+
+#[test]
+fn refused_memory_is_a_fault(rt: HostRuntime) {
     assert_eq!(rt; fault_from(AllocError), Fault::NoMemory);
     assert_eq!(rt; fault_from(AllocFailed { value: 7u8 }), Fault::NoMemory);
-    Ok(())
 }
 
 #[test]
@@ -88,6 +97,11 @@ fn the_last_tree_may_have_fewer_children(rt: HostRuntime) -> Result<(), Fail> {
     assert_eq!(rt; geometry.trees(), 2);
     assert_eq!(rt; geometry.tree_size(0), 4096);
     assert_eq!(rt; geometry.tree_size(1), 512);
+    Ok(())
+}
+
+#[test]
+fn a_frame_has_its_child_and_its_tree(rt: HostRuntime) {
     for (frame, child, tree) in [
         (0, 0, 0),
         (511, 0, 0),
@@ -98,19 +112,26 @@ fn the_last_tree_may_have_fewer_children(rt: HostRuntime) -> Result<(), Fail> {
         assert_eq!(rt; child_of(frame), child);
         assert_eq!(rt; tree_of(frame), tree);
     }
-    Ok(())
 }
 
 #[test]
-fn words_have_their_layouts(rt: HostRuntime) {
+fn an_entry_has_its_layout(rt: HostRuntime) {
     assert_eq!(rt; entry(512, false), 512);
     assert_eq!(rt; entry(0, true), 32768);
     assert_eq!(rt; entry_free(511), 511);
     assert_eq!(rt; entry_huge(512), false);
     assert_eq!(rt; entry_huge(32768), true);
+}
+
+#[test]
+fn a_tree_word_has_its_layout(rt: HostRuntime) {
     assert_eq!(rt; tree(1, true), 32769);
     assert_eq!(rt; tree_free(32769), 1);
     assert_eq!(rt; tree_reserved(32769), true);
+}
+
+#[test]
+fn a_local_word_has_its_layout(rt: HostRuntime) {
     assert_eq!(rt; local(None), 0);
     assert_eq!(rt; local(Some((1, 3584))), 9223372041149746688);
     assert_eq!(rt; local_of(0), None);
@@ -154,10 +175,16 @@ fn the_lowest_clear_run_is_found(rt: HostRuntime) {
 
 #[test]
 fn the_lowest_clear_group_is_found(rt: HostRuntime) {
-    assert_eq!(rt; find_words(&[0; 8], 7), Some(0));
-    assert_eq!(rt; find_words(&[1, 0, 0, 0, 0, 0, 0, 0], 7), Some(2));
-    assert_eq!(rt; find_words(&[1, 0, 0, 0, 0, 0, 0, 0], 8), Some(4));
-    assert_eq!(rt; find_words(&[0, 1, 2, 0, 0, 3, 0, 0], 7), Some(6));
-    assert_eq!(rt; find_words(&[0, 0, 1, 0, 0, 0, 0, 1], 8), None);
-    assert_eq!(rt; find_words(&[1, 0, 1, 0, 1, 0, 0, 1], 7), None);
+    let rows = [
+        ([0; 8], 7, Some(0)),
+        ([1, 0, 0, 0, 0, 0, 0, 0], 7, Some(2)),
+        ([1, 0, 0, 0, 0, 0, 0, 0], 8, Some(4)),
+        ([0, 1, 2, 0, 0, 3, 0, 0], 7, Some(6)),
+        ([0, 0, 1, 0, 0, 0, 0, 1], 8, None),
+        ([1, 0, 1, 0, 1, 0, 0, 1], 7, None),
+    ];
+    for (words, order, group) in rows {
+        assert!(rt; order == 7 || order == 8);
+        assert_eq!(rt; find_words(&words, order), group);
+    }
 }

@@ -11,7 +11,7 @@ use Rattle.trace_text.proofs.parser.parse_trace.Goals as goal
 pub loop-ranges-init : goal.loop-ranges-init
 unfolding trace_of core_count ranges_in
 loop-ranges-init c =
-    rw (c.new-lines.ensures.items, c.new-ranges.ensures.items, c.new-records.ensures.rows, c.cores-cores.ensures.value)
+    rw (c.in_ok-lines.ensures.items, c.new-ranges.ensures.items, c.new-records.ensures.rows, c.cores-cores.ensures.value)
     (refl, omega arith, omega arith, refl)
 
 pub returns-then-not-found-clause-found : goal.returns-then-not-found-clause-found

@@ -10,15 +10,15 @@ use Rattle.trace_text.proofs.parts.read_parts.Goals as goal
 
 pub of-trace-requires-clause-cores : goal.of-trace-requires-clause-cores
 unfolding core_count
-of-trace-requires-clause-cores g c = rw c.new.ensures.items (omega arith)
+of-trace-requires-clause-cores g c = rw c.in_ok-lines.ensures.items (omega arith)
 
 pub of-trace-requires-clause-ranges : goal.of-trace-requires-clause-ranges
 unfolding ranges_in
-of-trace-requires-clause-ranges g c = rw (c.new.ensures.items, c.new-2.ensures.items) refl
+of-trace-requires-clause-ranges g c = rw (c.in_ok-lines.ensures.items, c.new.ensures.items) refl
 
 pub loop-rest-init : goal.loop-rest-init
 loop-rest-init g c =
-    rw (c.requires.none, c.of-trace.ensures, c.new.ensures.items)
+    rw (c.requires.none, c.of-trace.ensures, c.in_ok-lines.ensures.items)
     (read_none c.args.geometry.now.cores c.args.text.now c.requires.unmarked)
 
 pub loop-rest-smaller-in-Some : goal.loop-rest-smaller-in-Some
