@@ -62,6 +62,12 @@ writes() {
     expects "$name" 0 "$output" ''
 }
 
+# shows_end N: of the last output only so many lines count
+shows_end() {
+    tail -n "$1" "$work/output" >"$work/end"
+    mv "$work/end" "$work/output"
+}
+
 # zeros N: so many of them
 zeros() {
     printf '%0*d' "$1" 0
@@ -95,31 +101,140 @@ images() {
 child,0,511,0,0000000000000001$(zeros 112)
 tree,0,0,1,
 core,0,0,511,"
-    local counts='1,511,511,255,127,63,31,15,7,3,1,0'
+    local counts='0,1,511,511,255,127,63,31,15,7,3,1,0'
     writes 'an image' '0,take,a,0\n' "$one" image 1 1
-    writes 'a report' "$one\n" "tree,0,$counts
-all,,$counts" report
-    writes 'a rebuilt image' "llfree,1,1,1,
+    writes 'a report' "$one\n" "tree,$counts
+all,,${counts#0,}" report
+    local hurt="llfree,1,1,1,
 child,0,0,0,0000000000000007$(zeros 112)
 tree,0,0,0,
+core,0,,,"
+    local whole="${hurt/child,0,0/child,0,509}"
+    whole="${whole/tree,0,0/tree,0,509}"
+    counts='0,3,509,509,254,127,63,31,15,7,3,1,0'
+    local image
+    for image in "$hurt" "$whole"; do
+        writes 'a rebuilt image' "$image\n" "$whole" rebuild
+        writes 'the report of an image' "$image\n" "tree,$counts
+all,,${counts#0,}" report
+    done
+    local places='0,take,a,0\n0,take,b,1\n0,give,a,\n0,take,c,0\n'
+    runs image 1 1 < <(printf '%b' "$places")
+    mv "$work/output" "$work/image"
+    runs rebuild <"$work/image"
+    expects 'the rebuilt image of a run' 0 "${whole/0007/000d}" ''
+    runs report <"$work/image"
+    expects 'the report of a run' 0 "tree,$counts
+all,,${counts#0,}" ''
+    runs image 8 2 < <(printf '0,take,a,0\n,round,,\n0,move,a,1\n1,give,a,\n')
+    mv "$work/output" "$work/image"
+    runs rebuild <"$work/image"
+    shows_end 3
+    expects 'an image with a reservation, rebuilt without' 0 'tree,0,4096,0,
 core,0,,,
-" "llfree,1,1,1,
-child,0,509,0,0000000000000007$(zeros 112)
-tree,0,509,0,
-core,0,,," rebuild
+core,1,,,' ''
     writes 'a cut memory' '0,take,a,8\n0,take,b,8\n0,take,c,9\n0,take,d,5\n' '1,0,Taken,0,8
 2,0,NoBlock,,
 3,0,NoBlock,,
 4,0,Taken,256,5
 end,,Closed,500,12' run 1 1 300
-    writes 'an image of a cut memory' '' "llfree,2,1,1,300
+    writes 'a memory of whole children' '0,take,a,0' '1,0,Taken,0,0
+end,,Closed,1,1023' run 2 1 1024
+    local cut="llfree,2,1,1,300
 child,0,300,0,$(zeros 64)fffff00000000000ffffffffffffffffffffffffffffffffffffffffffffffff
 tree,0,300,0,
-core,0,,," image 1 1 300
-    refuses 'no image' 1 'llfree: bad image at record 1' '' rebuild
-    refuses 'a cut image' 1 'llfree: bad image at record 2' 'llfree,1,1,1,\n' report
-    refuses 'frames of too few children' 1 'llfree: bad range' '' run 2 1 512
-    refuses 'frames of too many children' 1 'llfree: bad range' '' image 2 1 1025
+core,0,,,"
+    writes 'an image of a cut memory' '' "$cut" image 1 1 300
+    counts='0,212,300,300,150,75,37,18,9,4,2,1,0'
+    writes 'the report of a cut memory' "$cut\n" "tree,$counts
+all,,${counts#0,}" report
+    local split="llfree,1,1,1,
+child,0,0,1,0000000000000001$(zeros 112)
+tree,0,0,0,
+core,0,,,"
+    writes 'a huge frame that was being split, rebuilt' "$split\n" "${split/0001/0000}" rebuild
+    counts='0,512,0,0,0,0,0,0,0,0,0,0,0'
+    writes 'the report of one' "$split\n" "tree,$counts
+all,,${counts#0,}" report
+}
+
+# rows FILE: the rows of a table, without its comments
+rows() {
+    grep -v '^#' "tools/refused/$1.txt"
+}
+
+# refused: all that is refused with nothing written, before a take is made
+refused() {
+    local said frames text line words command
+    while read -r said line; do
+        eval "words=($line)"
+        case $said in
+            geometry) refuses "$said: ${words[*]}" 1 'llfree: bad geometry' '0,take,a,x' "${words[@]}" ;;
+            range) refuses "$said: ${words[*]}" 1 'llfree: bad range' '0,take,a,x' "${words[@]}" ;;
+            *) refuses "$said: ${words[*]}" 2 "$usage" '0,take,a,0\n' "${words[@]}" ;;
+        esac
+    done < <(rows commands)
+    while read -r said text; do
+        refuses "$text" 1 "llfree: bad trace at record $said" "$text" run 1 1
+    done < <(rows traces)
+    while read -r frames text; do
+        refuses "$text" 1 'llfree: bad range' "$text" run 1 1 "$frames"
+    done < <(rows ranges)
+    while read -r said text; do
+        for command in rebuild report; do
+            refuses "$command: $text" 1 "llfree: bad image at record $said" \
+                "${text//'{}'/$(zeros 112)}" "$command"
+        done
+    done < <(rows images)
+    refuses 'a word that is no text' 2 "$usage" '0,take,a,0\n' run 1 1 $'\xff'
+    refuses 'a number that is no text' 2 "$usage" '0,take,a,0\n' run 1 $'\xff'
+}
+
+# lines COUNT LINE: so many of this line
+lines() {
+    yes "$2" | head -n "$1"
+}
+
+# ranges COUNT: so many ranges of a frame, every second one
+ranges() {
+    seq -f ',reserve,%.0f,1' 0 2 $((2 * $1 - 1))
+}
+
+# is_limit NAME CORES STATUS TEXT COMMAND..: what is read is what the command writes. Where the status
+# is 0, the text is how the output ends, and else what is refused
+is_limit() {
+    local name=$1 cores=$2 wanted=$3 text=$4
+    shift 4
+    "$@" >"$work/input"
+    runs run 5 "$cores" <"$work/input"
+    if [ "$wanted" = 0 ]; then
+        shows_end 2
+        expects "$name" 0 "$text" ''
+    else
+        expects "$name" "$wanted" '' "$text"
+    fi
+}
+
+# ends COUNT: a take, and line feeds up to so many bytes
+ends() {
+    printf '0,take,a,0\n'
+    head -c $(($1 - 11)) /dev/zero | tr '\0' '\n'
+}
+
+limits() {
+    local past='llfree: bad trace at record 1000001' cores
+    for cores in 1 2; do
+        is_limit 'a million records' $cores 0 '1000000,0,NotHeld,,
+end,,Closed,0,2560' lines 1000000 '0,give,a,'
+        is_limit 'a record more' $cores 1 "$past" lines 1000001 '0,give,a,'
+        is_limit 'a million rounds' $cores 0 'end,,Closed,0,2560' lines 1000000 ',round,,'
+        is_limit 'a round more' $cores 1 "$past" lines 1000001 ',round,,'
+        is_limit '1024 ranges' $cores 0 'end,,Closed,1024,1536' ranges 1024
+        is_limit 'a range more' $cores 1 'llfree: bad range' ranges 1025
+        is_limit '16 MiB' $cores 0 '1,0,Taken,0,0
+end,,Closed,1,2559' ends 16777216
+        is_limit 'a byte more' $cores 3 'llfree: read failed' ends 16777217
+    done
 }
 
 all() {
@@ -129,18 +244,8 @@ all() {
     answers gives-by-frame 1
     answers huge-frames 16
 
-    refuses 'no child' 1 'llfree: bad geometry' '0,take,a,0\n' run 0 1
-    refuses 'too many children' 1 'llfree: bad geometry' '' run 4097 1
-    refuses 'no core' 1 'llfree: bad geometry' '' run 1 0
-    refuses 'too many cores' 1 'llfree: bad geometry' '' run 1 65
-    refuses 'no record' 1 'llfree: bad trace at record 1' 'x\n' run 1 1
-    refuses 'a bad second record' 1 'llfree: bad trace at record 2' '0,take,a,0\n0,take,a,x\n' run 1 1
-    refuses 'no word' 2 "$usage" '0,take,a,0\n'
-    refuses 'another command' 2 "$usage" '' walk 1 1
-    refuses 'no number' 2 "$usage" '' run one 1
-    refuses 'a word too many' 2 "$usage" '' run 1 1 1 1 1
-    refuses 'a word that is no text' 2 "$usage" '0,take,a,0\n' run 1 1 $'\xff'
-    refuses 'a number that is no text' 2 "$usage" '0,take,a,0\n' run 1 $'\xff'
+    refused
+    limits
 
     runs run 1 1 <.
     expects 'a reader that fails' 3 '' 'llfree: read failed'

@@ -22,30 +22,13 @@ const TAKES: &[u8] = b"0,take,a,0\n0,take,b,3\n0,take,c,0\n";
 
 const TAKES_ANSWERED: &[u8] = b"1,0,Taken,0,0\n2,0,Taken,8,3\n3,0,Taken,1,0\nend,,Closed,10,502\n";
 
-const USAGE: &str = "usage: llfree run CHILDREN CORES [FRAMES] \
-    | llfree image CHILDREN CORES [FRAMES] | llfree rebuild | llfree report\n";
-
-// The status, the output and the errors of the program.
-fn runs(
-    rt: &(impl Threads + Wait),
-    alloc: Global,
-    words: &[&str],
-    text: &[u8],
-) -> Result<(u8, Vec<u8>, Vec<u8>), AllocError> {
-    let mut list = Vec::new(alloc);
-    for word in words {
-        list.push(String::from_str(alloc, word)?)?;
-    }
-    runs_by(rt, alloc, list.as_slice(), text)
-}
-
-// The same, of words that are held.
-fn runs_by(
-    rt: &(impl Threads + Wait),
+// What the program writes under these words, where it is well.
+fn written(
+    rt: &(impl Abort + Threads + Wait),
     alloc: Global,
     words: &[String],
     text: &[u8],
-) -> Result<(u8, Vec<u8>, Vec<u8>), AllocError> {
+) -> Vec<u8> {
     let mut taken = Vec::new(alloc);
     let mut errors = Vec::new(alloc);
     let status = {
@@ -53,7 +36,22 @@ fn runs_by(
         let mut output = Watched::new(&mut taken);
         run_program(rt, alloc, words, &mut input, &mut output, &mut errors)
     };
-    Ok((status, taken, errors))
+    assert_eq!(rt; (status, errors.len()), (0, 0));
+    taken
+}
+
+// The words that ask the program for a run in a memory of so many children, cores and frames.
+fn words_of(alloc: Global, sizes: (u32, u32, u32), show: Show) -> Result<Vec<String>, AllocError> {
+    let command = match show {
+        Show::Answers => "run",
+        Show::Picture => "image",
+    };
+    let mut words = Vec::new(alloc);
+    words.push(String::from_str(alloc, command)?)?;
+    for size in [sizes.0, sizes.1, sizes.2] {
+        words.push(format!(in alloc; "{size}")?)?;
+    }
+    Ok(words)
 }
 
 // What a run on threads writes.
@@ -83,17 +81,8 @@ fn shown_alike(
     show: Show,
     text: &str,
 ) -> Result<Vec<u8>, Fault> {
-    let mut words = Vec::new(alloc);
-    words.push(match show {
-        Show::Answers => String::from_str(alloc, "run")?,
-        Show::Picture => String::from_str(alloc, "image")?,
-    })?;
-    for size in [sizes.0, sizes.1, sizes.2] {
-        words.push(format!(in alloc; "{size}")?)?;
-    }
-    let (status, output, errors) = runs_by(rt, alloc, words.as_slice(), text.as_bytes())?;
-    assert_eq!(rt; status, 0, "on {text}");
-    assert!(rt; errors.is_empty());
+    let words = words_of(alloc, sizes, show)?;
+    let output = written(rt, alloc, words.as_slice(), text.as_bytes());
     let geometry = Geometry::with_frames(sizes.0, sizes.1, sizes.2)?;
     let shown = shows(rt, alloc, geometry, show, &OpenGate, text.as_bytes())?;
     assert_eq!(rt; shown.as_slice(), output.as_slice(), "on {text}");
@@ -145,51 +134,6 @@ fn quotes_marks_and_zeros_are_read_as_csv_reads_them(rt: HostRuntime) -> Result<
 }
 
 #[test]
-fn the_longest_text_has_16777216_bytes(rt: HostRuntime) -> Result<(), Fail> {
-    let mut text = Vec::new(rt.alloc());
-    text.extend_from_slice(b"0,take,a,0\n")?;
-    text.resize(16_777_216, b'\n')?;
-    let (status, output, errors) = runs(&rt, rt.alloc(), &["run", "1", "1"], text.as_slice())?;
-    assert_eq!(rt; status, 0);
-    assert_eq!(rt;
-        output.as_slice(),
-        b"1,0,Taken,0,0\nend,,Closed,1,511\n".as_slice()
-    );
-    assert!(rt; errors.is_empty());
-    text.push(b'\n')?;
-    let (status, output, errors) = runs(&rt, rt.alloc(), &["run", "1", "1"], text.as_slice())?;
-    assert_eq!(rt; status, 3);
-    assert!(rt; output.is_empty());
-    assert_eq!(rt; errors.as_slice(), b"llfree: read failed\n".as_slice());
-    Ok(())
-}
-
-#[test]
-fn a_trace_has_1000000_records_at_most(rt: HostRuntime) -> Result<(), Fail> {
-    let mut text = Vec::new(rt.alloc());
-    for _record in 0..1_000_000u32 {
-        text.extend_from_slice(b"0,give,a,\n")?;
-    }
-    let (status, output, errors) = runs(&rt, rt.alloc(), &["run", "1", "1"], text.as_slice())?;
-    assert_eq!(rt; status, 0);
-    assert!(rt;
-        output
-            .as_slice()
-            .ends_with(b"\n1000000,0,NotHeld,,\nend,,Closed,0,512\n")
-    );
-    assert!(rt; errors.is_empty());
-    text.extend_from_slice(b"0,give,a,\n")?;
-    let (status, output, errors) = runs(&rt, rt.alloc(), &["run", "1", "1"], text.as_slice())?;
-    assert_eq!(rt; status, 1);
-    assert!(rt; output.is_empty());
-    assert_eq!(rt;
-        errors.as_slice(),
-        b"llfree: bad trace at record 1000001\n".as_slice()
-    );
-    Ok(())
-}
-
-#[test]
 fn each_reply_has_its_word(rt: HostRuntime) -> Result<(), Fail> {
     for (reply, fields) in [
         (Reply::Taken(2_097_151, 0), "Taken,2097151,0"),
@@ -206,68 +150,6 @@ fn each_reply_has_its_word(rt: HostRuntime) -> Result<(), Fail> {
         let want = format!(in rt.alloc(); "1000000,63,{fields}\nend,,Closed,10,502\n")?;
         assert_eq!(rt; text.as_slice(), want.as_bytes());
     }
-    Ok(())
-}
-
-#[test]
-fn refused_traces_print_nothing(rt: HostRuntime) -> Result<(), Fail> {
-    for (text, line) in [
-        ("0,take,\"a", 1),
-        ("0,take,a,x\n", 1),
-        ("0,take,a,256\n", 1),
-        ("0,take,a,18446744073709551616\n", 1),
-        ("0,take,a,99999999999999999999\n", 1),
-        ("0,take,a,000000000000000000000\n", 1),
-        ("0,giveat,4294967296,0\n", 1),
-        ("0,take,a,\n", 1),
-        ("0,take,a\n", 1),
-        ("0,take,a,0,\n", 1),
-        ("0,give,a,0\n", 1),
-        ("0,take,aaaaaaaaaaaaaaaaa,0\n", 1),
-        ("0,take,,0\n", 1),
-        ("0,take,a b,0\n", 1),
-        ("0,Take,a,0\n", 1),
-        ("0,ta\"ke,a,0\n", 1),
-        ("0,take,a,0\n\u{feff}0,take,a,0\n", 2),
-        ("0,take,a,0\n\n\n1,take,b,0\n", 2),
-    ] {
-        let (status, output, errors) = runs(&rt, rt.alloc(), &["run", "1", "1"], text.as_bytes())?;
-        let want = format!(in rt.alloc(); "llfree: bad trace at record {line}\n")?;
-        assert_eq!(rt; status, 1, "on {text}");
-        assert!(rt; output.is_empty());
-        assert_eq!(rt; errors.as_slice(), want.as_bytes(), "on {text}");
-    }
-    Ok(())
-}
-
-#[test]
-fn command_lines_have_their_statuses(rt: HostRuntime) -> Result<(), Fail> {
-    let bad = "llfree: bad geometry\n";
-    for (command, children, cores, status, want) in [
-        ("run", "0", "1", 1, bad),
-        ("run", "4097", "1", 1, bad),
-        ("run", "1", "0", 1, bad),
-        ("run", "1", "65", 1, bad),
-        ("run", "999999999", "999999999", 1, bad),
-        ("run", "x", "1", 2, USAGE),
-        ("run", "1", "", 2, USAGE),
-        ("run", "0000000001", "1", 2, USAGE),
-        ("Run", "1", "1", 2, USAGE),
-    ] {
-        let (answer, output, errors) = runs(
-            &rt,
-            rt.alloc(),
-            &[command, children, cores],
-            b"0,take,a,0",
-        )?;
-        assert_eq!(rt; answer, status);
-        assert!(rt; output.is_empty());
-        assert_eq!(rt; errors.as_slice(), want.as_bytes());
-    }
-    let (answer, output, errors) = runs(&rt, rt.alloc(), &["run"], b"")?;
-    assert_eq!(rt; answer, 2);
-    assert!(rt; output.is_empty());
-    assert_eq!(rt; errors.as_slice(), USAGE.as_bytes());
     Ok(())
 }
 

@@ -1,5 +1,6 @@
 use frame_image::{MOST_BYTES, Watched, read_all, write_out};
 use frame_words::Fault;
+use std::alloc::Global;
 use std::cell::Cell;
 use std::io::{Error, ErrorKind, Read, Result as IoResult, Write};
 use std::test::Fail;
@@ -79,6 +80,18 @@ impl Read for Zeros {
     }
 }
 
+// Whether reading fails, and the reader is known to have failed then.
+fn cannot_be_read<R: Read>(alloc: Global, input: &mut Watched<R>) -> bool {
+    matches!(read_all(alloc, input), Err(Fault::ReadFailed)) && input.failed()
+}
+
+// Whether a whole text can't be written, nor a byte then, and the writer is known to have failed.
+fn cannot_be_written<W: Write>(output: &mut Watched<W>) -> bool {
+    write_out(output, TAKES) == Err(Fault::WriteFailed)
+        && output.failed()
+        && output.write(b"x") == Err(Fault::WriteFailed)
+}
+
 #[test]
 fn a_failed_reader_is_not_asked_again(rt: HostRuntime) -> Result<(), Fail> {
     for kind in [
@@ -96,8 +109,7 @@ fn a_failed_reader_is_not_asked_again(rt: HostRuntime) -> Result<(), Fail> {
             };
             let mut input = Watched::new(reader);
             for _ in 0..2 {
-                assert!(rt; matches!(read_all(rt.alloc(), &mut input), Err(Fault::ReadFailed)));
-                assert!(rt; input.failed());
+                assert!(rt; cannot_be_read(rt.alloc(), &mut input));
                 assert_eq!(rt; calls.get(), fails_at + 1);
             }
             assert!(rt; matches!(input.read(&mut [0u8; 4]), Err(Fault::ReadFailed)));
@@ -143,13 +155,10 @@ fn a_failed_writer_is_not_asked_again(rt: HostRuntime) -> Result<(), Fail> {
                 };
                 let mut output = Watched::new(writer);
                 for _ in 0..2 {
-                    assert_eq!(rt; write_out(&mut output, TAKES), Err(Fault::WriteFailed));
-                    assert!(rt; output.failed());
-                    assert_eq!(rt; calls.get(), fails_at + 1);
+                    assert!(rt; cannot_be_written(&mut output));
                 }
-                assert_eq!(rt; output.write(b"x"), Err(Fault::WriteFailed));
-                assert_eq!(rt; calls.get(), fails_at + 1);
             }
+            assert_eq!(rt; calls.get(), fails_at + 1);
             let front = (3 * fails_at as usize).min(TAKES.len());
             assert_eq!(rt; taken.as_slice(), &TAKES[..front]);
         }

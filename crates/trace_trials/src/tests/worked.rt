@@ -214,20 +214,6 @@ fn a_tree_of_which_half_is_given_is_reserved(rt: HostRuntime) -> Result<(), Fail
 }
 
 #[test]
-fn an_image_with_a_reservation_is_rebuilt_without(rt: HostRuntime) -> Result<(), Fail> {
-    let image = shown_alike(&rt, rt.alloc(), TREE, Show::Picture, MOVED)?;
-    let (status, rebuilt, errors) = runs(&rt, rt.alloc(), &["rebuild"], image.as_slice())?;
-    assert_eq!(rt; status, 0);
-    assert!(rt;
-        rebuilt
-            .as_slice()
-            .ends_with(b"\ntree,0,4096,0,\ncore,0,,,\ncore,1,,,\n")
-    );
-    assert!(rt; errors.is_empty());
-    Ok(())
-}
-
-#[test]
 fn runs_on_threads_are_refused_as_those_on_one_core(rt: HostRuntime) -> Result<(), Fail> {
     for (text, want) in [
         (",reserve,0,0\n", Fault::BadRange),
