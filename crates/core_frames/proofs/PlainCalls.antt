@@ -21,13 +21,11 @@ use Rattle.frame_words.specs.declared.fault.TakeFault.TheVariants.{BadOrder, NoB
 use Rattle.frame_words.specs.declared.geometry.Geometry.{Geometry}
 use Rattle.frame_model.specs.declared.block.FrameBlock.{FrameBlock}
 use Rattle.frame_model.specs.declared.key.Key.{Key}
-use Rattle.frame_core.specs.declared.plain.party.Company.{Company}
 use Rattle.frame_model.specs.declared.view.View.{View}
 use Rattle.frame_core.specs.Key.{sealed_key, frame_count, child_of, is_boot_frame}
 use Rattle.frame_core.specs.Block.{block, IsBlock, covers}
 use Rattle.frame_core.specs.Holding.{holders, IsHolding}
 use Rattle.frame_core.specs.Mover.{Mover, Keeps, KeepsOthers}
-use Rattle.frame_core.specs.Plain.{plain_key, HasNoShare, Begins, AreOf, Agrees}
 use Rattle.frame_core.specs.QuietTake.{TakesBlock, FindsNone, QuietTake}
 use Rattle.frame_core.specs.Stops.{unsealed}
 use Rattle.frame_core.specs.View.{boot_blocks, fixed_ground, ground_with, spent, IsIdle}
@@ -36,8 +34,10 @@ use Rattle.frame_core.specs.Laws.{AddsUp}
 use Rattle.frame_model.proofs.Closing.{adds_up}
 use Rattle.frame_model.proofs.Keeps.{total_is}
 use Rattle.frame_model.proofs.Opening.{boot_smalls, boot_wholes}
-use Rattle.frame_core.proofs.PlainOuts.{set_here}
 use Rattle.frame_model.proofs.Safe.{holders_are, boot_are_blocks, none_outside}
+use Rattle.plain_moves.specs.declared.plain.party.Company.{Company}
+use Rattle.plain_moves.specs.Plain.{plain_key, HasNoShare, Begins, AreOf, Agrees}
+use Rattle.plain_moves.proofs.PlainOuts.{set_here}
 use Rattle.low_frames.specs.Alone.{HoldsMore, Turns}
 use Rattle.core_frames.specs.Searches.{GivesBy}
 use Rattle.low_frames.specs.Outcomes.{TakesOut}

@@ -4,12 +4,12 @@ use Rattle.std.specs.Prelude.{◌≡◌, ℕ, ◌<◌, ◌≤◌, List, [], ◌+
 use Rattle.std.specs.List.{Contains}
 use Rattle.frame_model.specs.declared.block.FrameBlock.{FrameBlock}
 use Rattle.frame_model.specs.declared.key.Key.{Key}
-use Rattle.frame_core.specs.declared.plain.party.Company.{Company}
 use Rattle.frame_core.specs.Key.{frame_count}
 use Rattle.frame_core.specs.Holding.{IsHolding}
 use Rattle.frame_core.specs.Mover.{Mover}
 use Rattle.frame_core.specs.Stops.{unsealed}
 use Rattle.frame_core.specs.View.{boot_blocks, IsIdle}
+use Rattle.plain_moves.specs.declared.plain.party.Company.{Company}
 use Rattle.core_frames.specs.declared.habit.Habit.{Habit}
 use Rattle.core_frames.specs.Alone.{HasNoneOf}
 use Rattle.core_frames.specs.PlainBytes.{out_of, kept_of}

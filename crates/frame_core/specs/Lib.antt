@@ -21,11 +21,3 @@ pub mod Moves
 pub mod Mover
 pub mod Acts
 pub mod Movers
-pub mod Apart
-pub mod Plain
-pub mod PlainLaws
-pub mod PlainState
-pub mod Allowed
-pub mod Script
-pub mod ScriptState
-pub mod ScriptLaws

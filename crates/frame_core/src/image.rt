@@ -55,8 +55,8 @@ impl Image {
         }
     }
 
-    // The image of these words, in place of the one that it was.
-    pub(crate) fn copy_from(&mut self, geometry: &Geometry, words: &[u64])
+    /// Becomes the image of these words, in the order of a table's, as many as before. No memory is asked for.
+    pub fn copy_from(&mut self, geometry: &Geometry, words: &[u64])
         requires image { IsImage (key_of geometry.now) words.now }
         requires length { length self.old.words ≡ length words.now }
         ensures { self.new ≡ record { geometry = geometry.now; words = words.now } }

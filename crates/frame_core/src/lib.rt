@@ -1,19 +1,13 @@
 //! The frames, the words and the views of a page frame allocator, as plain data.
 #![tactic(auto)]
 
-mod act;
 mod image;
 pub mod layout;
 mod moves;
-mod plain;
-mod script;
 mod step;
 pub mod turns;
 
-pub use act::Act;
 pub use frame_model::{Amount, Eye, FrameBlock, HeldBlock, Key, Place, PlainBlock, Sighting, View};
 pub use image::Image;
 pub use moves::Moves;
-pub use plain::PlainMoves;
-pub use script::{Cue, ScriptMoves, What};
 pub use step::Step;

@@ -3,9 +3,10 @@
 use crate::calls::{Calls, room, twice};
 use crate::samples::{RANGES, SMALL};
 use crate::texts::rebuilt_image;
-use frame_core::{Cue, Image, PlainMoves, ScriptMoves, What};
+use frame_core::Image;
 use frame_image::held_frames;
 use frame_words::Fault;
+use plain_moves::{Cue, PlainMoves, ScriptMoves, What};
 use std::alloc::Global;
 
 fn new_image(alloc: Global, calls: &mut Calls) -> Result<(), Fault> {

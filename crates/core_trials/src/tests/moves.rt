@@ -5,8 +5,9 @@ ghost use Rattle.frame_model.specs.declared.block.FrameBlock.{FrameBlock};
 ghost use Rattle.frame_core.specs.View.{IsIdle};
 
 use core_frames::{Habit, give_by, take_by};
-use frame_core::{HeldBlock, Moves, PlainBlock, PlainMoves};
+use frame_core::{HeldBlock, Moves, PlainBlock};
 use frame_words::{Fault, Geometry, TakeFault};
+use plain_moves::PlainMoves;
 use std::alloc::Global;
 use std::test::Fail;
 

@@ -6,10 +6,9 @@ ghost use Rattle.std.specs.List.{All};
 ghost use Rattle.frame_core.specs.View.{IsIdle};
 
 use core_frames::{Habit, give_by, take_by};
-use frame_core::{
-    Act, Cue, HeldBlock, Image, Moves, Place, PlainBlock, PlainMoves, ScriptMoves, What,
-};
+use frame_core::{HeldBlock, Image, Moves, Place, PlainBlock};
 use frame_words::Geometry;
+use plain_moves::{Act, Cue, PlainMoves, ScriptMoves, What};
 use std::alloc::Global;
 use std::test::Fail;
 

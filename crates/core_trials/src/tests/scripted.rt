@@ -2,13 +2,14 @@
 //! moves, and the words afterwards.
 
 ghost use Rattle.std.specs.Prelude.{◌≡◌, ◌<◌, IfOk};
-ghost use Rattle.frame_core.specs.PlainState.{IsByItself};
+ghost use Rattle.plain_moves.specs.PlainState.{IsByItself};
 ghost use Rattle.core_frames.specs.Searches.{MayBegin};
 ghost use Rattle.core_frames.specs.Splits.{MaySplit};
 
 use core_frames::{Habit, split_by, take_by};
-use frame_core::{Act, Cue, HeldBlock, Image, Moves, PlainBlock, PlainMoves, ScriptMoves, What};
+use frame_core::{HeldBlock, Image, Moves, PlainBlock};
 use frame_words::{Geometry, TakeFault};
+use plain_moves::{Act, Cue, PlainMoves, ScriptMoves, What};
 use std::alloc::Global;
 use std::test::Fail;
 

@@ -3,7 +3,7 @@
 
 ghost use Rattle.std.specs.Prelude.{IfOk, IfSome};
 ghost use Rattle.std.specs.List.{All};
-ghost use Rattle.frame_core.specs.PlainState.{IsByItself};
+ghost use Rattle.plain_moves.specs.PlainState.{IsByItself};
 ghost use Rattle.core_frames.specs.Cores.{IsCoreOf, IsOutOf};
 ghost use Rattle.core_frames.specs.Left.{IsSurvivorsOf};
 ghost use Rattle.core_frames.specs.Searches.{MayBegin};
@@ -11,10 +11,11 @@ ghost use Rattle.core_frames.specs.Searches.{MayBegin};
 use super::random::{bring_back, next_core};
 use super::sums::assert_adds_up;
 use core_frames::{Allocator, Core, Habit, Survivors, give_by, split_by, take_by};
-use frame_core::{Cue, Image, Moves, PlainBlock, PlainMoves, ScriptMoves, What};
+use frame_core::{Image, Moves, PlainBlock};
 use frame_image::{held_frames, rebuild, report};
 use frame_table::Block;
 use frame_words::{Fault, Geometry};
+use plain_moves::{Cue, PlainMoves, ScriptMoves, What};
 use std::alloc::Global;
 use std::process::Abort;
 use std::test::Fail;

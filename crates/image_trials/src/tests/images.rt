@@ -4,9 +4,10 @@ ghost use Rattle.std.specs.Prelude.{◌≤◌};
 
 use super::devices::{Failing, SlowReader, SlowWriter};
 use super::texts::{CUT, HURT, ONE_HELD, SPLIT, spelled};
-use frame_core::{Image, PlainMoves};
+use frame_core::Image;
 use frame_image::{Watched, image_of, image_text, read_image, rebuild, write_image};
 use frame_words::{Fault, Geometry};
+use plain_moves::PlainMoves;
 use std::alloc::Global;
 use std::cell::Cell;
 use std::io::ErrorKind;

@@ -5,8 +5,9 @@ ghost use Rattle.frame_model.specs.declared.block.FrameBlock.{FrameBlock};
 ghost use Rattle.frame_core.specs.View.{IsIdle};
 
 use super::calls::{give, open, take};
-use frame_core::{HeldBlock, Image, Moves, PlainBlock, PlainMoves};
+use frame_core::{HeldBlock, Image, Moves, PlainBlock};
 use frame_words::Fault;
+use plain_moves::PlainMoves;
 use std::alloc::Global;
 use std::process::Abort;
 use std::test::Fail;

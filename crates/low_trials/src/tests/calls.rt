@@ -6,9 +6,10 @@ ghost use Rattle.frame_core.specs.Key.{tree_count};
 ghost use Rattle.frame_core.specs.View.{IsIdle, paid_on};
 ghost use Rattle.low_frames.specs.Takes.{IsAsBefore, HasHandedOut};
 
-use frame_core::{HeldBlock, Moves, Place, PlainBlock, PlainMoves};
+use frame_core::{HeldBlock, Moves, Place, PlainBlock};
 use frame_words::{Fault, Geometry, frames_of, tree_free, tree_of};
 use low_frames::{give_low, take_huge, take_in_tree, take_small, take_wide};
+use plain_moves::PlainMoves;
 use std::alloc::Global;
 
 // All frames are free.

@@ -4,8 +4,9 @@ ghost use Rattle.frame_core.specs.View.{IsIdle};
 
 use super::answers::{assert_child, assert_tree};
 use super::calls::take;
-use frame_core::{HeldBlock, Moves, PlainMoves};
+use frame_core::{HeldBlock, Moves};
 use frame_words::{Fault, Geometry, HUGE_ORDER, frames_of};
+use plain_moves::PlainMoves;
 use std::alloc::Global;
 use std::test::Fail;
 

@@ -5,11 +5,12 @@ ghost use Rattle.frame_model.specs.Block.{block};
 ghost use Rattle.frame_model.specs.View.{names};
 ghost use Rattle.frame_model.specs.Rebuilt.{IsRebuilt};
 ghost use Rattle.frame_model.specs.WorkedRuns.{one_child, words_of_one};
-ghost use Rattle.frame_core.specs.Plain.{plain_key};
+ghost use Rattle.plain_moves.specs.Plain.{plain_key};
 
 use super::answers::{assert_child, assert_tree};
-use frame_core::{Image, Moves, Place, PlainMoves};
+use frame_core::{Image, Moves, Place};
 use frame_words::{Fault, Geometry};
+use plain_moves::PlainMoves;
 use std::alloc::Global;
 use std::test::Fail;
 

@@ -1,7 +1,8 @@
 //! Scripts: what strangers do between two moves, and what the caller sees of it.
 
-use frame_core::{Act, Cue, Moves, Place, PlainMoves, ScriptMoves, What};
+use frame_core::{Moves, Place};
 use frame_words::Geometry;
+use plain_moves::{Act, Cue, PlainMoves, ScriptMoves, What};
 use std::test::Fail;
 
 // Strangers 0 and 1: the second has paid nothing, so its act is counted; so is a loss of a load.

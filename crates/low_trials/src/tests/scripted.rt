@@ -3,13 +3,14 @@
 
 ghost use Rattle.std.specs.Prelude.{◌≡◌, ◌<◌, ◌≤◌, ◌^◌, [], None, true, IfOk};
 ghost use Rattle.frame_core.specs.Key.{tree_count};
-ghost use Rattle.frame_core.specs.PlainState.{IsByItself};
 ghost use Rattle.frame_core.specs.View.{IsIdle, paid_on};
+ghost use Rattle.plain_moves.specs.PlainState.{IsByItself};
 ghost use Rattle.low_frames.specs.Outcomes.{MayTakeOf};
 
-use frame_core::{Act, Cue, HeldBlock, Image, Moves, Place, PlainMoves, ScriptMoves, What};
+use frame_core::{HeldBlock, Image, Moves, Place};
 use frame_words::{Geometry, frames_of, tree_free};
 use low_frames::take_in_tree;
+use plain_moves::{Act, Cue, PlainMoves, ScriptMoves, What};
 use std::alloc::Global;
 use std::test::Fail;
 

@@ -1,8 +1,8 @@
 use Rattle.std.proofs.Common.{false, sym, subst}
 use Rattle.frame_words.specs.declared.geometry.Geometry.{Geometry}
 use Rattle.frame_core.specs.Key.{sealed_key}
-use Rattle.frame_core.specs.Plain.{plain_key}
 use Rattle.frame_core.specs.Rebuilt.{IsRebuilt}
+use Rattle.plain_moves.specs.Plain.{plain_key}
 use Rattle.core_frames.proofs.PlainKeys.{rebuilt_under}
 use Rattle.core_frames.proofs.plain.moves_with.Goals as goal
 

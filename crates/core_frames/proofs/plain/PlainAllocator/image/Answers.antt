@@ -3,7 +3,7 @@ use Rattle.frame_model.specs.declared.key.Key.{Key}
 use Rattle.frame_core.specs.Image.{Contents}
 use Rattle.frame_core.specs.Key.{sealed_key}
 use Rattle.frame_core.specs.Laws.{AddsUp}
-use Rattle.frame_core.specs.Plain.{plain_key}
+use Rattle.plain_moves.specs.Plain.{plain_key}
 use Rattle.core_frames.specs.PlainState.{PlainState, memory_by, held_by, HoldsExactly}
 use Rattle.core_frames.proofs.PlainCalls.{state_of, counters}
 use Rattle.core_frames.proofs.PlainKeys.{adds_over}

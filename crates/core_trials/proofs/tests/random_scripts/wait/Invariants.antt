@@ -1,5 +1,5 @@
 use Rattle.frame_core.specs.View.{IsIdle}
-use Rattle.frame_core.specs.PlainState.{view_by}
+use Rattle.plain_moves.specs.PlainState.{view_by}
 use Rattle.core_trials.proofs.tests.random_scripts.wait.Given as goal
 
 abbrev pub invariant-loop-i : goal.invariant-loop-i

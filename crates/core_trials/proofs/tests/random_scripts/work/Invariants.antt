@@ -1,8 +1,8 @@
 use Rattle.std.specs.Prelude.{◌≡◌}
 use Rattle.std.specs.List.{All}
 use Rattle.frame_core.specs.View.{IsIdle}
-use Rattle.frame_core.specs.Plain.{IsOutIn}
-use Rattle.frame_core.specs.PlainState.{key_by, view_by}
+use Rattle.plain_moves.specs.Plain.{IsOutIn}
+use Rattle.plain_moves.specs.PlainState.{key_by, view_by}
 use Rattle.core_trials.proofs.tests.random_scripts.work.Given as goal
 
 abbrev pub invariant-loop-i : goal.invariant-loop-i

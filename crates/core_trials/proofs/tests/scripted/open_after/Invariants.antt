@@ -1,6 +1,6 @@
 use Rattle.std.specs.Prelude.{◌≡◌, ◌<◌}
 use Rattle.frame_core.specs.View.{IsIdle}
-use Rattle.frame_core.specs.PlainState.{key_by, view_by, IsByItself}
+use Rattle.plain_moves.specs.PlainState.{key_by, view_by, IsByItself}
 use Rattle.core_trials.proofs.tests.scripted.open_after.Given as goal
 
 abbrev pub invariant-loop-frame : goal.invariant-loop-frame

@@ -1,7 +1,7 @@
 use Rattle.std.specs.Prelude.{◌≡◌, ◌<◌, IfSome}
 use Rattle.frame_core.specs.View.{IsIdle}
-use Rattle.frame_core.specs.Plain.{IsOutIn}
-use Rattle.frame_core.specs.PlainState.{key_by, view_by, IsByItself}
+use Rattle.plain_moves.specs.Plain.{IsOutIn}
+use Rattle.plain_moves.specs.PlainState.{key_by, view_by, IsByItself}
 use Rattle.frame_trials.proofs.tests.stops.open_after.Given as goal
 
 abbrev pub invariant-loop-order : goal.invariant-loop-order

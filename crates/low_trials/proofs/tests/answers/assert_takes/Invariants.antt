@@ -1,7 +1,7 @@
 use Rattle.frame_model.specs.declared.block.FrameBlock.{FrameBlock}
 use Rattle.frame_model.specs.View.{IsIdle}
-use Rattle.frame_core.specs.Plain.{IsOutIn}
-use Rattle.frame_core.specs.PlainState.{view_by}
+use Rattle.plain_moves.specs.Plain.{IsOutIn}
+use Rattle.plain_moves.specs.PlainState.{view_by}
 use Rattle.low_trials.proofs.tests.answers.assert_takes.Given as goal
 
 abbrev pub invariant-loop-order : goal.invariant-loop-order

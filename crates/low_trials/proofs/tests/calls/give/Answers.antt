@@ -5,9 +5,9 @@ use Rattle.frame_model.specs.declared.view.View.{View}
 use Rattle.frame_core.specs.Key.{tree_of, tree_count}
 use Rattle.frame_core.specs.View.{count_in}
 use Rattle.frame_core.specs.Steps.Amounts.{more, less}
-use Rattle.frame_core.specs.Plain.{plain_key}
-use Rattle.frame_core.specs.PlainLaws.{plain_outs}
 use Rattle.frame_model.proofs.Amounts.{count_none}
+use Rattle.plain_moves.specs.Plain.{plain_key}
+use Rattle.plain_moves.specs.PlainLaws.{plain_outs}
 use Rattle.low_frames.proofs.ViewLemmas.{charged_here, charged_back}
 use Rattle.low_trials.proofs.tests.calls.give.Goals as goal
 

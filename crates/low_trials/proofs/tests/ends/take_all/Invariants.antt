@@ -1,5 +1,5 @@
 use Rattle.frame_model.specs.View.{IsIdle}
-use Rattle.frame_core.specs.PlainState.{view_by}
+use Rattle.plain_moves.specs.PlainState.{view_by}
 use Rattle.low_trials.proofs.tests.ends.take_all.Given as goal
 
 abbrev pub invariant-loop-i : goal.invariant-loop-i

@@ -5,7 +5,7 @@ use Rattle.frame_model.specs.declared.block.FrameBlock.{FrameBlock}
 use Rattle.frame_model.specs.Block.{block}
 use Rattle.frame_model.specs.View.{count_in}
 use Rattle.frame_model.specs.Steps.{after_load}
-use Rattle.frame_core.specs.Plain.{plain_tick}
+use Rattle.plain_moves.specs.Plain.{plain_tick}
 use Rattle.low_trials.proofs.ByHand.{made, whole, may_pay, may_take_huge, may_drop}
 use Rattle.low_trials.proofs.tests.plain.a_huge_frame_becomes_set_bits.Goals as goal
 

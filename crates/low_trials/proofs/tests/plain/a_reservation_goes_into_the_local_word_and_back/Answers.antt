@@ -1,7 +1,7 @@
 use Rattle.std.proofs.Common.{rules, Some, None, refl, ◌∙◌, arith}
 use Rattle.frame_model.specs.View.{counted}
 use Rattle.frame_model.specs.Steps.Amounts.{more}
-use Rattle.frame_core.specs.Plain.{plain_tick}
+use Rattle.plain_moves.specs.Plain.{plain_tick}
 use Rattle.low_trials.proofs.ByHand.{made, pays_none, rest_seen, none_again, more_none, loaded, reserved}
 use Rattle.low_trials.proofs.ByHand.{swapped_in, swapped_out, local_paid, local_refunded, becomes}
 use Rattle.low_trials.proofs.ByHand.{may_reserve, may_swap_in, may_swap_out, may_local_pay, may_local_refund, may_end}

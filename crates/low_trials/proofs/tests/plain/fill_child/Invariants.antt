@@ -1,7 +1,7 @@
 use Rattle.std.proofs.Common.{◌≡◌, ℕ, ◌<◌, [], ◌∷◌}
 use Rattle.frame_model.specs.Block.{block}
 use Rattle.frame_model.specs.View.{names}
-use Rattle.frame_core.specs.Plain.{plain_key}
+use Rattle.plain_moves.specs.Plain.{plain_key}
 use Rattle.low_trials.proofs.tests.plain.fill_child.Given as goal
 
 -- the words before this one are filled

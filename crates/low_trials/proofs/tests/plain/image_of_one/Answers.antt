@@ -8,10 +8,10 @@ use Rattle.frame_core.specs.Image.{Contents, IsImage, FitsTree}
 use Rattle.frame_model.specs.Rebuilt.{IsRebuilt}
 use Rattle.frame_model.specs.WorkedRuns.{one_child, words_of_one}
 use Rattle.frame_model.specs.Stops.{unsealed}
-use Rattle.frame_core.specs.Plain.{plain_key}
 use Rattle.frame_model.proofs.Steps.Shared.{free_is}
 use Rattle.frame_model.proofs.HeldBack.{rebuilt_unsealed}
 use Rattle.frame_model.proofs.WorkedRuns.Rebuilding.{only_first}
+use Rattle.plain_moves.specs.Plain.{plain_key}
 use Rattle.low_trials.proofs.tests.plain.image_of_one.Goals as goal
 
 key_is : (g : Geometry) → g.children ≡ 1 → g.cores ≡ 1 → g.frames ≡ 512 → key_of g ≡ one_child

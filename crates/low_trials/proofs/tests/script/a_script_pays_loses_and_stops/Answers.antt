@@ -1,7 +1,7 @@
 use Rattle.std.proofs.Common.{rules, ap, ◌∙◌, arith}
 use Rattle.frame_model.specs.declared.view.View.{View}
 use Rattle.frame_model.specs.Steps.{after_load, after_loss}
-use Rattle.frame_core.specs.Plain.{plain_tick}
+use Rattle.plain_moves.specs.Plain.{plain_tick}
 use Rattle.low_trials.proofs.ByHand.{lost, may_pay_of}
 use Rattle.low_trials.proofs.tests.script.a_script_pays_loses_and_stops.Goals as goal
 

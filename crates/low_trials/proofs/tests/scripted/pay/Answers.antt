@@ -1,4 +1,4 @@
-use Rattle.std.proofs.Common.{rules, ap, sym, ◌∙◌, arith}
+use Rattle.std.proofs.Common.{rules, ap, ◌∙◌, arith}
 use Rattle.frame_model.specs.declared.view.View.{View}
 use Rattle.frame_core.specs.View.{count_in}
 use Rattle.frame_core.specs.Steps.Amounts.{more}

@@ -1,8 +1,0 @@
-use Rattle.std.proofs.Common.{◌≡◌, ◌≤◌, ℕ, ◌<◌}
-use Rattle.frame_model.specs.Block.{smalls}
-use Rattle.frame_core.proofs.plain.PlainMoves.has_frames.Given as goal
-
-abbrev pub invariant-loop-x : goal.invariant-loop-x
-invariant-loop-x l = record {
-  each : (y : ℕ) → l.frame ≤ y → y < l.x → smalls y l.self.own.items ≡ 1;
-}

@@ -1,4 +1,0 @@
-use Rattle.frame_core.proofs.plain.blocks.+push_remains.Given as goal
-
-abbrev pub decreases-push_remains : goal.decreases-push_remains
-decreases-push_remains l = l.order

@@ -1,9 +1,0 @@
-use Rattle.std.proofs.Common.{◌≡◌, ◌≤◌, take}
-use Rattle.frame_model.specs.Block.{wholes}
-use Rattle.frame_core.proofs.plain.contents.count_wholes.Given as goal
-
-abbrev pub invariant-loop-i : goal.invariant-loop-i
-invariant-loop-i l = record {
-  count : l.count ≡ wholes l.child (take l.i l.blocks.items);
-  few : l.count ≤ l.i;
-}

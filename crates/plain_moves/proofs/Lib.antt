@@ -1,0 +1,13 @@
+pub mod PlainBlocks
+pub mod PlainSteps
+pub mod PlainOwn
+pub mod PlainOuts
+pub mod PlainPlaces
+pub mod PlainFilled
+pub mod PlainOpening
+pub mod PlainImage
+pub mod PlainOthers
+pub mod PlainCompany
+pub mod Checks
+pub mod Cues
+pub mod Scripts

@@ -1,0 +1,10 @@
+//! Moves over plain words: of one caller, whom nobody disturbs, and of one whom a script disturbs.
+#![tactic(auto)]
+
+mod act;
+mod plain;
+mod script;
+
+pub use act::Act;
+pub use plain::PlainMoves;
+pub use script::{Cue, ScriptMoves, What};

@@ -1,0 +1,49 @@
+//! Who steps next: the own view and that of a party change places.
+
+ghost use Rattle.std.specs.Prelude.{◌≡◌, ◌*◌, ◌<◌, [], Some, vec_len, slice_get, replicate};
+ghost use Rattle.std.specs.List.{All};
+ghost use Rattle.plain_moves.specs.Plain.{HasRoomToFill, IsFresh};
+ghost use Rattle.plain_moves.specs.declared.plain.party.Party.{Party};
+ghost use Rattle.plain_moves.specs.PlainState.{Admits, IsParked};
+
+use super::PlainMoves;
+use super::party::Company;
+use std::mem;
+
+impl PlainMoves {
+    // A new company waits beside the own view.
+    pub(crate) fn admit(&mut self, them: Company)
+        requires alone { self.old.them.parties.items ≡ [] }
+        requires fresh { All IsFresh them.parties.items }
+        requires room { All (HasRoomToFill self.old.geometry.children) them.parties.items }
+        requires outs { them.outs.items ≡ replicate (512 * self.old.geometry.children) 0 }
+        ensures { Admits them self.old self.new }
+    {
+        self.them = them;
+    }
+
+    // What this party has in flight is the own view now, and what the own view was is the party's.
+    pub(crate) fn turn(&mut self, who: usize)
+        requires { who < vec_len self.old.them.parties }
+        ensures key { (self.new.geometry ≡ self.old.geometry)
+            × (self.new.sealed ≡ self.old.sealed) }
+        ensures words { self.new.words ≡ self.old.words }
+        ensures outs { (self.new.outs ≡ self.old.them.outs) × (self.new.them.outs ≡ self.old.outs) }
+        ensures parties { vec_len self.new.them.parties ≡ vec_len self.old.them.parties }
+        ensures came { (p : Party) × (slice_get self.old.them.parties.items who ≡ Some p)
+            × IsParked p self.new }
+        ensures went { (p : Party) × (slice_get self.new.them.parties.items who ≡ Some p)
+            × IsParked p self.old }
+    {
+        let party = &mut self.them.parties[who];
+        mem::swap(&mut self.share, &mut party.share);
+        mem::swap(&mut self.own, &mut party.own);
+        mem::swap(&mut self.paid, &mut party.paid);
+        mem::swap(&mut self.charged, &mut party.charged);
+        mem::swap(&mut self.reserving, &mut party.reserving);
+        mem::swap(&mut self.filled, &mut party.filled);
+        mem::swap(&mut self.moves, &mut party.moves);
+        mem::swap(&mut self.lost, &mut party.lost);
+        mem::swap(&mut self.outs, &mut self.them.outs);
+    }
+}

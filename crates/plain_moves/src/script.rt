@@ -1,0 +1,109 @@
+//! Moves over plain words, in which a script says what others do between them.
+
+mod cue;
+mod cues;
+mod moves;
+
+ghost use Rattle.std.specs.Prelude.{◌≡◌, ◌<◌, ◌-◌, ℕ, None, Some, MatchOption, length, vec_len, IfSome, IfOk, IfErr};
+ghost use Rattle.plain_moves.specs.Plain.{plain_key};
+ghost use Rattle.plain_moves.specs.Script.{ShowsStop};
+
+use super::plain::PlainMoves;
+use super::plain::party::Company;
+pub use cue::{Cue, What};
+use frame_core::{Image, Moves};
+use std::alloc::Global;
+
+/// The moves of one caller over plain words. A script says at which of them an exchange is lost,
+/// where one of eight strangers makes a move of its own, and where the words are copied.
+#[derive(Drop)]
+pub struct ScriptMoves {
+    plain: PlainMoves,
+    cues: Vec<Cue>,
+    // What the caller last found each word to be.
+    read: Vec<u64>,
+    // How many moves the caller had made when the script began.
+    begun: u64,
+    missed: bool,
+    skipped: u32,
+    // The words just before the latest stop, once there was one.
+    stop: Image,
+    has_stopped: bool,
+    pub ghost reads: { vec_len read ≡ vec_len plain.words },
+    pub ghost stop_length: { length stop.words ≡ vec_len plain.words },
+    pub ghost strangers: { vec_len plain.them.parties ≡ 8 },
+    pub ghost shows: { ∥ ShowsStop (plain_key plain.geometry plain.sealed) begun (plain.moves - begun) 0
+        cues.items has_stopped stop.words ∥₁ },
+}
+
+impl ScriptMoves {
+    ghost use Rattle.plain_moves.specs.PlainState.{words_by, IsByItself};
+    ghost use Rattle.plain_moves.specs.ScriptState.{
+      plain_by,
+      skipped_by,
+      stop_by,
+      Follows,
+      IsStopOf,
+      IsUnstopped,
+    };
+
+    /// Eight strangers come beside the caller of these moves, each with one share and nothing in
+    /// flight. Moves are counted from here on. The moves come back where memory is refused.
+    pub fn new(alloc: Global, plain: PlainMoves, cues: Vec<Cue>) -> Result<ScriptMoves, PlainMoves>
+        requires alone { IsByItself plain }
+        ensures back { IfErr result (λ p. p ≡ plain) }
+        ensures follows { IfOk result (Follows plain cues.items) }
+    {
+        let Ok(them) = Company::fresh(alloc, plain.geometry()) else {
+            return Err(plain);
+        };
+        let Ok(read) = plain.all_words().to_vec(alloc) else {
+            return Err(plain);
+        };
+        let Ok(stop) = plain.image(alloc) else {
+            return Err(plain);
+        };
+        let mut plain = plain;
+        plain.admit(them);
+        let begun = plain.moves();
+        Ok(ScriptMoves {
+            plain,
+            cues,
+            read,
+            begun,
+            missed: false,
+            skipped: 0,
+            stop,
+            has_stopped: false,
+        })
+    }
+
+    /// How many cues were reached and not made: acts that their conditions did not allow, acts of
+    /// strangers past the eighth, and losses at a move that is no exchange.
+    pub fn skipped(&self) -> u32
+        ensures { result ≡ skipped_by self.now }
+    {
+        self.skipped
+    }
+
+    /// The words as they stood just before the move of the latest `Stop`, if one was reached. Of two
+    /// at one move the later in the script is the latest.
+    pub fn stopped(&self) -> Option<&Image>
+        ensures same { MatchOption result (stop_by self.now ≡ None)
+            (λ image. stop_by self.now ≡ Some image.now) }
+        ensures words { MatchOption result (IsUnstopped self.now)
+            (λ image. IsStopOf self.now image.now.words) }
+    {
+        if !self.has_stopped {
+            return None;
+        }
+        Some(&self.stop)
+    }
+
+    /// The words, and what the caller has in flight.
+    pub fn plain(&self) -> &PlainMoves
+        ensures { result.now ≡ plain_by self.now }
+    {
+        &self.plain
+    }
+}
