@@ -11,7 +11,7 @@ use Rattle.frame_model.specs.Block.{block, IsBlock}
 use Rattle.frame_model.specs.Words.{run, bit_word_of, huge_of, free_of}
 use Rattle.frame_model.specs.View.{names, charged_in, idle}
 use Rattle.frame_model.specs.Fit.{Fit}
-use Rattle.frame_model.specs.Steps.{Kind, place, turned, effect, next, Rest, claim, refund, take_huge, reserve, unreserve, drop_flag, words_after}
+use Rattle.frame_model.specs.Steps.{Kind, place, effect, next, Rest, claim, refund, take_huge, reserve, unreserve, drop_flag, words_after}
 use Rattle.frame_model.specs.Steps.Amounts.{Leaves, IsRun}
 use Rattle.frame_model.specs.Steps.Conditions.{CanClaim, CanRefund, CanTakeHuge, CanUnreserve, CanDropFlag}
 use Rattle.frame_model.specs.Seats.{hand_out, left_by, right_by, MayCut}
