@@ -25,5 +25,7 @@ pub mod WorkedReports
 pub mod WrongSteps
 pub mod WrongStates
 pub mod WorkedLaws
+pub mod WorkedStops
+pub mod CutEnd
 pub mod Stopping
 pub mod WorkedRuns

@@ -119,10 +119,10 @@ none_outside key x (b ∷ bs) all h =
 
 -- The views that are not the ground.
 
-left_out : (v : View) (vs : List View) → v.is_ground ≡ true → seats_of (v ∷ vs) ≡ seats_of vs
+pub left_out : (v : View) (vs : List View) → v.is_ground ≡ true → seats_of (v ∷ vs) ≡ seats_of vs
 left_out v vs e = rw e refl
 
-stays_in : (v : View) (vs : List View) → v.is_ground ≡ false → seats_of (v ∷ vs) ≡ v ∷ seats_of vs
+pub stays_in : (v : View) (vs : List View) → v.is_ground ≡ false → seats_of (v ∷ vs) ≡ v ∷ seats_of vs
 stays_in v vs e = rw e refl
 
 seats_smalls : (x : ℕ) (vs : List View)

@@ -1,14 +1,18 @@
 -- None of the wrong states is safe, adds up or survives.
-use Rattle.std.proofs.Common.{◌≡◌, ◌≢◌, ℕ, ◌*◌, true, refl, arith}
+use Rattle.std.proofs.Common.{◌≡◌, ◌≢◌, ℕ, zero, suc, ◌+◌, ◌*◌, ◌<◌, ◌≤◌, List, [], ◌∷◌, ◌++◌, length, get_or, true, refl, ap, ◌∙◌, arith}
 use Rattle.std.specs.Prelude.{if◌then◌else◌, Bool, false, map}
 use Rattle.std.proofs.lemmas.List.Elements.{All-map, All-contains}
+use Rattle.frame_model.specs.declared.view.View.{View}
 use Rattle.frame_model.specs.Key.{is_boot_frame}
-use Rattle.frame_model.specs.Laws.{form_of}
+use Rattle.frame_model.specs.Holding.{holders}
+use Rattle.frame_model.specs.Laws.{form_of, blocks_with, seats_of}
 use Rattle.frame_model.specs.WrongStates.{BlocksOverlap, BlockIsOutside, SeatIsPastTheEnd, EntryPromisesTooMuch, HugeFramePromises}
 use Rattle.frame_model.specs.WrongStates.{TreePromisesTooMuch, EntryIsOff, TreeIsOff, ReservationIsOff, RebuiltEntryDiffers}
-use Rattle.frame_model.specs.WrongStates.{RebuiltTreeDiffers, SetWithoutABlock, ClearInABlock, FlagIsOff, KnownOverlap, KnownIsFree}
+use Rattle.frame_model.specs.WrongStates.{RebuiltTreeDiffers, SetWithoutABlock, ClearInABlock, BootFrameIsClear, HeldIsClear, FlagIsOff, KnownOverlap, KnownIsFree}
 use Rattle.frame_model.specs.WrongStates.{NamedIsFree, LostWithoutAStop, LosesTooMuch, ExactEntryIsOff, ExactTreeIsOff, ReservedStill}
-use Rattle.frame_model.specs.WrongStates.{RestingStill, FormIsMissing}
+use Rattle.frame_model.specs.WrongStates.{RestingStill, FormIsMissing, MomentDoesNotFit, NamedIsKnown, NamedIsFlying}
+use Rattle.frame_model.proofs.Safe.{left_out, stays_in}
+use Rattle.frame_model.proofs.Stopping.Known.{holders_both}
 
 pub blocks_overlap : BlocksOverlap
 blocks_overlap key words views x two safe = omega (arith, safe.held.disjoint x)
@@ -16,8 +20,36 @@ blocks_overlap key words views x two safe = omega (arith, safe.held.disjoint x)
 pub block_is_outside : BlockIsOutside
 block_is_outside key words views not safe = not safe.held.blocks
 
+first_seat : (x : ℕ) (v : View) (vs : List View)
+    → holders x (blocks_with (v ∷ vs)) ≡ holders x (v.own ++ v.kept) + holders x (blocks_with vs)
+unfolding blocks_with
+first_seat x v vs =
+    omega (arith, holders_both x v.own (v.kept ++ blocks_with vs), holders_both x v.kept (blocks_with vs), holders_both x v.own v.kept)
+
+-- what a view has that is not the ground is what the seats have
+seat_has : (x : ℕ) (vs : List View) (k : ℕ) (d : View) → k < length vs → (get_or vs k d).is_ground ≡ false
+    → holders x ((get_or vs k d).own ++ (get_or vs k d).kept) ≤ holders x (blocks_with (seats_of vs))
+seat_has x [] k d h e = absurd (omega arith)
+seat_has x (v ∷ vs) zero d h e =
+    omega (arith, ap (λ (us : List View). holders x (blocks_with us)) (stays_in v vs e), first_seat x v (seats_of vs))
+seat_has x (v ∷ vs) (suc k) d h e = by v.is_ground refl (seat_has x vs k d (omega arith) e)
+  where
+    by : (b : Bool) → v.is_ground ≡ b
+        → holders x ((get_or vs k d).own ++ (get_or vs k d).kept) ≤ holders x (blocks_with (seats_of vs))
+        → holders x ((get_or vs k d).own ++ (get_or vs k d).kept) ≤ holders x (blocks_with (seats_of (v ∷ vs)))
+    by true ground less = omega (arith, less, ap (λ (us : List View). holders x (blocks_with us)) (left_out v vs ground))
+    by false seat less =
+        omega (arith, less, ap (λ (us : List View). holders x (blocks_with us)) (stays_in v vs seat), first_seat x v (seats_of vs))
+
 pub seat_is_past_the_end : SeatIsPastTheEnd
-seat_is_past_the_end key words views x past some safe = omega (arith, safe.inside x past)
+seat_is_past_the_end key words views v x has seat past some safe =
+    omega (
+      arith,
+      safe.inside x past,
+      some,
+      seat_has x views has.0 v has.1 (ap (λ (u : View). u.is_ground) has.2 ∙ seat),
+      ap (λ (u : View). holders x (u.own ++ u.kept)) has.2,
+    )
 
 pub entry_promises_too_much : EntryPromisesTooMuch
 entry_promises_too_much key words views c h more safe = omega (arith, safe.entries c h)
@@ -51,8 +83,18 @@ pub set_without_a_block : SetWithoutABlock
 set_without_a_block key words blocks x h set none unnamed holds =
     omega (arith, holds.bits x h, not_named (is_boot_frame key x) unnamed)
 
-pub clear_in_a_block : ClearInABlock
+clear_in_a_block : ClearInABlock
 clear_in_a_block key words blocks x h clear some holds = omega (arith, holds.bits x h)
+
+named_one : (b : Bool) → b ≡ true → ◌≡◌ {A = ℕ} (if b then 1 else 0) 1
+named_one b e = rw e refl
+
+boot_frame_is_clear : BootFrameIsClear
+boot_frame_is_clear key words blocks x h named clear holds =
+    omega (arith, holds.bits x h, clear, named_one (is_boot_frame key x) named)
+
+pub held_is_clear : HeldIsClear
+held_is_clear = (clear_in_a_block, boot_frame_is_clear)
 
 pub flag_is_off : FlagIsOff
 flag_is_off key words blocks c h off holds = off (holds.huge c h)
@@ -65,6 +107,15 @@ known_is_free m x some free lives = omega (arith, lives.known_held x)
 
 pub named_is_free : NamedIsFree
 named_is_free m x h named free lives = let held = lives.named_held x h named in omega (arith, held.0)
+
+pub named_is_known : NamedIsKnown
+named_is_known m x h named known lives = let held = lives.named_held x h named in omega (arith, held.1, known)
+
+pub named_is_flying : NamedIsFlying
+named_is_flying m x h named flies lives = let held = lives.named_held x h named in omega (arith, held.2, flies)
+
+pub moment_does_not_fit : MomentDoesNotFit
+moment_does_not_fit m not lives = not lives.fits
 
 pub lost_without_a_stop : LostWithoutAStop
 lost_without_a_stop m x h lost none lives = omega (arith, lives.were_in_flight x h lost)

@@ -17,5 +17,7 @@ pub mod WrongSteps
 pub mod Stops
 pub mod WorkedRuns
 pub mod WorkedLaws
+pub mod WorkedStops
+pub mod CutEnd
 pub mod WorkedReports
 pub mod WrongStates

@@ -1,5 +1,5 @@
 -- States that would be wrong: none of them is safe, adds up or survives.
-use Rattle.std.specs.Prelude.{◌≡◌, ◌≢◌, ℕ, ◌+◌, ◌<◌, ◌≤◌, List, true, All}
+use Rattle.std.specs.Prelude.{◌≡◌, ◌≢◌, ℕ, ◌+◌, ◌<◌, ◌≤◌, List, ◌++◌, true, false, All, Contains}
 use Rattle.frame_model.specs.declared.block.FrameBlock.{FrameBlock}
 use Rattle.frame_model.specs.declared.key.Key.{Key}
 use Rattle.frame_model.specs.declared.view.View.{View}
@@ -8,10 +8,10 @@ use Rattle.frame_model.specs.Block.{IsBlock, smalls, wholes}
 use Rattle.frame_model.specs.Words.{bit_of, set_of, free_of, huge_of, held_of, held_in_tree, tree_free_of, reserved_of, resting_on, cores_on}
 use Rattle.frame_model.specs.Holding.{holders}
 use Rattle.frame_model.specs.Rebuilt.{IsRebuilt}
-use Rattle.frame_model.specs.Events.{views_of}
-use Rattle.frame_model.specs.Laws.{blocks_with, holding_of, seats_of, IsSafe, AddsUp, HoldsJust, Form, form_of, AreOfEveryForm}
+use Rattle.frame_model.specs.Events.{views_of, Fits}
+use Rattle.frame_model.specs.Laws.{holding_of, IsSafe, AddsUp, HoldsJust, Form, form_of, AreOfEveryForm}
 use Rattle.frame_model.specs.Events.{Event}
-use Rattle.frame_model.specs.Stops.{Moment, known_at, is_lost, lost_frames, IsExact, Survives}
+use Rattle.frame_model.specs.Stops.{Moment, known_at, flying_at, is_lost, lost_frames, IsExact, Survives}
 
 -- Words and views that are not safe.
 
@@ -25,10 +25,11 @@ abbrev pub BlockIsOutside : Type 0
 BlockIsOutside = (key : Key) (words : List ℕ) (views : List View)
     → ¬ All (IsBlock key) (holding_of key views) → ¬ IsSafe key words views
 
--- a seat has a frame past the end
+-- a view that is not the ground has a frame past the end, in flight or kept
 abbrev pub SeatIsPastTheEnd : Type 0
-SeatIsPastTheEnd = (key : Key) (words : List ℕ) (views : List View) (x : ℕ)
-    → key.frames ≤ x → 0 < holders x (blocks_with (seats_of views)) → ¬ IsSafe key words views
+SeatIsPastTheEnd = (key : Key) (words : List ℕ) (views : List View) (v : View) (x : ℕ)
+    → Contains views v → v.is_ground ≡ false → key.frames ≤ x → 0 < holders x (v.own ++ v.kept)
+    → ¬ IsSafe key words views
 
 -- an entry promises more frames than are clear
 abbrev pub EntryPromisesTooMuch : Type 0
@@ -89,12 +90,26 @@ ClearInABlock = (key : Key) (words : List ℕ) (blocks : List FrameBlock) (x : �
     → x < frame_count key → bit_of key words x ≡ 0 → 0 < smalls x blocks
     → ¬ HoldsJust key words blocks
 
+-- a frame that the key names is clear
+abbrev pub BootFrameIsClear : Type 0
+BootFrameIsClear = (key : Key) (words : List ℕ) (blocks : List FrameBlock) (x : ℕ)
+    → x < frame_count key → is_boot_frame key x ≡ true → bit_of key words x ≡ 0
+    → ¬ HoldsJust key words blocks
+
+-- a frame is clear that has to be set, as one of a block or as one that the key names
+abbrev pub HeldIsClear : Type 0
+HeldIsClear = ClearInABlock × BootFrameIsClear
+
 -- a child is marked as a huge frame that is none of these blocks, or the other way round
 abbrev pub FlagIsOff : Type 0
 FlagIsOff = (key : Key) (words : List ℕ) (blocks : List FrameBlock) (c : ℕ)
     → c < key.children → huge_of words c ≢ wholes c blocks → ¬ HoldsJust key words blocks
 
 -- Moments after stops at which something went wrong.
+
+-- the words and the views do not agree
+abbrev pub MomentDoesNotFit : Type 0
+MomentDoesNotFit = (m : Moment) → ¬ Fits m.key m.shares m.state → ¬ Survives m
 
 -- two blocks that somebody knows share a frame
 abbrev pub KnownOverlap : Type 0
@@ -109,6 +124,16 @@ KnownIsFree = (m : Moment) (x : ℕ) → 0 < holders x (known_at m)
 abbrev pub NamedIsFree : Type 0
 NamedIsFree = (m : Moment) (x : ℕ) → x < frame_count m.key → is_boot_frame m.key x ≡ true
     → holders x (holding_of m.key (views_of m.state)) ≡ 0 → ¬ Survives m
+
+-- somebody knows a frame that the key names
+abbrev pub NamedIsKnown : Type 0
+NamedIsKnown = (m : Moment) (x : ℕ) → x < frame_count m.key → is_boot_frame m.key x ≡ true
+    → 0 < holders x (known_at m) → ¬ Survives m
+
+-- a frame that the key names is in flight
+abbrev pub NamedIsFlying : Type 0
+NamedIsFlying = (m : Moment) (x : ℕ) → x < frame_count m.key → is_boot_frame m.key x ≡ true
+    → 0 < holders x (flying_at m) → ¬ Survives m
 
 -- a frame is lost that was not in flight at a stop
 abbrev pub LostWithoutAStop : Type 0

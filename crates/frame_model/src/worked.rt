@@ -1,7 +1,9 @@
 //! Worked cases of the model: runs that happen, with numbers, and what the laws say of them.
 
+ghost use Rattle.frame_model.specs.CutEnd.{StopWithACutEnd};
 ghost use Rattle.frame_model.specs.WorkedLaws.{SafeRun, ClosesWithOneKept, LosesAClaim};
 ghost use Rattle.frame_model.specs.WorkedLaws.{LosesNoBlock, LosesAtMost, RebuildsToExact};
+ghost use Rattle.frame_model.specs.WorkedStops.{StopAdoptStop};
 ghost use Rattle.frame_model.specs.WorkedReports.{OneIsHeld, EveryOtherIsHeld, TreesDiffer};
 ghost use Rattle.frame_model.specs.WorkedReports.{RebuiltFromBits, RebuiltFromTheFlag};
 ghost use Rattle.frame_model.specs.WorkedRuns.{OpensAllFree, WideTakeThatLoses, WiderTakeThatLoses};
@@ -49,14 +51,24 @@ pub fn a_worked_closing_adds_up()
     every_closing_adds_up();
 }
 
-/// Two takes that were stopped, and how much may be lost at most, by the law on stops.
+/// Takes that were stopped, one of them twice with an adoption between, and how much may be lost at
+/// most, by the law on stops.
 pub fn worked_stops_are_survived()
     ensures claim { LosesAClaim }
     ensures block { LosesNoBlock }
+    ensures adopted { StopAdoptStop }
     ensures rebuilds { RebuildsToExact }
     ensures no_stop { LosesAtMost 64 0 0 }
     ensures one_stop { LosesAtMost 1 1 512 }
     ensures two_stops { LosesAtMost 4 2 4096 }
+{
+    every_stop_is_survived();
+}
+
+/// What lies past the end of a memory of 300 frames stays held over a stop and nobody knows it, and
+/// the four frames of its range are known from the stop on, by the law on stops.
+pub fn a_worked_end_stays_held()
+    ensures { StopWithACutEnd }
 {
     every_stop_is_survived();
 }

@@ -6,8 +6,9 @@ ghost use Rattle.frame_model.specs.WrongStates.{EntryPromisesTooMuch, HugeFrameP
 ghost use Rattle.frame_model.specs.WrongStates.{TreePromisesTooMuch, EntryIsOff, TreeIsOff};
 ghost use Rattle.frame_model.specs.WrongStates.{ReservationIsOff, RebuiltEntryDiffers};
 ghost use Rattle.frame_model.specs.WrongStates.{RebuiltTreeDiffers, SetWithoutABlock};
-ghost use Rattle.frame_model.specs.WrongStates.{ClearInABlock, FlagIsOff, KnownOverlap};
-ghost use Rattle.frame_model.specs.WrongStates.{KnownIsFree, NamedIsFree, LostWithoutAStop};
+ghost use Rattle.frame_model.specs.WrongStates.{HeldIsClear, FlagIsOff, MomentDoesNotFit};
+ghost use Rattle.frame_model.specs.WrongStates.{KnownOverlap, KnownIsFree, NamedIsFree};
+ghost use Rattle.frame_model.specs.WrongStates.{NamedIsKnown, NamedIsFlying, LostWithoutAStop};
 ghost use Rattle.frame_model.specs.WrongStates.{LosesTooMuch, ExactEntryIsOff, ExactTreeIsOff};
 ghost use Rattle.frame_model.specs.WrongStates.{ReservedStill, RestingStill, FormIsMissing};
 ghost use Rattle.frame_model.specs.WrongSteps.{BitsBeforeTheCharge, ClaimsUncharged};
@@ -44,7 +45,8 @@ pub fn wrong_states_are_not_safe()
 {}
 
 /// No words add up where a counter or a reservation is off, or rebuilding makes another; and none
-/// hold just some blocks where a frame or a child is set and no block's, or the other way round.
+/// hold just some blocks where a frame or a child is set and no block's, or the other way round, or
+/// where a frame that the key names is clear.
 pub fn wrong_closings_do_not_add_up()
     ensures entry { EntryIsOff }
     ensures tree { TreeIsOff }
@@ -52,16 +54,20 @@ pub fn wrong_closings_do_not_add_up()
     ensures rebuilt_entry { RebuiltEntryDiffers }
     ensures rebuilt_tree { RebuiltTreeDiffers }
     ensures set { SetWithoutABlock }
-    ensures clear { ClearInABlock }
+    ensures clear { HeldIsClear }
     ensures flag { FlagIsOff }
 {}
 
-/// No moment survives where known blocks overlap or are free, a frame that the key names is free,
-/// a frame is lost that was not in flight, or too many are.
+/// No moment survives where words and views do not agree, where known blocks overlap or are free,
+/// where a frame that the key names is free, known or in flight, or where a frame is lost that was
+/// not in flight, or too many are.
 pub fn wrong_moments_do_not_survive()
+    ensures fit { MomentDoesNotFit }
     ensures overlap { KnownOverlap }
     ensures known { KnownIsFree }
     ensures named { NamedIsFree }
+    ensures named_known { NamedIsKnown }
+    ensures named_flying { NamedIsFlying }
     ensures lost { LostWithoutAStop }
     ensures too_many { LosesTooMuch }
 {}

@@ -1,5 +1,5 @@
 use Rattle.frame_model.proofs.WrongStates.{entry_is_off, tree_is_off, reservation_is_off, rebuilt_entry_differs, rebuilt_tree_differs}
-use Rattle.frame_model.proofs.WrongStates.{set_without_a_block, clear_in_a_block, flag_is_off}
+use Rattle.frame_model.proofs.WrongStates.{set_without_a_block, held_is_clear, flag_is_off}
 use Rattle.frame_model.proofs.wrong.wrong_closings_do_not_add_up.Goals as goal
 
 pub returns : goal.returns
@@ -10,6 +10,6 @@ returns c = record {
   rebuilt_entry = rebuilt_entry_differs;
   rebuilt_tree = rebuilt_tree_differs;
   set = set_without_a_block;
-  clear = clear_in_a_block;
+  clear = held_is_clear;
   flag = flag_is_off;
 }
