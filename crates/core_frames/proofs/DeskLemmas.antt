@@ -25,7 +25,7 @@ use Rattle.core_frames.specs.declared.allocator.Allocator.{Allocator}
 use Rattle.core_frames.specs.declared.allocator.Core.{Core}
 use Rattle.core_frames.specs.declared.desk.Desk.{Desk}
 use Rattle.core_frames.specs.Cores.{memory_of, kept_by, IsCoreOf}
-use Rattle.core_frames.specs.Uses.{IsRefusedFor}
+use Rattle.core_frames.specs.Uses.{IsRefusedFor, IsRefusedAtDesk}
 use Rattle.core_frames.specs.Desks.{core_of, list_of, KeepsJust, IsDeskOf}
 
 -- what a view keeps that has nothing in flight is a holding, once it is known to be apart
@@ -145,6 +145,13 @@ unfolding TakesUnder
 refused_take a c d old label order take_fault.BadOrder low why = (why.0, refl)
 refused_take a c d old label order take_fault.NoBlock low why = (low, tt, refl)
 refused_take a c d old label order take_fault.Contended low why = (low, tt, refl)
+
+-- a desk says why as the allocator does, for an order that it let through
+pub refused_at_desk : (a : Allocator) (c d : Core) (order : ℕ) (refusal : TakeFault) → order ≤ 9
+    → IsRefusedFor a order c d refusal → IsRefusedAtDesk a order c d (fault_of refusal)
+refused_at_desk a c d order take_fault.BadOrder low why = absurd (omega (arith, low, why.0))
+refused_at_desk a c d order take_fault.NoBlock low why = why
+refused_at_desk a c d order take_fault.Contended low why = why
 
 -- memory is refused
 pub no_memory_take : (key : Key) (old : List LabelledBlock) (label : List ℕ) (order : ℕ) → order ≤ 9

@@ -12,3 +12,4 @@ pub mod Desks
 pub mod LeftFrames
 pub mod Habits
 pub mod Left
+pub mod Refusals

@@ -5,7 +5,7 @@ use Rattle.frame_words.specs.declared.fault.Fault.TheVariants.{BadRange, NoMemor
 use Rattle.frame_words.specs.declared.geometry.Geometry.{Geometry}
 use Rattle.frame_core.specs.Key.{most_ranges, AreRanges}
 
--- there are few enough ranges, none is empty, they ascend and do not meet, and end inside memory
+-- there are few enough ranges, none is empty, they ascend and do not overlap, and end inside memory
 pub record MayHoldBack (geometry : Geometry) (ranges : List (ℕ × ℕ)) : Type 0 where
   pub few : length ranges ≤ most_ranges
   pub apart : AreRanges 0 geometry.frames ranges

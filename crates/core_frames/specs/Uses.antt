@@ -1,7 +1,10 @@
 -- What takes, gives and splits through a core leave.
 use Rattle.std.specs.Prelude.{◌≡◌, ℕ, pos, ◌+◌, ◌+ℤ◌, ◌-ℤ◌, ◌<◌, ◌≤◌, Result, IfOk, IfErr}
+use Rattle.frame_words.specs.declared.fault.Fault.{Fault}
+use Rattle.frame_words.specs.declared.fault.Fault.TheVariants as fault
 use Rattle.frame_words.specs.declared.fault.TakeFault.{TakeFault}
 use Rattle.frame_words.specs.declared.fault.TakeFault.TheVariants.{BadOrder, NoBlock, Contended}
+use Rattle.frame_model.specs.declared.view.View.{View}
 use Rattle.frame_core.specs.Key.{tree_count}
 use Rattle.frame_core.specs.Holding.{IsFreeBlock}
 use Rattle.low_frames.specs.Outcomes.{HasNoBootFrame}
@@ -21,23 +24,32 @@ pub record HasTaken (a : Allocator) (n : ℕ) (b : Block) (c d : Core) : Type 0 
   pub no_boot_frame : HasNoBootFrame (memory_of a) (block_in b)
   pub lent : lent_by d ≡ lent_by c +ℤ pos 1
 
--- each tree of the memory was looked at, for an order of blocks
-pub record HasLookedAround (a : Allocator) (n : ℕ) (c d : Core) : Type 0 where
+-- at least as many moves were made as the memory has trees, for an order of blocks
+pub record HasMovedForEach (a : Allocator) (n : ℕ) (c d : Core) : Type 0 where
   pub order : n ≤ 9
-  pub looked : moves_by c + tree_count (memory_of a) ≤ moves_by d
+  pub moved : moves_by c + tree_count (memory_of a) ≤ moves_by d
 
--- why a take of an order was refused: there is none of that order, and no move was made; or each
--- tree was looked at, and no exchange was lost in this call, or one was
+-- why a take of an order was refused: there is none of that order, and no move was made; or a move
+-- was made for each tree, and no exchange was lost in this call, or one was
 abbrev pub IsRefusedFor : Allocator → ℕ → Core → Core → TakeFault → Type 0
 IsRefusedFor a n c d BadOrder = (9 < n) × (view_in d ≡ view_in c)
-IsRefusedFor a n c d NoBlock = HasLookedAround a n c d × (losses_by d ≡ losses_by c)
-IsRefusedFor a n c d Contended = HasLookedAround a n c d × (losses_by c < losses_by d)
+IsRefusedFor a n c d NoBlock = HasMovedForEach a n c d × (losses_by d ≡ losses_by c)
+IsRefusedFor a n c d Contended = HasMovedForEach a n c d × (losses_by c < losses_by d)
+
+-- why a take at a desk was refused: as the allocator's is; want of memory comes before any step
+abbrev pub IsRefusedAtDesk : Allocator → ℕ → Core → Core → Fault → Type 0
+IsRefusedAtDesk a n c d fault.BadOrder = (9 < n) × (d ≡ c)
+IsRefusedAtDesk a n c d fault.NoMemory = (n ≤ 9) × (d ≡ c)
+IsRefusedAtDesk a n c d fault.NoBlock = HasMovedForEach a n c d × (losses_by d ≡ losses_by c)
+IsRefusedAtDesk a n c d fault.Contended = HasMovedForEach a n c d × (losses_by c < losses_by d)
+IsRefusedAtDesk a n c d _ = ⊥
 
 -- a take of a block of the order: one is out and lent, or it is refused and nothing is; what the core
--- keeps is as before
+-- keeps, and what it remembers of its gives, is as before
 pub record TakesThrough (a : Allocator) (n : ℕ) (answer : Result Block TakeFault) (c d : Core)
     : Type 0 where
   pub kept : kept_by d ≡ kept_by c
+  pub same_habit : d.habit ≡ c.habit
   pub ok : IfOk answer (λ b. HasTaken a n b c d)
   pub err : IfErr answer (λ fault. IsRefusedFor a n c d fault × (lent_by d ≡ lent_by c))
 
@@ -45,6 +57,10 @@ pub record TakesThrough (a : Allocator) (n : ℕ) (answer : Result Block TakeFau
 pub record HasGiven (c d : Core) : Type 0 where
   pub kept : kept_by d ≡ kept_by c
   pub lent : lent_by d ≡ lent_by c -ℤ pos 1
+
+-- by so many moves the view is as before, but for their count
+abbrev pub IsSameAfter : ℕ → View → View → Type 0
+IsSameAfter n v w = w ≡ record v { moves = v.moves + n }
 
 -- the halves of the block are out, and one block more is lent
 pub record HasSplit (a : Allocator) (b first second : Block) (c d : Core) : Type 0 where

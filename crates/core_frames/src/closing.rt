@@ -2,6 +2,7 @@
 
 ghost use Rattle.std.specs.Prelude.{◌≡◌, IfOk, IfErr, vec_len, map};
 ghost use Rattle.std.specs.List.{All};
+ghost use Rattle.frame_core.specs.Laws.{AddsUp};
 ghost use Rattle.frame_table.specs.Closing.{IsClosingOf, IsUnclosedFor};
 ghost use Rattle.core_frames.specs.Cores.{memory_of, seat_of, IsCoreOf};
 
@@ -32,13 +33,15 @@ impl Seated for Core {
 }
 
 impl Allocator {
-    /// The words of the memory, once all cores are handed in. Blocks that are still out are held.
+    /// The words of the memory, once all cores are handed in. All that they keep is held and apart. That
+    /// blocks which are still out are held too is by the body, which writes none.
     /// Refused as `MissingCores` where a core is missing, else for want of memory.
     pub fn close(self, alloc: Global, cores: Vec<Core>) -> Result<Image, CloseFault>
         requires { All (IsCoreOf self) cores.items }
         ensures ok { IfOk result (IsClosingOf (memory_of self) (map seat_of cores.items)) }
         ensures refused { IfErr result (λ e.
             IsUnclosedFor (memory_of self).cores (vec_len cores) e.fault) }
+        ensures adds_up { IfOk result (λ image. AddsUp (memory_of self) image.words) }
         ensures same { IfErr result (λ e. (e.allocator ≡ self) × (e.cores ≡ cores)) }
     {
         close_table(alloc, self.table, cores).map_err(|e| CloseFault {

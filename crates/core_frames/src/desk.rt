@@ -1,17 +1,18 @@
 //! Desks: a core with the list of the blocks that it holds.
 
-ghost use Rattle.std.specs.Prelude.{◌≡◌, ◌<◌, [], pos, ◌+ℤ◌, ◌-ℤ◌, length};
-ghost use Rattle.std.specs.Prelude.{IfOk, IfErr, Err, Contains};
+ghost use Rattle.std.specs.Prelude.{◌≡◌, ◌<◌, ◌≤◌, ◌+◌, ◌*◌, [], pos, ◌+ℤ◌, ◌-ℤ◌, length};
+ghost use Rattle.std.specs.Prelude.{IfOk, IfErr, Contains};
 ghost use Rattle.frame_core.specs.Block.{block as block_at};
+ghost use Rattle.frame_core.specs.Key.{tree_count};
 ghost use Rattle.frame_table.specs.Keeping.{HasRecalled};
 ghost use Rattle.frame_table.specs.Seats.{block_in};
 ghost use Rattle.held_blocks.specs.Desk.{Lays, MayFail, TakesUnder, GivesOldest, GivesExactly};
 ghost use Rattle.held_blocks.specs.Desk.{GivesFirst};
 ghost use Rattle.held_blocks.specs.LabelledBlocks.{IsUnder, IsTheBlock};
 ghost use Rattle.low_frames.specs.Outcomes.{HasNoBootFrame};
-ghost use Rattle.core_frames.specs.Cores.{memory_of, view_in, kept_by, lent_by, IsOutOf};
-ghost use Rattle.core_frames.specs.Cores.{IsCoreOf, StaysCoreOf};
-ghost use Rattle.core_frames.specs.Uses.{HasGiven};
+ghost use Rattle.core_frames.specs.Cores.{memory_of, view_in, kept_by, lent_by, moves_by};
+ghost use Rattle.core_frames.specs.Cores.{IsOutOf, IsCoreOf, StaysCoreOf};
+ghost use Rattle.core_frames.specs.Uses.{HasGiven, IsRefusedAtDesk};
 ghost use Rattle.core_frames.specs.Desks.{list_of, core_of, IsEntryAt, IsDeskOf, StaysDeskOf, IsLeftAlone};
 
 use crate::allocator::{Allocator, Core};
@@ -77,7 +78,11 @@ impl Desk {
         ensures no_boot_frame { IfOk result (λ b.
             HasNoBootFrame (memory_of allocator.now) (block_at b.0 b.1)) }
         ensures lent { lent_by (core_of self.new) ≡ lent_by (core_of self.old) }
-        ensures early { result ≡ Err Fault.NoMemory → core_of self.new ≡ core_of self.old }
+        ensures why { IfErr result (IsRefusedAtDesk allocator.now order
+            (core_of self.old) (core_of self.new)) }
+        ensures moves { moves_by (core_of self.new) ≤ moves_by (core_of self.old)
+            + (2200 * tree_count (memory_of allocator.now)
+            + 3 * (memory_of allocator.now).cores + 801) }
     {
         if order > HUGE_ORDER {
             return Err(Fault::BadOrder);
@@ -104,6 +109,7 @@ impl Desk {
         ensures desk { StaysDeskOf allocator.now self.old self.new }
         ensures gives { GivesOldest (list_of self.old) label.now result (list_of self.new) }
         ensures lent { lent_by (core_of self.new) ≡ lent_by (core_of self.old) }
+        ensures moves { moves_by (core_of self.new) ≤ moves_by (core_of self.old) + 33 }
         ensures refused { IfErr result (λ e. IsLeftAlone self.old self.new) }
     {
         match self.lift(allocator, label) {
@@ -124,6 +130,7 @@ impl Desk {
         ensures desk { StaysDeskOf allocator.now self.old self.new }
         ensures gives { GivesExactly (list_of self.old) frame order result (list_of self.new) }
         ensures lent { lent_by (core_of self.new) ≡ lent_by (core_of self.old) }
+        ensures moves { moves_by (core_of self.new) ≤ moves_by (core_of self.old) + 33 }
         ensures refused { IfErr result (λ e. IsLeftAlone self.old self.new) }
     {
         if order > HUGE_ORDER {
@@ -145,6 +152,7 @@ impl Desk {
         ensures block { IfOk result (IsOutOf allocator.now) }
         ensures lent { IfOk result (λ b.
             lent_by (core_of self.new) ≡ lent_by (core_of self.old) +ℤ pos 1) }
+        ensures moves { moves_by (core_of self.new) ≤ moves_by (core_of self.old) + 1 }
         ensures refused { IfErr result (λ e. IsLeftAlone self.old self.new) }
     {
         match self.list.remove_oldest(label) {
@@ -162,6 +170,7 @@ impl Desk {
         ensures block { IfOk result (IsOutOf allocator.now) }
         ensures lent { IfOk result (λ b.
             lent_by (core_of self.new) ≡ lent_by (core_of self.old) +ℤ pos 1) }
+        ensures moves { moves_by (core_of self.new) ≤ moves_by (core_of self.old) + 1 }
         ensures refused { IfErr result (λ e. IsLeftAlone self.old self.new) }
     {
         match self.list.remove_exact(frame, order) {
@@ -179,6 +188,7 @@ impl Desk {
             Lays (list_of self.old) label (block_in block) (list_of self.new)) }
         ensures lent { IfOk result (λ _.
             lent_by (core_of self.new) ≡ lent_by (core_of self.old) -ℤ pos 1) }
+        ensures moves { moves_by (core_of self.new) ≤ moves_by (core_of self.old) + 2 }
         ensures refused { IfErr result (λ same.
             (same ≡ block) × IsLeftAlone self.old self.new) }
     {
@@ -220,6 +230,7 @@ fn give_back(allocator: &Allocator, core: &mut Core, block: Block) -> (u32, u8)
     requires block { IsOutOf allocator.now block }
     ensures core { StaysCoreOf allocator.now core.old core.new }
     ensures gives { HasGiven core.old core.new }
+    ensures moves { moves_by core.new ≤ moves_by core.old + 32 }
     ensures answer { block_at result.0 result.1 ≡ block_in block }
 {
     let answer = (block.frame(), block.order());

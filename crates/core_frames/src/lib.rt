@@ -1,4 +1,5 @@
-//! An allocator for one thread, and the list of the blocks that a core holds.
+//! Takes, gives and splits of a whole memory over any moves; an allocator that threads share, one for
+//! one thread, and desks.
 #![tactic(auto)]
 
 mod allocator;
@@ -9,6 +10,7 @@ mod drain;
 mod gives;
 mod habit;
 mod keeping;
+mod laws;
 mod left_frames;
 mod opening;
 mod own_tree;
@@ -29,6 +31,7 @@ pub use desk::Desk;
 pub use gives::give_by;
 pub use habit::Habit;
 pub use held_blocks::{Label, LabelledBlock, LabelledBlocks};
+pub use laws::wrong_refusals_are_not_told;
 pub use plain::PlainAllocator;
 pub use splits::split_by;
 pub use survivors::Survivors;

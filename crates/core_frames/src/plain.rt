@@ -225,8 +225,8 @@ impl PlainAllocator {
         Ok((lower, upper))
     }
 
-    /// The image of the memory. Blocks that are still out count as held, and what rests with a core
-    /// rests there still.
+    /// The image of the memory. Blocks that are still out count as held. What rests with a core rests
+    /// there still (tested).
     pub fn close(self, alloc: Global) -> Result<Image, PlainAllocator>
         ensures geometry { IfOk result (λ i. i.geometry ≡ self.geometry) }
         ensures exact { IfOk result (λ i. HoldsExactly (memory_by self) i.words (held_by self)) }

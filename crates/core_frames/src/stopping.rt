@@ -18,9 +18,10 @@ impl Allocator {
         self.table.make_room(alloc)
     }
 
-    /// The words of the memory as they are, without its cores, whatever these are about. Blocks that
-    /// are out or kept are held, and nothing else but what a core was about to take or to give. The
-    /// counters leave out what cores have reserved. Needs no memory.
+    /// The words of the memory as they are, without its cores, whatever these are about: they fit some
+    /// views of this memory. That they are those of this allocator, and so hold every block that is
+    /// out or kept, is by the body, which writes none. The counters leave out what cores have
+    /// reserved. Needs no memory.
     pub fn stop(self, room: Vec<u64>) -> Image
         requires { IsRoomFor (memory_of self) room }
         ensures { IsImageAtStop (memory_of self) result }

@@ -8,7 +8,7 @@ use Rattle.frame_core.specs.Block.{block, IsBlock}
 use Rattle.low_frames.specs.Outcomes.{HasNoBootFrame}
 use Rattle.frame_table.specs.Seats.{id_of}
 use Rattle.core_frames.specs.Cores.{memory_of, lent_by}
-use Rattle.core_frames.specs.Uses.{HasLookedAround}
+use Rattle.core_frames.specs.Uses.{HasMovedForEach}
 use Rattle.core_frames.specs.declared.allocator.Allocator.{Allocator}
 use Rattle.core_frames.specs.declared.allocator.Core.{Core}
 use Rattle.frame_places.specs.declared.place.Place.{Place}
@@ -52,7 +52,7 @@ pub record SplitsAt (a : Allocator) (order frame : ℕ) (c d : Core) : Type 0 wh
 
 -- each tree of the memory was looked at, for an order of blocks, and none is lent
 pub record FindsNothing (a : Allocator) (order : ℕ) (c d : Core) : Type 0 where
-  pub looked : HasLookedAround a order c d
+  pub looked : HasMovedForEach a order c d
   pub lent : lent_by d ≡ lent_by c
 
 -- the core lends as many blocks as before

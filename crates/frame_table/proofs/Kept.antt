@@ -1,5 +1,5 @@
--- What is kept at a closing is held in the words, and where nothing is lent, nothing else is.
-use Rattle.std.proofs.Common.{◌≡◌, ℕ, ◌+◌, ◌^◌, ◌<◌, ◌≤◌, max, List, [], ◌∷◌, ◌++◌, length, get_or, refl, sym, subst, ◌∙◌, arith}
+-- What is kept at a closing is held in the words, and apart, and where nothing is lent, nothing else is.
+use Rattle.std.proofs.Common.{◌≡◌, ℕ, ◌+◌, ◌^◌, ◌<◌, ◌≤◌, max, List, [], ◌∷◌, ◌++◌, length, get_or, refl, sym, ap, subst, ◌∙◌, arith}
 use Rattle.std.specs.List.{All}
 use Rattle.std.proofs.lemmas.Bool.Decides.{nat_tests}
 use Rattle.std.proofs.lemmas.List.Sums.{get_or-le-sum_by}
@@ -15,10 +15,12 @@ use Rattle.frame_core.specs.Words.{bit_of, huge_of}
 use Rattle.frame_core.specs.View.{marks, whole_in}
 use Rattle.frame_core.specs.Events.{views_of}
 use Rattle.frame_core.specs.Fit.{Fit}
+use Rattle.frame_core.specs.Holding.{IsHolding, holders}
 use Rattle.frame_core.specs.Laws.{HoldsJust}
 use Rattle.frame_core.specs.Report.{held_at}
-use Rattle.frame_model.proofs.Safe.{covers_is}
-use Rattle.frame_model.proofs.Steps.Shared.{at-le-total, bit-le}
+use Rattle.frame_core.proofs.Apart.{apart_of}
+use Rattle.frame_model.proofs.Safe.{covers_is, holders_are}
+use Rattle.frame_model.proofs.Steps.Shared.{at-le-total, bit-le, view_of as view_at}
 use Rattle.frame_model.proofs.Steps.SeatViews.{blocks_are}
 use Rattle.atomic_table.proofs.Lists.{at_map}
 use Rattle.frame_table.specs.declared.seats.CoreSeat.{CoreSeat}
@@ -93,6 +95,26 @@ module _ (key : Key) (seats : List CoreSeat) (ws : List ℕ) (closed : IsClosed 
         bit-le key ws x,
         fit.words_in_range.huge (child_of x) (omega (arith, inside)),
       )
+
+  -- no two blocks that the seats keep share a frame: they are, frame by frame, those of one view
+  pub kept_apart : All (IsBlock key) (kept_through seats) → IsHolding key (kept_through seats)
+  kept_apart all =
+      let vs : List View = views_of closed.state in
+      let v : View = closed.eye.view in
+      let at : get_elem? vs closed.id ≡ some v = at_map eye_view closed.state.eyes closed.id closed.eye closed.at in
+      let is = view_at key key.cores closed.state.words vs closed.id v closed.fits at in
+      record {
+        blocks = all;
+        disjoint = λ x. omega (
+          arith,
+          holders_are key x (kept_through seats) all,
+          holders_are key x v.kept is.kept,
+          closed.gathered.smalls x,
+          closed.gathered.wholes (child_of x),
+          ap (λ (own : List FrameBlock). holders x (own ++ v.kept)) closed.gathered.idle.own,
+          (apart_of key key.cores closed.state.words vs closed.id v closed.fits at).disjoint x,
+        );
+      }
 
   -- what is held just by the one view is held just by what the seats keep
   pub just_kept : HoldsJust key ws closed.eye.view.kept → HoldsJust key ws (kept_through seats)

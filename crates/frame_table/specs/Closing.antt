@@ -8,6 +8,7 @@ use Rattle.frame_model.specs.declared.key.Key.{Key}
 use Rattle.frame_model.specs.declared.view.Eye.{Eye}
 use Rattle.frame_model.specs.declared.view.View.{View}
 use Rattle.frame_core.specs.Block.{covers, smalls, wholes}
+use Rattle.frame_core.specs.Holding.{IsHolding}
 use Rattle.frame_core.specs.View.{IsIdle}
 use Rattle.frame_core.specs.Events.{State, Has, Fits}
 use Rattle.frame_core.specs.Image.{Contents, key_in, IsImage}
@@ -49,11 +50,12 @@ pub record IsClosed (key : Key) (seats : List CoreSeat) (ws : List ℕ) : Type 0
 abbrev pub IsHeldIn : Key → List ℕ → FrameBlock → Type 0
 IsHeldIn key words b = (x : ℕ) → covers b x ≡ 1 → held_at key words x ≡ 1
 
--- what the words of a closed table say: the counters add up, all that was kept is held, and where the
--- memory is sealed and nothing is lent, nothing else is
+-- what the words of a closed table say: the counters add up, all that was kept is held and apart, and
+-- where the memory is sealed and nothing is lent, nothing else is
 pub record TellsAll (key : Key) (seats : List CoreSeat) (words : List ℕ) : Type 0 where
   pub adds_up : AddsUp key words
   pub kept_held : All (IsHeldIn key words) (kept_through seats)
+  pub kept_apart : IsHolding key (kept_through seats)
   pub just_kept : key.sealed ≡ true → lent_through seats ≡ pos 0
       → HoldsJust key words (kept_through seats)
 

@@ -19,7 +19,7 @@ mod table;
 pub use block::Block;
 pub use closing::{TableFault, close_table};
 pub use ground_seat::GroundSeat;
-pub use laws::shared_words_are_honest;
+pub use laws::{shared_words_are_honest, shared_words_are_safe};
 pub use opening::{open_table, open_table_at, open_table_with};
 pub use seated::Seated;
 pub use seats::CoreSeat;

@@ -67,7 +67,7 @@ pub fn open_table(alloc: Global, geometry: &Geometry) -> Result<(FrameTable, Vec
 }
 
 /// The same, and the frames of the ranges are never given out: they are held from the opening on.
-/// A range is its first frame and how many frames it has; they ascend and do not meet.
+/// A range is its first frame and how many frames it has; they ascend and do not overlap.
 pub fn open_table_with(
     alloc: Global,
     geometry: &Geometry,

@@ -22,7 +22,9 @@ impl FrameTable {
         Ok(room)
     }
 
-    /// The words as they are, without a seat, whatever the seats have in flight. Needs no memory.
+    /// The words as they are, without a seat, whatever the seats have in flight: they fit some views of
+    /// this memory. That they are those of this table, and so hold every block that is out or kept, is
+    /// by the body, which writes none. Needs no memory.
     pub fn stop(self, room: Vec<u64>) -> Image
         requires { IsRoomFor (key_at self) room }
         ensures { IsImageAtStop (key_at self) result }

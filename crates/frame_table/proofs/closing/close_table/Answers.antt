@@ -9,7 +9,7 @@ use Rattle.frame_table.specs.Seats.{key_at, IsIdleSeat}
 use Rattle.frame_table.specs.Closing.{IsClosed}
 use Rattle.frame_table.proofs.Gathering.{closed_as}
 use Rattle.frame_table.proofs.Imaged.{closed_image}
-use Rattle.frame_table.proofs.Kept.{kept_blocks, kept_held, just_kept}
+use Rattle.frame_table.proofs.Kept.{kept_blocks, kept_held, kept_apart, just_kept}
 use Rattle.frame_table.proofs.closing.close_table.Goals as goal
 
 pub of_words-requires : goal.of_words-requires
@@ -50,6 +50,7 @@ returns-clause-ok g c =
       tells = record {
         adds_up = subst (AddsUp key) z.words (law.counters key key.cores z.state z.id z.eye z.fits z.at idle z.share);
         kept_held = kept_held key seats ws z blocks;
+        kept_apart = kept_apart key seats ws z blocks;
         just_kept = λ sealed none. just_kept key seats ws z
             (subst (λ us. HoldsJust key us z.eye.view.kept) z.words
             (law.held key key.cores z.state z.id z.eye z.fits z.at idle z.share sealed (z.gathered.lent ∙ none)));

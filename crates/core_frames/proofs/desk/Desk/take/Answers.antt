@@ -8,7 +8,7 @@ use Rattle.held_blocks.specs.Desk.{blocks_of, TakesUnder}
 use Rattle.held_blocks.proofs.HeldLemmas.{begins_apart}
 use Rattle.core_frames.specs.Cores.{memory_of, kept_by}
 use Rattle.core_frames.specs.Desks.{list_of, core_of}
-use Rattle.core_frames.proofs.DeskLemmas.{free_under, laid, no_memory_take, refused_take}
+use Rattle.core_frames.proofs.DeskLemmas.{free_under, laid, no_memory_take, refused_at_desk, refused_take}
 use Rattle.core_frames.proofs.desk.Desk.take.Goals as goal
 use Rattle.core_frames.proofs.desk.Desk.take.Goals.{After-of-block}
 
@@ -71,4 +71,10 @@ pub returns-in-Err-clause-takes : goal.returns-in-Err-clause-takes
 returns-in-Err-clause-takes c =
     rw (c.from.ensures, c.reserve.ensures.entries)
     (refused_take c.args.allocator.now (core_of c.args.self.now) c.take.new.core (list_of c.args.self.now) c.args.label c.args.order
+    c.in-Err.refusal (omega arith) c.in-Err.ensures.takes.err.0)
+
+pub returns-in-Err-clause-why : goal.returns-in-Err-clause-why
+returns-in-Err-clause-why c =
+    rw c.from.ensures
+    (refused_at_desk c.args.allocator.now (core_of c.args.self.now) c.take.new.core c.args.order
     c.in-Err.refusal (omega arith) c.in-Err.ensures.takes.err.0)

@@ -1,0 +1,43 @@
+use Rattle.std.proofs.Common.{◌≡◌, ◌≤◌, ⊎_elim, List, arith}
+use Rattle.frame_words.specs.declared.fault.Fault.TheVariants as fault
+use Rattle.frame_model.specs.declared.block.FrameBlock.{FrameBlock}
+use Rattle.frame_table.specs.Openings.{IsLeft}
+use Rattle.core_frames.specs.declared.allocator.Allocator.{Allocator}
+use Rattle.core_frames.specs.Cores.{memory_of}
+use Rattle.core_frames.specs.Left.{IsUnadoptedFor}
+use Rattle.core_frames.proofs.laws.wrong_refusals_are_not_told.Goals as goal
+
+-- a block that is left is not refused as one that is not
+left : (a : Allocator) (b : FrameBlock) (blocks : List FrameBlock) → IsLeft (memory_of a) blocks b
+    → ¬ IsUnadoptedFor a b blocks fault.NotHeld
+left a b blocks is why = ⊎_elim (λ h. absurd (not_held h.0)) (λ h. h.2 is) why
+  where
+    not_held : fault.NotHeld ≡ fault.BadOrder → ⊥
+    not_held e = absurd (cc)
+
+lawful : (a : Allocator) (b : FrameBlock) (blocks : List FrameBlock) → b.order ≤ 9
+    → ¬ IsUnadoptedFor a b blocks fault.BadOrder
+lawful a b blocks low why = ⊎_elim (λ h. absurd (omega (arith, low, h.1))) (λ h. absurd (bad_order h.0)) why
+  where
+    bad_order : fault.BadOrder ≡ fault.NotHeld → ⊥
+    bad_order e = absurd (cc)
+
+pub returns : goal.returns
+returns c = record {
+  order_is_lawful = λ a n d e. (λ low why. absurd (omega (arith, low, why.0)), λ other why. other why.1);
+  order_is_unlawful = λ a n d e high.
+      (λ why. absurd (omega (arith, high, why.0.order)), λ why. absurd (omega (arith, high, why.0.order)));
+  moves = λ a n d e few.
+      (λ why. absurd (omega (arith, few, why.0.moved)), λ why. absurd (omega (arith, few, why.0.moved)));
+  losses = λ a n d e.
+      (λ none why. absurd (omega (arith, none, why.1)), λ some why. absurd (omega (arith, some, why.1)));
+  desk = λ a n d e. (
+    λ other. (λ why. other why.1, λ why. other why.1),
+    λ few. (λ why. absurd (omega (arith, few, why.0.moved)), λ why. absurd (omega (arith, few, why.0.moved))),
+    λ none why. absurd (omega (arith, none, why.1)),
+    λ some why. absurd (omega (arith, some, why.1)),
+  );
+  left = λ a b blocks. (left a b blocks, lawful a b blocks);
+  closing = λ cores seats. (λ all why. absurd (omega (arith, all, why)), λ few why. absurd (omega (arith, few, why)));
+  numbers = λ cores k d within other numbered. other (numbered k d within);
+}

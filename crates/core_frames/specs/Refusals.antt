@@ -1,0 +1,61 @@
+-- Refusals that would be wrong, and numbers of cores that would be.
+use Rattle.std.specs.Prelude.{◌≢◌, ℕ, ◌+◌, ◌<◌, ◌≤◌, List, length, slice_index_or}
+use Rattle.frame_words.specs.declared.fault.Fault.TheVariants as fault
+use Rattle.frame_words.specs.declared.fault.TakeFault.TheVariants.{BadOrder, NoBlock, Contended}
+use Rattle.frame_model.specs.declared.block.FrameBlock.{FrameBlock}
+use Rattle.frame_core.specs.Key.{tree_count}
+use Rattle.frame_table.specs.Closing.{IsUnclosedFor}
+use Rattle.frame_table.specs.Openings.{IsLeft}
+use Rattle.core_frames.specs.declared.allocator.Allocator.{Allocator}
+use Rattle.core_frames.specs.declared.allocator.Core.{Core}
+use Rattle.core_frames.specs.Cores.{memory_of, number_of, view_in, moves_by, losses_by, AreNumbered}
+use Rattle.core_frames.specs.Left.{IsUnadoptedFor}
+use Rattle.core_frames.specs.Uses.{IsRefusedFor, IsRefusedAtDesk}
+
+-- no take of an order up to 9 is refused for its order, and none that steps
+abbrev pub OrderIsLawful : Type 0
+OrderIsLawful = (a : Allocator) (n : ℕ) (c d : Core)
+    → (n ≤ 9 → ¬ IsRefusedFor a n c d BadOrder)
+    × (view_in d ≢ view_in c → ¬ IsRefusedFor a n c d BadOrder)
+
+-- no take of an order above 9 is refused for want of a block
+abbrev pub OrderIsUnlawful : Type 0
+OrderIsUnlawful = (a : Allocator) (n : ℕ) (c d : Core) → 9 < n
+    → (¬ IsRefusedFor a n c d NoBlock) × (¬ IsRefusedFor a n c d Contended)
+
+-- none is refused for want of a block in fewer moves than there are trees
+abbrev pub MovesTooLittle : Type 0
+MovesTooLittle = (a : Allocator) (n : ℕ) (c d : Core) → moves_by d < moves_by c + tree_count (memory_of a)
+    → (¬ IsRefusedFor a n c d NoBlock) × (¬ IsRefusedFor a n c d Contended)
+
+-- none is refused as contended where no exchange was lost, and none as without a block where one was
+abbrev pub LossIsUntold : Type 0
+LossIsUntold = (a : Allocator) (n : ℕ) (c d : Core)
+    → (losses_by d ≤ losses_by c → ¬ IsRefusedFor a n c d Contended)
+    × (losses_by c < losses_by d → ¬ IsRefusedFor a n c d NoBlock)
+
+-- no desk says what its allocator may not, nor that memory is wanting after a step
+abbrev pub DeskIsRefused : Type 0
+DeskIsRefused = (a : Allocator) (n : ℕ) (c d : Core)
+    → (d ≢ c → (¬ IsRefusedAtDesk a n c d fault.BadOrder) × (¬ IsRefusedAtDesk a n c d fault.NoMemory))
+    × (moves_by d < moves_by c + tree_count (memory_of a)
+    → (¬ IsRefusedAtDesk a n c d fault.NoBlock) × (¬ IsRefusedAtDesk a n c d fault.Contended))
+    × (losses_by d ≤ losses_by c → ¬ IsRefusedAtDesk a n c d fault.Contended)
+    × (losses_by c < losses_by d → ¬ IsRefusedAtDesk a n c d fault.NoBlock)
+
+-- no block that is left is refused, and none of a lawful order for its order
+abbrev pub LeftIsRefused : Type 0
+LeftIsRefused = (a : Allocator) (b : FrameBlock) (left : List FrameBlock)
+    → (IsLeft (memory_of a) left b → ¬ IsUnadoptedFor a b left fault.NotHeld)
+    × (b.order ≤ 9 → ¬ IsUnadoptedFor a b left fault.BadOrder)
+
+-- no closing says that a seat is missing where none is, or that memory is where a seat is
+abbrev pub ClosingIsRefused : Type 0
+ClosingIsRefused = (cores seats : ℕ)
+    → (cores ≤ seats → ¬ IsUnclosedFor cores seats fault.MissingCores)
+    × (seats < cores → ¬ IsUnclosedFor cores seats fault.NoMemory)
+
+-- no cores are numbered where one has another number than its place
+abbrev pub NumberIsAnother : Type 0
+NumberIsAnother = (cores : List Core) (k : ℕ) (d : Core) → k < length cores
+    → number_of (slice_index_or cores k d) ≢ k → ¬ AreNumbered cores
