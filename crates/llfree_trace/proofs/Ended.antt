@@ -16,7 +16,7 @@ use Rattle.frame_core.specs.Events.{views_of}
 use Rattle.frame_core.specs.Holding.{holders, IsHolding}
 use Rattle.frame_core.specs.Image.{Contents}
 use Rattle.frame_core.specs.Key.{child_of, is_boot_frame, sealed_key}
-use Rattle.frame_core.specs.Laws.{HoldsJust}
+use Rattle.frame_core.specs.Laws.{AddsUp, HoldsJust}
 use Rattle.frame_core.specs.Moves.{HasSizes}
 use Rattle.frame_core.specs.Mover.{IsApart}
 use Rattle.frame_core.specs.Report.{held_at}
@@ -200,6 +200,14 @@ module _ (a : Allocator) (ds : List Desk) (image : Contents) (sealed : (memory_o
   image_is geometry ranges is =
       let sizes : HasSizes (sealed_key geometry ranges) image.geometry = subst (λ (k : Key). HasSizes k image.geometry) is closing.sizes in
       same_sizes image.geometry geometry sizes.0 sizes.1 sizes.2
+
+  -- its counters add up
+  pub adds_up : (geometry : Geometry) (lines : List Line) → memory_of a ≡ sealed_key geometry (ranges_in lines)
+      → AddsUp (key_under lines image) image.words
+  adds_up geometry lines is =
+      let same : image.geometry ≡ geometry = image_is geometry (ranges_in lines) is in
+      let under : memory_of a ≡ key_under lines image = is ∙ ap (λ (g : Geometry). sealed_key g (ranges_in lines)) (sym same) in
+      subst (λ (k : Key). AddsUp k image.words) under closing.tells.adds_up
 
   -- so the answers are those of a run of the records
   pub is_answered : (geometry : Geometry) (lines : List Line) (old new : Progress) → memory_of a ≡ sealed_key geometry (ranges_in lines)

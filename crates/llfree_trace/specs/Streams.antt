@@ -4,6 +4,7 @@ use Rattle.std.specs.Prelude.{IfSome, IsErrOf, IsSomeAnd}
 use Rattle.core_frames.specs.Ranges.{MayHoldBack}
 use Rattle.std.specs.Io.KnownBytes.{Appends}
 use Rattle.frame_core.specs.Image.{Contents, key_in}
+use Rattle.frame_core.specs.Laws.{AddsUp}
 use Rattle.frame_core.specs.Report.{free_frames, held_frames}
 use Rattle.frame_image.specs.Devices.{WritesFront}
 use Rattle.frame_image.specs.ImageText.{drawn, picture_of}
@@ -13,7 +14,7 @@ use Rattle.frame_words.specs.declared.fault.Fault.TheVariants as fault
 use Rattle.frame_words.specs.declared.geometry.Geometry.{Geometry}
 use Rattle.trace_text.specs.AnswerText.{answers_of}
 use Rattle.held_blocks.specs.Desk.{MayRefuse}
-use Rattle.llfree_trace.specs.Outcome.{IsAnsweredBy, MustRefuseHere}
+use Rattle.llfree_trace.specs.Outcome.{IsAnsweredBy, MustRefuseHere, key_under}
 use Rattle.trace_text.specs.Trace.{ranges_in}
 use Rattle.trace_text.specs.TraceText.{ExplainsTrace, trace_of}
 use Rattle.trace_text.specs.declared.line.Line.{Line}
@@ -33,7 +34,7 @@ shown_of show.Answers answers image = outcome_answers answers image
 shown_of show.Picture answers image = picture_of (drawn image)
 
 -- the bytes show an outcome that fits what the text says as a trace, whose ranges may be held back;
--- a take is refused in it only where no block of its order is free
+-- a take is refused in it only where no block of its order is free, and its image's counters add up
 pub record IsRunOf (geometry : Geometry) (show : Show) (text out : List ℕ) : Type 0 where
   pub lines : List Line
   pub answers : List Answer
@@ -43,6 +44,7 @@ pub record IsRunOf (geometry : Geometry) (show : Show) (text out : List ℕ) : T
   pub ranges : MayHoldBack geometry (ranges_in lines)
   pub fits : IsAnsweredBy MayRefuse lines answers image
   pub exact : IsAnsweredBy MustRefuseHere lines answers image
+  pub counters : AddsUp (key_under lines image) image.words
   pub spells : out ≡ shown_of show answers image
 
 -- the known bytes grow by such bytes

@@ -40,6 +40,7 @@ impl Model for PlainDesk {
 impl PlainDesk {
     ghost use Rattle.held_blocks.specs.Desk.{GivesExactly, GivesOldest, TakesUnder};
     ghost use Rattle.held_blocks.specs.Desk.{blocks_of};
+    ghost use Rattle.frame_core.specs.Laws.{AddsUp};
     ghost use Rattle.frame_core.specs.View.{boot_blocks};
     ghost use Rattle.llfree_trace.specs.Outcome.{DeskStep, HoldsFrames, SaysGiven, SaysTaken};
     ghost use Rattle.llfree_trace.specs.Outcome.{LeavesBootFrames, MustRefuseHere};
@@ -177,6 +178,7 @@ impl PlainDesk {
         ensures geometry { IfOk result (λ i. i.geometry ≡ self.geometry) }
         ensures holds { IfOk result (λ i. HoldsFrames (desk_key self) i.words
             (blocks_of self.list ++ boot_blocks (desk_key self))) }
+        ensures counters { IfOk result (λ i. AddsUp (desk_key self) i.words) }
         ensures fault { IfErr result (λ e. e ≡ Fault.NoMemory) }
     {
         match self.allocator.close(alloc) {

@@ -2,8 +2,9 @@
 
 ghost use Rattle.std.specs.Prelude.{◌≡◌, ◌≤◌, IfErr, IfOk};
 ghost use Rattle.core_frames.specs.Ranges.{IsUnopenedFor, MayHoldBack};
+ghost use Rattle.frame_core.specs.Laws.{AddsUp};
 ghost use Rattle.held_blocks.specs.Desk.{MayRefuse};
-ghost use Rattle.llfree_trace.specs.Outcome.{IsAnsweredBy};
+ghost use Rattle.llfree_trace.specs.Outcome.{IsAnsweredBy, key_under};
 ghost use Rattle.trace_text.specs.Trace.{core_count, ranges_in};
 
 use crate::gate::Gate;
@@ -32,6 +33,7 @@ pub fn run_trace<G: Gate, R: Threads + Wait>(
 ) -> Result<Outcome, Fault>
     requires { core_count trace.now ≤ geometry.cores }
     ensures fits { IfOk result (λ o. IsAnsweredBy MayRefuse trace.now o.answers.items o.image) }
+    ensures counters { IfOk result (λ o. AddsUp (key_under trace.now o.image) o.image.words) }
     ensures geometry { IfOk result (λ o. o.image.geometry ≡ geometry) }
     ensures lawful { IfOk result (λ o. MayHoldBack geometry (ranges_in trace.now)) }
     ensures refused { IfErr result (IsUnopenedFor geometry (ranges_in trace.now)) }

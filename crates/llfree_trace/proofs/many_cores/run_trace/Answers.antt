@@ -5,7 +5,7 @@ use Rattle.frame_model.specs.declared.key.Key.{Key}
 use Rattle.core_frames.specs.Desks.{core_of}
 use Rattle.trace_text.specs.Trace.{ranges_in}
 use Rattle.trace_text.proofs.Cores.{cores_in_at}
-use Rattle.llfree_trace.proofs.Ended.{image_is, is_answered}
+use Rattle.llfree_trace.proofs.Ended.{adds_up, image_is, is_answered}
 use Rattle.llfree_trace.proofs.NewDesks.{all_cores, none_lent}
 use Rattle.llfree_trace.proofs.many_cores.run_trace.Goals as goal
 
@@ -44,3 +44,13 @@ returns-in-Ok-clause-geometry g c =
     image_is a c.in_ok-end.end.desks.items c.in-Ok.image (ap (λ (k : Key). k.sealed) opened.memory) goes.desks closing
     (goes.lent ∙ none_lent a c.in_ok-desks.desks.items c.in_ok-allocator.cores.items c.in_ok-desks.ensures.cores opened.each)
     c.args.geometry (ranges_in c.args.trace.now) (opened.memory ∙ ap (sealed_key c.args.geometry) c.ranges-2.ensures)
+
+pub returns-in-Ok-clause-counters : goal.returns-in-Ok-clause-counters
+returns-in-Ok-clause-counters g c =
+    let a = c.in_ok-allocator.allocator in
+    let opened = c.in_ok-allocator.ensures.opened in
+    let goes = c.in_ok-end.ensures.goes in
+    let closing = rw c.in_ok-cores.ensures.cores at c.in-Ok.ensures.ok in
+    adds_up a c.in_ok-end.end.desks.items c.in-Ok.image (ap (λ (k : Key). k.sealed) opened.memory) goes.desks closing
+    (goes.lent ∙ none_lent a c.in_ok-desks.desks.items c.in_ok-allocator.cores.items c.in_ok-desks.ensures.cores opened.each)
+    c.args.geometry c.args.trace.now (opened.memory ∙ ap (sealed_key c.args.geometry) c.ranges-2.ensures)

@@ -17,5 +17,6 @@ returns-clause-ok g c =
       of = c.in_ok-outcome.ensures.geometry;
       ranges = c.in_ok-outcome.ensures.lawful;
       fits = c.in_ok-outcome.ensures.fits;
+      counters = c.in_ok-outcome.ensures.counters;
       spells = spells;
     }) c.shown_apart.ensures.text

@@ -85,3 +85,9 @@ returns-clause-fits c =
       disjoint = exact.disjoint;
       holds = exact.holds;
     }
+
+pub returns-clause-counters : goal.returns-clause-counters
+returns-clause-counters c =
+    let inv = c.loop-line.invariant in
+    let same = c.in_ok-image.ensures.geometry ∙ inv.geometry in
+    rw same (rw (inv.geometry, inv.ranges) at c.in_ok-image.ensures.counters)
