@@ -20,7 +20,7 @@ take_huge-requires g c =
       seen = load.here;
       may = can_take_huge (M.at c.load-seen.new.self).key (M.at c.args.m.now).key v w c.args.child c.load-seen.result c.lane.result
           (load.keeps.same_key ∙ was.keeps.same_key) before c.requires.child c.requires.charged c.requires.own c.requires.paid
-          c.lane.ensures.value c.if-lane-ne-WHOLE.false;
+          c.lane.ensures.value (omega (arith, c.if-lane-ne-WHOLE.false));
     }
 
 pub returns-then-lane-ne-WHOLE : goal.returns-then-lane-ne-WHOLE
