@@ -2,7 +2,7 @@
 # Tries the library for C, which it builds where it has to: the header names what the library exports, as
 # C and as C++; the library asks for nothing but a heap; and the programs of examples/c and tools/c run,
 # plainly and under what the compiler has to watch over memory, or just with the flags that are named. One
-# is built with what pkg-config answers, and one is in Rust. What the machine lacks is said and left out.
+# is in C++, one built with what pkg-config answers, and one is in Rust. What the machine lacks is said and left out.
 # The last line counts what was tried.
 set -eu
 root=$(cd "$(dirname "$0")/.." && pwd)
@@ -35,9 +35,13 @@ if nm -u "$library" | awk 'NF == 2 { print $2 }' | grep -vxE 'mem(cpy|move|set|c
 fi
 passes 'what the library asks for'
 
+# is_here LANGUAGE: a compiler for it
+is_here() {
+    echo 'int main(void) { return 0; }' | "$cc" -x "$1" -o "$folder/empty" - 2>/dev/null
+}
 for language in c c++; do
     name="the header in $language"
-    echo 'int main(void) { return 0; }' | "$cc" -x "$language" -o "$folder/empty" - 2>/dev/null || { echo "$name: not here"; continue; }
+    is_here "$language" || { echo "$name: not here"; continue; }
     printf '#include "llfree.h"\nint main(void) { llfree_plain h = LLFREE_CLOSED; llfree_plain_close(&h);
         llfree_core c = LLFREE_CLOSED; llfree_close(&c); }\n' |
         "$cc" -x "$language" -Wall -Wextra -Werror -I"$root/include" -c -o "$folder/header.o" - || fails "$name: not compiled"
@@ -63,6 +67,14 @@ for source in "$root"/examples/c/*.c "$root"/tools/c/*.c; do
         "$cc" "$flags" -Wall -Wextra -Werror -I"$root/include" -o "$folder/program" "$source" "${with[@]}" || fails "$name: not built"
         runs "$name" "$source"
     done
+done
+
+for source in "$root"/tools/c/*.cpp; do
+    name=$(basename "$source")
+    is_here c++ || { echo "$name: not here"; continue; }
+    "$cc" -Wall -Wextra -Werror -I"$root/include" -o "$folder/program" -x c++ "$source" -x none "$library" "$heap" ||
+        fails "$name: not built"
+    runs "$name" "$source"
 done
 
 source=$root/examples/c/first.c

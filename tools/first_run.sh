@@ -1,0 +1,361 @@
+#!/usr/bin/env bash
+# Tries what ./llfree, tools/c_library.sh and examples/c/Makefile build, and when they do so again, in a small
+# tree with a stand-in for rt: sources that are edited, deleted or renamed, also while they are built, another
+# kit, a crate that fails, interrupts, a clone that cannot be written to, and words that are no command. Nothing is
+# proved. The last line counts what was tried.
+set -u
+root=$(cd "$(dirname "$0")/.." && pwd)
+. "$root/tools/sources.sh"
+work=$(mktemp -d)
+trap 'rm -rf "$work"' EXIT
+tree=$work/tree
+kit=$work/kit
+passed=0
+failed=0
+unset LLFREE_UNPROVED RT_BACKEND
+
+# holds NAME COMMAND..: the row passes where the command holds
+holds() {
+    local name=$1
+    shift
+    if "$@"; then
+        passed=$((passed + 1))
+        return
+    fi
+    failed=$((failed + 1))
+    echo "first_run: $name: not so: $*; status ${status:-}, calls: $(calls); output and errors:"
+    head -n 5 "$work/output" "$work/errors"
+}
+
+# a kit whose rt says what it was called for, does what a hook of the crate says, and builds a file of the sources
+makes_kit() {
+    mkdir -p "$kit/bin" "$kit/rlibs" "$kit/c"
+    echo 'stand-in 1' >"$kit/KIT-ID"
+    : >"$kit/calls"
+    cat >"$kit/bin/rt" <<'RT'
+#!/usr/bin/env bash
+set -eu
+kit=$(cd "$(dirname "$0")/.." && pwd)
+name=$(basename "$PWD")
+case $1 in
+    doc) echo "$kit/START-HERE.md"; exit ;;
+    try) shift 2; echo "try $*" >>"$kit/calls"; echo "tried $*"; exit ;;
+    ci)
+        mkdir -p crates/low/out/rlib/low.rlib crates/mid/out/rlib/mid.rlib crates/llfree/out
+        printf '#!/bin/sh\n' >crates/llfree/out/llfree
+        chmod +x crates/llfree/out/llfree
+        if [ -e "$kit/hook.ci" ]; then . "$kit/hook.ci"; fi
+        printf '%s\n' 'a line' '3 passed, 0 failed'
+        exit ;;
+esac
+echo "$1 $name" >>"$kit/calls"
+before=$(cat ../*/src/*.rt)
+if [ -e "$kit/hook.$name" ]; then . "$kit/hook.$name"; fi
+mkdir -p out/rlib
+case $1 in
+    lib)
+        echo "$before" >out/lib$name.a
+        mkdir -p "out/rlib/$name.rlib"
+        : >out/rlib/stamp ;;
+    run)
+        printf '#!/bin/sh\necho "%s: $*"\n' "$(echo $before)" >out/$name
+        chmod +x out/$name ;;
+esac
+RT
+    cat >"$kit/bin/rattle" <<'RATTLE'
+#!/usr/bin/env bash
+kit=$(cd "$(dirname "$0")/.." && pwd)
+echo rattle >>"$kit/calls"
+: >"${!#}"
+RATTLE
+    chmod +x "$kit/bin/rt" "$kit/bin/rattle"
+    chmod -R a+rX "$work"
+    chmod a+w "$kit/calls"
+}
+
+# a tree with a library that nothing uses
+makes_tree() {
+    rm -rf "$tree" "$kit"/hook.*
+    mkdir -p "$tree/tools" "$tree/examples/c"
+    cp "$root/llfree" "$tree"
+    cp "$root"/tools/{build,c_library,static_library,sources}.sh "$tree/tools"
+    cp "$root"/examples/c/{Makefile,llfree.pc.in} "$tree/examples/c"
+    echo 'Handles allowed: none.' >"$tree/HANDLES"
+    printf '%s\n' 'low: std' 'mid: low # and no more' 'other: low' 'llfree: mid low' 'llfree_c staticlib: mid low' >"$tree/crates.txt"
+    local name
+    for name in low mid other llfree llfree_c; do
+        mkdir -p "$tree/crates/$name/src" "$tree/crates/$name/specs"
+        echo "$name" >"$tree/crates/$name/src/lib.rt"
+        echo "$name" >"$tree/crates/$name/specs/Lib.antt"
+    done
+    mv "$tree/crates/llfree/src/lib.rt" "$tree/crates/llfree/src/main.rt"
+    chmod -R a+rX "$tree"
+}
+
+# runs COMMAND..: in the tree, with the stand-in
+runs() {
+    : >"$kit/calls"
+    status=0
+    (cd "$tree" && PATH=$kit/bin:/usr/bin:/bin "$@") >"$work/output" 2>"$work/errors" </dev/null || status=$?
+}
+
+calls() {
+    echo $(cat "$kit/calls")
+}
+
+says() {
+    grep -qF -e "$1" "$work/errors"
+}
+
+is() {
+    [ "$1" = "$2" ]
+}
+
+# the three targets: what is run, what rt is called for, and what it leaves
+target() {
+    case $1 in
+        program) words=(./llfree run 1 1) built='lib low lib mid run llfree' product=crates/llfree/out/llfree ;;
+        library) words=(tools/c_library.sh) built='lib low lib mid lib llfree_c' product=crates/llfree_c/out/libllfree_c.a ;;
+        make) words=(make -s -C examples/c llfree.pc) built='lib low lib mid lib llfree_c' product=crates/llfree_c/out/libllfree_c.a ;;
+    esac
+}
+
+builds() {
+    runs "${words[@]}"
+    holds "$1" is "$status, $(calls)" "0, $built"
+}
+
+builds_nothing() {
+    runs "${words[@]}"
+    holds "$1" is "$status, $(calls)" '0, '
+}
+
+# one target: what is changed is built again, once
+changes() {
+    target "$1"
+    makes_tree
+    builds "$1: in a fresh clone"
+    holds "$1: what it costs is said" says 'crates; with nothing kept'
+    builds_nothing "$1: again"
+    # as many bytes as before, and no new name
+    echo lew >"$tree/crates/low/src/lib.rt"
+    builds "$1: after an edit"
+    [ "$1" != program ] || holds "$1: the edit is in it" grep -q lew "$work/output"
+    builds_nothing "$1: after an edit, again"
+    rm "$tree/crates/mid/specs/Lib.antt"
+    builds "$1: after a file was deleted"
+    mv "$tree/crates/low/specs/Lib.antt" "$tree/crates/low/specs/Low.antt"
+    builds "$1: after a file was renamed"
+    : >"$tree/crates/low/specs/New.antt"
+    touch -d @0 "$tree/crates/low/specs/New.antt"
+    builds "$1: after an old file came"
+    echo 'other: low mid' >>"$tree/crates.txt"
+    builds "$1: after crates.txt changed"
+    echo 'stand-in 2' >"$kit/KIT-ID"
+    builds "$1: with another kit"
+    rm "$tree/$product"
+    builds "$1: after what was built is gone"
+    cp "$tree/$product" "$work/product"
+    cp "$work/product" "$tree/$product"
+    builds "$1: after another was laid in its place"
+    builds_nothing "$1: after all that, again"
+
+    echo 'echo mad >../low/src/lib.rt' >"$kit/hook.mid"
+    echo low >"$tree/crates/low/src/lib.rt"
+    builds "$1: edited while it is built"
+    holds "$1: that is said" says 'changed while it was built'
+    rm "$kit/hook.mid"
+    builds "$1: next after an edit while it was built"
+    [ "$1" != program ] || holds "$1: that edit is in it" grep -q mad "$work/output"
+    builds_nothing "$1: and again"
+    # put back as it was, with its time
+    cp -p "$tree/crates/low/src/lib.rt" "$work/low"
+    echo 'cp -p '"$work/low"' ../low/src/lib.rt; touch ../low/src/lib.rt' >"$kit/hook.mid"
+    echo new >"$tree/crates/low/src/lib.rt"
+    builds "$1: edited back while it is built"
+    rm "$kit/hook.mid"
+    cp -p "$work/low" "$tree/crates/low/src/lib.rt"
+    builds "$1: next after that"
+
+    echo 'exit 1' >"$kit/hook.mid"
+    cp -p "$tree/crates/low/src/lib.rt" "$work/low"
+    echo bad >"$tree/crates/low/src/lib.rt"
+    runs "${words[@]}"
+    holds "$1: a crate fails" is "$(calls)" 'lib low lib mid'
+    holds "$1: and its status" is "$status" "$([ "$1" = make ] && echo 2 || echo 4)"
+    holds "$1: and it is said" says 'not proved'
+    holds "$1: and nothing is run" is "$(cat "$work/output")" ''
+    runs "${words[@]}"
+    holds "$1: a crate fails once more" is "$(calls)" 'lib low lib mid'
+    rm "$kit/hook.mid"
+    # the old program is there, and so are its sources, with their old times: but what rt has made since is not known
+    cp -p "$work/low" "$tree/crates/low/src/lib.rt"
+    builds "$1: after the edit that failed was taken back"
+
+    local signal
+    for signal in INT TERM; do
+        cp -p "$tree/crates/low/src/lib.rt" "$work/low"
+        echo out >"$tree/crates/low/src/lib.rt"
+        echo 'kill -'$signal' "$PPID"; sleep 5; echo "late $name" >>"$kit/calls"; exit 1' >"$kit/hook.mid"
+        runs env --default-signal=INT "${words[@]}"
+        holds "$1: $signal" is "$(calls)" 'lib low lib mid'
+        holds "$1: $signal: and nothing is run" is "$(cat "$work/output")" ''
+        holds "$1: $signal: and it is said" says 'stopped'
+        [ "$1" != program ] || holds "$1: $signal: its status" is "$status" "$([ $signal = INT ] && echo 130 || echo 143)"
+        rm "$kit/hook.mid"
+        cp -p "$work/low" "$tree/crates/low/src/lib.rt"
+        builds "$1: next after $signal"
+    done
+}
+
+# a tree with the gate, whose other parts have a row each
+makes_gate() {
+    local name
+    makes_tree
+    mkdir "$tree/.ci"
+    cp "$root/.ci/run" "$tree/.ci"
+    for name in answers.sh refusals.py fuzz.py c.sh kernel.sh first_run.sh; do
+        printf '#!/bin/sh\necho "1 passed, 0 failed"\n' >"$tree/tools/$name"
+        chmod +x "$tree/tools/$name"
+    done
+}
+
+# what .ci/run leaves counts: the program, and the libraries below the one for C, of which just that is proved again
+after_ci() {
+    makes_gate
+    echo 'echo mad >crates/low/src/lib.rt' >"$kit/hook.ci"
+    runs .ci/run
+    rm "$kit/hook.ci"
+    target library
+    builds 'library: edited while .ci/run proved'
+    makes_gate
+    runs .ci/run
+    holds '.ci/run' is "$status, $(tail -n 1 "$work/output")" '0, 10 passed, 0 failed'
+    target program
+    builds_nothing 'program: after .ci/run'
+    target library
+    built=rattle
+    builds 'library: after .ci/run'
+    builds_nothing 'library: after .ci/run, again'
+    echo new >"$tree/crates/low/src/lib.rt"
+    target library
+    builds 'library: after .ci/run and an edit'
+    target program
+    builds 'program: after .ci/run and an edit'
+}
+
+# what no program has to be built for
+words_alone() {
+    makes_tree
+    local said line words usage
+    runs ./llfree
+    usage=$(cat "$work/errors")
+    holds 'no words' is "$status, $(calls), $(cat "$work/output")" '2, , '
+    runs ./llfree foo
+    holds 'a word that is no command' is "$status, $(calls), $(cat "$work/output" "$work/errors")" "2, , $usage"
+    if [ -x "$root/crates/llfree/out/llfree" ]; then
+        "$root/crates/llfree/out/llfree" >"$work/output" 2>"$work/errors"
+        holds 'the usage of the script and of the program' is "$(cat "$work/errors")" "$usage"
+    else
+        echo 'the usage of the program: it is not built here'
+    fi
+    # just what the program has as no command; what it refuses for its sizes is its own
+    while read -r said line; do
+        eval "words=($line)"
+        runs env LLFREE_UNPROVED=1 ./llfree "${words[@]}"
+        if [ "$said" = usage ]; then
+            holds "no command: $line" is "$status, $(calls), $(cat "$work/errors")" "2, , $usage"
+        else
+            holds "a command: $line" is "$status, $(calls)" "0, try $line"
+        fi
+    done < <(grep -v '^#' "$root/tools/refused/commands.txt"; printf '%s\n' 'of run 1 1' 'of run 000000001 64' 'of run 1 1 512' \
+        'of image 4096 64 1' 'of rebuild' 'of report' "usage run 1 $'\\xff'" 'usage run 1 1 -1' 'usage run 1 +1')
+}
+
+unproved() {
+    target program
+    makes_tree
+    runs env LLFREE_UNPROVED=1 ./llfree run 1 1
+    holds 'LLFREE_UNPROVED=1' is "$status, $(calls), $(cat "$work/output")" '0, try run 1 1, tried run 1 1'
+    holds 'LLFREE_UNPROVED=1 is said' says 'not proved'
+    words=(env LLFREE_UNPROVED=0 ./llfree run 1 1)
+    builds 'LLFREE_UNPROVED=0 is not set'
+    words=(env LLFREE_UNPROVED= ./llfree run 1 1)
+    builds_nothing 'LLFREE_UNPROVED with no word is not set'
+}
+
+without_rt() {
+    if PATH=/usr/bin:/bin command -v rt >/dev/null; then
+        echo 'with no rt on the PATH: it is where all commands are'
+        return
+    fi
+    target program
+    makes_tree
+    words=(env PATH=/usr/bin:/bin ./llfree run 1 1)
+    runs "${words[@]}"
+    holds 'with no rt' is "$status, $(wc -l <"$work/errors")" '4, 1'
+    runs ./llfree run 1 1
+    builds_nothing 'with no rt, once it is built'
+    echo new >"$tree/crates/low/src/lib.rt"
+    runs "${words[@]}"
+    holds 'with no rt, after an edit' is "$status, $(wc -l <"$work/errors")" '4, 1'
+}
+
+# in a clone that cannot be written to; root can write everywhere, and is nobody for these rows
+unwritable() {
+    local nobody=()
+    if [ "$(id -u)" = 0 ]; then
+        nobody=(setpriv --reuid=65534 --regid=65534 --clear-groups)
+        if ! "${nobody[@]}" test -r "$tree/llfree" 2>/dev/null; then
+            echo 'a clone that cannot be written to: root cannot be kept from writing here'
+            return
+        fi
+    fi
+    makes_tree
+    chmod -R a-w "$tree"
+    local one
+    for one in program library make; do
+        target $one
+        [ $one != make ] || continue
+        runs "${nobody[@]}" "${words[@]}"
+        holds "$one: unwritable" is "$status, $(calls), $(wc -l <"$work/errors")" '4, , 1'
+        holds "$one: unwritable: the way out" says 'copy the repository'
+    done
+    runs "${nobody[@]}" env LLFREE_UNPROVED=1 ./llfree run 1 1
+    holds 'unwritable: LLFREE_UNPROVED=1' is "$status, $(calls)" '0, try run 1 1'
+    chmod -R u+w "$tree"
+    target program
+    builds 'program: writable again'
+    chmod -R a-w "$tree"
+    runs "${nobody[@]}" "${words[@]}"
+    holds 'program: built, and unwritable' is "$status, $(calls)" '0, '
+    chmod -R u+w "$tree"
+    echo new >"$tree/crates/low/src/lib.rt"
+    chmod -R a-w "$tree"
+    runs "${nobody[@]}" "${words[@]}"
+    holds 'program: built, edited, and unwritable' is "$status, $(calls), $(wc -l <"$work/errors")" '4, , 1'
+    chmod -R u+w "$tree"
+}
+
+# how long it takes to see that nothing changed in this repository; nothing is judged by it
+rerun() {
+    local before after
+    sources "$root" >"$work/lines"
+    before=$(date +%s%N)
+    sources "$root" | are_same "$work/lines"
+    after=$(date +%s%N)
+    echo "to see that nothing changed in $(wc -l <"$work/lines") files takes $(((after - before) / 1000000)) ms"
+}
+
+makes_kit
+changes program
+changes library
+if command -v make >/dev/null; then changes make; else echo 'make: not here'; fi
+after_ci
+words_alone
+unproved
+without_rt
+unwritable
+rerun
+echo "$passed passed, $failed failed"
+[ "$failed" = 0 ]

@@ -1,0 +1,49 @@
+# Functions for sh: what was read for a built file is kept beside it, and compared before it is taken again.
+# A record, FILE.sources, has a line for each source with its size and its time, for what else decides a build,
+# and last for the built file itself. It is written once all is proved, of what stood there before.
+
+# sources TOP [RECORD]: the lines of now. The kit's are those of its identity file and its programs, since
+# rt version takes half a second; where no rt is on the PATH, those of the record.
+sources() {
+    echo "backend ${RT_BACKEND:-}"
+    if kit=$(command -v rt); then
+        kit=$(readlink -f -- "$kit")
+        kit=${kit%/*/*}
+        if [ -e "$kit/KIT-ID" ]; then
+            read -r line <"$kit/KIT-ID"
+            echo "kit $line"
+            find "$kit/KIT-ID" "$kit/bin/rt" "$kit/bin/rattle" -printf 'kit %p %s %T@\n' 2>/dev/null
+        else
+            echo "kit $(rt version)"
+        fi
+    elif [ -n "${2:-}" ]; then
+        awk '$1 == "kit"' "$2"
+    fi
+    (cd "$1" && find llfree tools/build.sh tools/*_library.sh tools/sources.sh HANDLES crates.txt crates -name out -prune -o \
+        \( ! -path 'crates/*' -o -name '*.rt' -o -name '*.antt' \) ! -type d -printf '%p %s %T@\n' 2>/dev/null)
+}
+
+# stamp FILE: the last line of its record
+stamp() {
+    find "$1" -printf 'built %s %T@\n'
+}
+
+# are_same RECORD: it has just the lines of standard input, in any order
+are_same() {
+    [ -z "$(cat - "$1" | LC_ALL=C sort | uniq -u | head -n 1)" ]
+}
+
+# is_current TOP FILE: it is there, and was built from what stands there now
+is_current() {
+    [ -e "$2" ] && [ -e "$2.sources" ] && { sources "$1" "$2.sources"; stamp "$2"; } | are_same "$2.sources"
+}
+
+# keep LINES FILE: the file was built from what this file of lines tells
+keep() {
+    { cat "$1"; stamp "$2"; } >"$2.sources.$$" && mv -f "$2.sources.$$" "$2.sources"
+}
+
+# forget FILE: what it was built from is not known
+forget() {
+    rm -f "$1.sources"
+}
