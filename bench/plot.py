@@ -1,0 +1,241 @@
+#!/usr/bin/env python3
+"""Draws what a script of bench/ has measured: how many pairs of a take and a give a second, over threads.
+
+    bench/plot.py bench/results/FILE [--only GROUP ..] > PLOT.svg
+    bench/plot.py --measure allocator|c [--only GROUP ..] > PLOT.svg
+
+A file of bench/results has lines `# machine:`, `# date:`, `# method:` and then the table as the script prints it,
+with a line for each number of threads. A group is an order, or a kind of work and an order (`random,mixed`); with
+none named all are drawn. --measure runs the script first, which takes its time, and lays down such a file.
+"""
+import argparse
+import datetime
+import math
+import os
+import re
+import subprocess
+import sys
+import textwrap
+
+HERE = os.path.dirname(os.path.abspath(__file__))
+WIDTH, ACROSS, PANEL_WIDTH, PANEL_HEIGHT, LEFT = 860, 3, 230, 190, 44
+TEXT, GRID = '#24292f', '#dfe4e9'
+FONT = 'font-family="DejaVu Sans, Verdana, sans-serif"'
+# a column of a table, what it is called, and its colour
+ALLOCATORS = (
+    ('llfree', 'LLFree', '#b3123f'),
+    ('unchecked', 'LLFree, blocks in structs', '#e27a97'),
+    ('own', 'LLFree, from Rust', '#7a3b4d'),
+    ('plain', 'LLFree for one thread', '#9a8f93'),
+    ('reference', 'lock-free in plain Rust', '#336fa5'),
+    ('malloc', 'malloc', '#7a5ea8'),
+    ('buddy', 'buddy, mutex', '#e08a1e'),
+    ('bitmap', 'bitmap, mutex', '#4f8f3a'),
+)
+
+
+class Fault(Exception):
+    """Why nothing can be drawn, in one sentence."""
+
+
+# Tables
+
+
+def cells_of(text):
+    """The words of a line with the columns that they end at; a unit belongs to the word before it."""
+    return [(match[0], match.end()) for match in re.finditer(r'\S+(?: ns)?', text)]
+
+
+def rows_of(table):
+    """The rows of a table, each a cell by the name of its column. The columns are flush right, but for the first."""
+    head, *lines = table
+    ends = {end: name for name, end in cells_of(head)}
+    first = cells_of(head)[0][0]
+    for line in lines:
+        row = {}
+        for match in re.finditer(r'\S+', line):
+            name = first if match.start() == 0 else ends.get(match.end())
+            if name is not None:
+                row[name] = match[0]
+        yield row
+
+
+def group_of(row):
+    return ','.join(row[name] for name in ('work', 'trees', 'order') if name in row)
+
+
+def result_of(text):
+    """What is said of a measurement, and of each group, of each allocator, the pairs a second by threads."""
+    said = dict(re.findall(r'^# (\w+): (.*)$', text, re.MULTILINE))
+    table = [line for line in text.splitlines() if line and not line.startswith('#')]
+    if not {'machine', 'date', 'method'} <= said.keys() or not table:
+        raise Fault('a result has lines "# machine:", "# date:" and "# method:", and then a table')
+    groups = {}
+    for row in rows_of(table):
+        if 'threads' not in row:
+            continue
+        figures, threads = groups.setdefault(group_of(row), {}), int(row['threads'])
+        for column, _, _ in ALLOCATORS:
+            if f'{column} ns' in row:
+                figures.setdefault(column, []).append((threads, 1000 * threads / float(row[f'{column} ns'])))
+    if not groups:
+        raise Fault('the table has no column "threads"')
+    return said, groups
+
+
+# The plot
+
+
+def title_of(group):
+    """A group in words."""
+    *kind, order = group.split(',')
+    kinds = {'pairs': 'take and give', 'fill': 'fill and empty', 'random': 'random, half held'}
+    words = 'mixed orders' if order == 'mixed' else f'order {order}'
+    return ', '.join([kinds.get(word, word) for word in kind] + [words])
+
+
+def ticks(least, most):
+    """The round numbers of a logarithmic axis, from one below the least to one above the most."""
+    steps = [step * 10.0 ** power for power in range(-4, 7) for step in (1, 2, 5)]
+    low = max(step for step in steps if step <= least)
+    high = min(step for step in steps if step >= most)
+    return [step for step in steps if low <= step <= high]
+
+
+class Panel:
+    """Where the points of a group are: threads to the right, the logarithm of pairs a second upward."""
+
+    def __init__(self, place, top, threads, axis):
+        self.left = LEFT + place % ACROSS * (PANEL_WIDTH + 42)
+        self.top = top + 24 + place // ACROSS * (PANEL_HEIGHT + 70)
+        self.threads, self.axis = threads, axis
+
+    def right_of(self, threads):
+        at = self.threads.index(threads)
+        return self.left + 16 + at * (PANEL_WIDTH - 32) / max(1, len(self.threads) - 1)
+
+    def height_of(self, figure):
+        low, high = math.log10(self.axis[0]), math.log10(self.axis[-1])
+        return self.top + PANEL_HEIGHT * (high - math.log10(figure)) / (high - low)
+
+    def frame(self, title):
+        yield (f'<text x="{self.left}" y="{self.top - 10}" font-size="13" font-weight="bold" fill="{TEXT}">'
+               f'{title}</text>')
+        for tick in self.axis:
+            height = self.height_of(tick)
+            yield f'<path d="M{self.left} {height:.1f}h{PANEL_WIDTH}" stroke="{GRID}"/>'
+            yield (f'<text x="{self.left - 5}" y="{height + 4:.1f}" font-size="11" text-anchor="end" fill="{TEXT}">'
+                   f'{tick:g}</text>')
+        for threads in self.threads:
+            yield (f'<text x="{self.right_of(threads):.1f}" y="{self.top + PANEL_HEIGHT + 16}" font-size="11" '
+                   f'text-anchor="middle" fill="{TEXT}">{threads}</text>')
+        yield (f'<text x="{self.left + PANEL_WIDTH // 2}" y="{self.top + PANEL_HEIGHT + 31}" font-size="11" '
+               f'text-anchor="middle" fill="{TEXT}">threads</text>')
+
+    def line(self, points, colour, width):
+        places = [(self.right_of(threads), self.height_of(figure)) for threads, figure in points]
+        path = ' '.join(f'{right:.1f},{height:.1f}' for right, height in places)
+        yield f'<polyline points="{path}" fill="none" stroke="{colour}" stroke-width="{width}"/>'
+        for right, height in places:
+            yield f'<circle cx="{right:.1f}" cy="{height:.1f}" r="{width // 2 + 2}" fill="{colour}"/>'
+
+
+def key(columns, height):
+    """The names of the lines."""
+    right = 10
+    for column, name, colour in ALLOCATORS:
+        if column in columns:
+            yield f'<path d="M{right} {height - 4}h22" stroke="{colour}" stroke-width="3"/>'
+            yield f'<text x="{right + 27}" y="{height}" font-size="12" fill="{TEXT}">{name}</text>'
+            right += 46 + 7 * len(name)
+
+
+def escaped(text):
+    return text.replace('&', '&amp;').replace('<', '&lt;').replace('>', '&gt;')
+
+
+def plot(said, groups):
+    figures = [point for group in groups.values() for points in group.values() for point in points]
+    axis = ticks(min(figure for _, figure in figures), max(figure for _, figure in figures))
+    threads = sorted({count for count, _ in figures})
+    told = textwrap.wrap(f'{said["date"]}, {said["machine"]}: {said["method"]}', 140)
+    top = 76 + 15 * len(told)
+    height = top + -(-len(groups) // ACROSS) * (PANEL_HEIGHT + 70)
+    yield (f'<svg xmlns="http://www.w3.org/2000/svg" width="{WIDTH}" height="{height}" '
+           f'viewBox="0 0 {WIDTH} {height}" {FONT}>')
+    yield f'<rect width="{WIDTH}" height="{height}" fill="#ffffff"/>'
+    yield (f'<text x="10" y="24" font-size="15" fill="{TEXT}">A take and a give of page frames: '
+           'million pairs a second of all threads (logarithmic)</text>')
+    for place, text in enumerate(told):
+        yield f'<text x="10" y="{44 + 15 * place}" font-size="11" fill="{TEXT}">{escaped(text)}</text>'
+    yield from key({column for group in groups.values() for column in group}, top - 14)
+    for place, (group, lines) in enumerate(groups.items()):
+        panel = Panel(place, top, threads, axis)
+        yield from panel.frame(title_of(group))
+        for column, _, colour in ALLOCATORS:
+            if column in lines:
+                yield from panel.line(lines[column], colour, 4 if column == 'llfree' else 2)
+    yield '</svg>'
+
+
+# Measurements
+
+
+def machine():
+    """The processors of this machine, in words."""
+    with open('/proc/cpuinfo', encoding='utf-8') as text:
+        names = re.findall(r'^model name\s*: (.*)$', text.read(), re.MULTILINE)
+    return f'{os.cpu_count()} processors: {names[0] if names else "of a kind that is not told"}'
+
+
+def measured(name):
+    """Runs a script of this folder, lays its table down beside what is said of it, and answers that text."""
+    day = datetime.date.today().isoformat()
+    settings = [f'{word}={os.environ[word]}' for word in ('RUNS', 'ROUNDS', 'PAIRS', 'UNDER') if word in os.environ]
+    if sys.stderr.isatty():
+        print(f'plot: bench/{name}.sh measures; this takes some minutes', file=sys.stderr)
+    done = subprocess.run([os.path.join(HERE, f'{name}.sh')], stdout=subprocess.PIPE, text=True, check=False)
+    if done.returncode:
+        raise Fault(f'bench/{name}.sh ended with status {done.returncode}')
+    text = (f'# machine: {machine()}\n# date: {day}\n# method: {" ".join([*settings, f"bench/{name}.sh"])}, '
+            f'load {os.getloadavg()[0]:.1f} at the end\n{done.stdout}')
+    file = os.path.join(HERE, 'results', f'{name}-{day}.txt')
+    with open(file, 'w', encoding='utf-8') as out:
+        out.write(text)
+    print(f'plot: the table is in {os.path.relpath(file)}', file=sys.stderr)
+    return text
+
+
+def text_of(given):
+    if given.measure:
+        return measured(given.measure)
+    if given.file is None:
+        return sys.stdin.read()
+    try:
+        with open(given.file, encoding='utf-8') as text:
+            return text.read()
+    except OSError as error:
+        raise Fault(f'{given.file}: {error.strerror}') from error
+
+
+def main():
+    parser = argparse.ArgumentParser(description=__doc__.split('\n', maxsplit=1)[0])
+    parser.add_argument('file', nargs='?', help='a file of bench/results; standard input where none is named')
+    parser.add_argument('--measure', choices=('allocator', 'c'), help='measure first')
+    parser.add_argument('--only', nargs='+', metavar='GROUP', help="as '0', or 'pairs,0'")
+    given = parser.parse_args()
+    try:
+        said, groups = result_of(text_of(given))
+        for name in given.only or ():
+            if name not in groups:
+                raise Fault(f'there is no group {name}; there are {" ".join(groups)}')
+        groups = {name: groups[name] for name in given.only or groups}
+        print('\n'.join(plot(said, groups)))
+    except Fault as fault:
+        print(f'plot: {fault}', file=sys.stderr)
+        return 1
+    return 0
+
+
+if __name__ == '__main__':
+    sys.exit(main())
