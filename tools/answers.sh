@@ -156,6 +156,50 @@ core,0,,,"
     counts='0,512,0,0,0,0,0,0,0,0,0,0,0'
     writes 'the report of one' "$split\n" "tree,$counts
 all,,${counts#0,}" report
+    half_free
+    prefixes "$one"
+}
+
+# prefixes TEXT: of each front of an image's text, but the last, the record is named that is cut or missing;
+# the last lacks but a line feed, and is read as the whole
+prefixes() {
+    local text=$1 size whole=0 lacks
+    for ((size = 0; size < ${#text}; size++)); do
+        lacks=1
+        [ "${text:size:1}" != $'\n' ] || lacks=2
+        refuses "$size bytes of an image" 1 "llfree: bad image at record $((whole + lacks))" \
+            "${text:0:size}" rebuild
+        whole=$((whole + lacks - 1))
+    done
+    runs rebuild < <(printf '%s\n' "$text")
+    cp "$work/output" "$work/whole"
+    runs rebuild < <(printf '%s' "$text")
+    cp "$work/whole" "$work/output.expected"
+    : >"$work/errors.expected"
+    compares 'an image without its last line feed' 0
+}
+
+# half_free: every second frame of a child is held, and no two frames side by side are free: a take of two
+# is refused, once what rests with the core stands in the tree again
+half_free() {
+    local word fives=''
+    for ((word = 0; word < 8; word++)); do
+        fives+=5555555555555555
+    done
+    {
+        lines 512 '0,take,a,0'
+        seq -f '0,giveat,%.0f,0' 1 2 511
+        printf '0,take,b,1\n'
+    } >"$work/input"
+    runs image 1 1 <"$work/input"
+    cp "$work/output" "$work/image"
+    expects 'the image of every second frame' 0 "llfree,1,1,1,
+child,0,256,0,$fives
+tree,0,256,0,
+core,0,,," ''
+    runs report <"$work/image"
+    expects 'the report of every second frame' 0 "tree,0,256,256,256,0,0,0,0,0,0,0,0,0
+all,,256,256,256,0,0,0,0,0,0,0,0,0" ''
 }
 
 # rows FILE: the rows of a table, without its comments
