@@ -17,10 +17,12 @@ runs=${RUNS:-5}
 rustc --edition 2021 -O -o "$folder/reference" "$here/reference/allocator/main.rs"
 "$folder/reference" check
 
-for _ in $(seq "$runs"); do
+for run in $(seq "$runs"); do
+    shows "run $run of $runs"
     $under "$program" allocator "$pairs" "$rounds" >>"$folder/lines"
     $under "$folder/reference" "$pairs" "$rounds" >>"$folder/lines"
 done
+shows
 
 printf '%-7s %7s %5s %10s %12s %6s %9s %7s %10s %8s %10s\n' work threads order \
     'llfree ns' 'reference ns' ratio 'buddy ns' 'times' 'bitmap ns' 'times' million/s

@@ -18,10 +18,12 @@ runs=${RUNS:-15}
 "$top/tools/c_library.sh" >&2
 "${CC:-cc}" -O2 -Wall -Wextra -I"$top/include" -o "$folder/pairs" "$here"/c/*.c "$library" "$heap" -lpthread
 
-for _ in $(seq "$runs"); do
+for run in $(seq "$runs"); do
+    shows "run $run of $runs"
     $under "$program" allocator "$pairs" 1 | awk -F, '$1 == "pairs" { print $2 "," $3 ",own," $5 }' >>"$folder/lines"
     $under "$folder/pairs" "$pairs" 1 >>"$folder/lines"
 done
+shows
 
 printf '%7s %5s %10s %8s %6s %13s %6s %9s %10s %6s %9s %6s %9s %6s\n' threads order \
     'llfree ns' 'own ns' ratio 'unchecked ns' ratio 'plain ns' 'bitmap ns' times 'buddy ns' times 'malloc ns' times

@@ -4,6 +4,7 @@
 # crates/llfree/out/llfree. Each figure is the least of RUNS runs, of a whole process.
 set -eu
 here=$(cd "$(dirname "$0")" && pwd)
+. "$here/progress.sh"
 program=$here/../crates/llfree/out/llfree
 runs=${RUNS:-20}
 folder=$(mktemp -d)
@@ -15,7 +16,8 @@ rustc --edition 2021 -O -o "$folder/reference" "$here/reference/images.rs"
 # the least wall time of some runs, in microseconds
 least() {
     best=
-    for _ in $(seq "$runs"); do
+    for run in $(seq "$runs"); do
+        shows "run $run of $runs"
         start=$(date +%s%N)
         "$1" "$2" <"$folder/image.csv" >"$3"
         took=$((($(date +%s%N) - start) / 1000))
@@ -29,5 +31,6 @@ for command in rebuild report; do
     ours=$(least "$program" "$command" "$folder/ours")
     theirs=$(least "$folder/reference" "$command" "$folder/theirs")
     cmp -s "$folder/ours" "$folder/theirs" || { echo "$command: the outputs differ" >&2; exit 1; }
+    shows
     printf '%-28s %10d %12d %6s\n' "$command" "$ours" "$theirs" "$(awk "BEGIN { printf \"%.2f\", $ours / $theirs }")"
 done

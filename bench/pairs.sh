@@ -13,10 +13,12 @@ runs=${RUNS:-5}
 . "$here/two_programs.sh"
 rustc --edition 2021 -O -o "$folder/reference" "$here/reference/pairs.rs"
 
-for _ in $(seq "$runs"); do
+for run in $(seq "$runs"); do
+    shows "run $run of $runs"
     $under "$program" "$pairs" "$rounds" >>"$folder/ours"
     $under "$folder/reference" "$pairs" "$rounds" >>"$folder/theirs"
 done
+shows
 
 printf '%-10s %7s %5s %12s %12s %6s %14s\n' \
     trees threads order 'llfree ns' 'reference ns' ratio 'million/s'

@@ -10,6 +10,7 @@
 set -eu
 here=$(cd "$(dirname "$0")" && pwd)
 top=$(dirname "$here")
+. "$here/progress.sh"
 recording=${1:-$top/examples/replay/kernel-events.txt.gz}
 children=${CHILDREN:-64}
 repeats=${REPEATS:-15}
@@ -21,11 +22,12 @@ trap 'rm -rf "$folder"' EXIT
     "$here/c/bitmap.c" "$library" "$(dirname "$(rt doc)")/c/liblibc_c.a" -lpthread
 
 for threads in 1 2 3 4; do
-    [ ! -t 2 ] || echo "replay: $threads of 4 threads" >&2
+    shows "$threads of 4 threads"
     gzip -dc "$recording" | "$top/tools/kernel_trace.py" --cores "$threads" --slice 100000 \
         >"$folder/trace" 2>"$folder/counts" || { cat "$folder/counts" >&2; exit 1; }
     ${UNDER:-} "$folder/replay" "$threads" "$children" "$repeats" <"$folder/trace" >>"$folder/lines"
 done
+shows
 
 printf '%7s %10s %9s %6s %10s %6s %11s %10s %11s %12s\n' threads 'llfree ns' 'buddy ns' times 'bitmap ns' times \
     llfree-huge buddy-huge bitmap-huge refused

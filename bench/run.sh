@@ -3,6 +3,7 @@
 # It needs rustc and python3, and a built crates/llfree/out/llfree. Each figure is the least of RUNS runs.
 set -eu
 here=$(cd "$(dirname "$0")" && pwd)
+. "$here/progress.sh"
 program=$here/../crates/llfree/out/llfree
 runs=${RUNS:-5}
 folder=$(mktemp -d)
@@ -25,9 +26,11 @@ least() {
 
 printf '%-28s %10s %12s %6s\n' 'trace (1,000,000 records)' 'llfree ms' 'reference ms' ratio
 row() {
+    shows "$3"
     ours=$(least "$folder/$1.csv" "$folder/$1.ours" "$program" run "$2" 1)
     theirs=$(least "$folder/$1.csv" "$folder/$1.theirs" "$folder/reference" "$2")
     cmp -s "$folder/$1.ours" "$folder/$1.theirs" || { echo "$1: the outputs differ" >&2; exit 1; }
+    shows
     printf '%-28s %10d %12d %6s\n' "$3" "$ours" "$theirs" "$(awk "BEGIN { printf \"%.2f\", $ours / $theirs }")"
 }
 row pairs 1 'pairs, 8 held'
