@@ -126,6 +126,19 @@ void llfree_close(llfree_core *handle);
  * nothing changes. */
 uint32_t llfree_close_image(llfree_core *handle, uint64_t *words, size_t count);
 
+/* How many words an allocator for several threads has, of so many frames and cores: an opening asks its
+ * heap for them as one block of 8 * llfree_words(frames, cores) bytes, aligned to 8. 0 where there is no
+ * such memory. */
+size_t llfree_words(uint32_t frames, uint32_t cores);
+
+/* Writes the numbers of the image that these words are rebuilt to, whatever their counters say, as many as
+ * llfree_image_words says: for the words of an allocator whose process has ended, wherever it was, an image
+ * that holds just what was held there (docs/C.md, "After a kill"). Words that a call may still change say
+ * nothing. BAD_GEOMETRY, BAD_IMAGE (count is not llfree_words), NO_ROOM: then the numbers are as they were.
+ * It needs no memory. */
+uint32_t llfree_image_of_words(uint32_t frames, uint32_t cores, const uint64_t *words, size_t count,
+                               uint64_t *numbers, size_t room);
+
 /* The same for callers who trust themselves: a take hands out the right to its block in a struct, so no
  * list of what is out is kept or looked up. An empty struct is refused; beside the duties above a caller
  * has to uphold, and nothing checks:

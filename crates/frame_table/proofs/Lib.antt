@@ -10,4 +10,4 @@ pub mod Parting
 pub mod Gathering
 pub mod Imaged
 mod Kept
-mod Stopped
+pub mod Stopped

@@ -9,13 +9,17 @@ use Rattle.frame_core.specs.Key.{key_of, frame_count, child_of}
 use Rattle.frame_core.specs.Moves.{HasSizes}
 use Rattle.frame_core.specs.Rebuilt.{rebuilt_free, rebuilt_bits, IsRebuilt}
 use Rattle.frame_core.specs.Report.{held_at}
-use Rattle.frame_core.specs.Words.{free_of, huge_of, bit_of, bit_word_of, bits_place, set_of, AreInRange}
+use Rattle.frame_core.specs.Words.{free_of, huge_of, bit_of, bit_word_of, bits_place, set_of, word_count, AreInRange}
 use Rattle.frame_model.proofs.Steps.Shared.{bit-le}
 use Rattle.frame_model.proofs.Stopping.Existing.{every_rebuilding_exists}
 use Rattle.frame_model.proofs.Stopping.Rebuilding.{kept_bit, cleared_bit, every_rebuilding_is_exact}
 use Rattle.frame_table.specs.Stopping.{IsImageAtStop}
 use Rattle.llfree_c.specs.CoreImages.{SaysOfRebuilt, SaysRebuilt, LeavesStop}
 use Rattle.llfree_c.specs.Images.{SaysAll}
+use Rattle.frame_core.specs.Events.{State, Fits, views_of}
+use Rattle.frame_words.specs.declared.geometry.Geometry.{Geometry}
+use Rattle.llfree_c.specs.StoppedWords.{IsOfSizes}
+use Rattle.frame_table.proofs.Stopped.{stopped_holds, stopped_boot}
 
 -- what numbers say of the children below stays where those are as before
 says_below : (key : Key) (words old new : List ℕ) (child k : ℕ)
@@ -118,3 +122,52 @@ leaves_stop key image numbers stop says =
       held = λ x h. rebuilt_held key old again.0 r was x h ∙ stop.held x h;
       boot = λ sealed x h named. rebuilt_held key old again.0 r was x h ∙ stop.boot sealed x h named;
     }
+
+-- words that fit are those of a stop
+pub leaves_fitting : (key : Key) (s : State) (numbers : List ℕ) → Fits key key.cores s
+    → SaysRebuilt key s.words numbers → LeavesStop key numbers
+leaves_fitting key s numbers fits says =
+    let old = s.words in
+    let was : AreInRange key old = fits.words_in_range in
+    let again = every_rebuilding_exists key old was in
+    let r : IsRebuilt key old again.0 = again.1 in
+    record {
+      state = s;
+      fits = fits;
+      words = again.0;
+      rebuilt = r;
+      says = says_of_words key old again.0 r numbers says;
+      exact = every_rebuilding_is_exact key old again.0 was r;
+      held = λ x h. rebuilt_held key old again.0 r was x h ∙ stopped_holds key key.cores old (views_of s) fits x h;
+      boot = λ sealed x h named. rebuilt_held key old again.0 r was x h
+          ∙ stopped_boot key key.cores old (views_of s) fits sealed x h named;
+    }
+
+-- numbers that say what words are rebuilt to say it of a memory with the same sizes
+pub says_of_sizes : (key : Key) (g : Geometry) (words numbers : List ℕ) → HasSizes key g
+    → SaysRebuilt (key_of g) words numbers → SaysRebuilt key words numbers
+says_of_sizes key g words numbers s says =
+    let is : key_of g ≡ open_key key =
+    ap (λ n. sized n g.cores g.frames) s.0
+    ∙ (ap (λ n. sized key.children n g.frames) s.1 ∙ ap (λ n. sized key.children key.cores n) s.2) in
+    same_memory key words numbers (subst (λ k. SaysRebuilt k words numbers) is says)
+
+pub has_sizes : (frames cores : ℕ) (key : Key) (g : Geometry) → g.frames ≡ frames → g.cores ≡ cores
+    → IsOfSizes frames cores key → HasSizes key g
+has_sizes frames cores key g f k is = (
+  omega (arith, is.children, f, g.some_children, g.last_child_begun, g.frames_in_children),
+  k ∙ sym is.used_by,
+  f ∙ sym is.size,
+)
+
+open_count : (key : Key) → word_count (open_key key) ≡ word_count key
+unfolding word_count
+open_count key = refl
+
+-- memories of the same sizes have as many words
+pub same_count : (key : Key) (g : Geometry) → HasSizes key g → word_count (key_of g) ≡ word_count key
+same_count key g s =
+    let is : key_of g ≡ open_key key =
+    ap (λ n. sized n g.cores g.frames) s.0
+    ∙ (ap (λ n. sized key.children n g.frames) s.1 ∙ ap (λ n. sized key.children key.cores n) s.2) in
+    ap (λ k. word_count k) is ∙ open_count key

@@ -30,7 +30,7 @@ pub(crate) fn leave_core_image(state: &mut CoreState, heap: Global, numbers: &mu
     };
     match replace(state, other).stop(heap) {
         Ok(image) => {
-            write_rebuilt(&image, numbers);
+            write_rebuilt(image.geometry(), image.words(), numbers);
             OK
         }
         Err(StopFault { fault, core }) => {

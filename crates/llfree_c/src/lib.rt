@@ -27,4 +27,5 @@ mod replay;
 mod sizes;
 mod statuses;
 mod steps;
+mod stopped_words;
 mod unchecked_opening;

@@ -1,65 +1,105 @@
 //! The numbers of an image that is rebuilt as it is written.
 
 ghost use Rattle.std.specs.Prelude.{◌≡◌, ℕ, ◌+◌, ◌*◌, ◌<◌, ◌≤◌, length, slice_index};
-ghost use Rattle.frame_words.specs.Words.{entry_word};
-ghost use Rattle.frame_core.specs.Image.{key_in};
+ghost use Rattle.frame_words.specs.Words.{flag, entry_word};
+ghost use Rattle.frame_core.specs.Key.{key_of};
 ghost use Rattle.frame_core.specs.Rebuilt.{rebuilt_free, rebuilt_bits};
-ghost use Rattle.frame_core.specs.Words.{huge_of};
+ghost use Rattle.frame_core.specs.Words.{huge_of, set_of, bit_word_of, word_count};
 ghost use Rattle.llfree_c.specs.CoreImages.{SaysOfRebuilt, SaysRebuilt};
 
 use crate::images::CHILD_NUMBERS;
-use frame_core::Image;
-use frame_words::{CHILD_FRAMES, CHILD_WORDS, entry};
+use frame_core::layout::{bits_place, entry_place};
+use frame_words::{CHILD_FRAMES, CHILD_WORDS, Geometry, entry, entry_huge, lane};
 
-/// Writes the numbers of the image with each counter exact, from its bits and huge flags alone; what
-/// lies behind them stays.
-pub(crate) fn write_rebuilt(image: &Image, numbers: &mut [u64])
-    requires { 9 * image.now.geometry.children ≤ length numbers.old }
-    ensures { SaysRebuilt (key_in image.now) image.now.words numbers.new }
+/// Writes the numbers of the image that the words are rebuilt to: each counter exact, from their bits
+/// and huge flags alone. What lies behind these numbers stays.
+pub(crate) fn write_rebuilt(geometry: Geometry, words: &[u64], numbers: &mut [u64])
+    requires count { length words.now ≡ word_count (key_of geometry) }
+    requires room { 9 * geometry.children ≤ length numbers.old }
+    ensures says { SaysRebuilt (key_of geometry) words.now numbers.new }
+    ensures behind { (i : ℕ) → 9 * geometry.children ≤ i
+        → slice_index numbers.new i ≡ slice_index numbers.old i }
+    ensures count { length numbers.new ≡ length numbers.old }
 {
-    let geometry = image.geometry();
     for child in 0..geometry.children {
-        write_child(image, child, numbers);
+        write_child(geometry, words, child, numbers);
     }
 }
 
-fn write_child(image: &Image, child: u32, numbers: &mut [u64])
-    requires child { child < image.now.geometry.children }
+fn write_child(geometry: Geometry, words: &[u64], child: u32, numbers: &mut [u64])
+    requires count { length words.now ≡ word_count (key_of geometry) }
+    requires child { child < geometry.children }
     requires room { 9 * child + 9 ≤ length numbers.old }
-    ensures written { SaysOfRebuilt (key_in image.now) image.now.words child numbers.new }
+    ensures written { SaysOfRebuilt (key_of geometry) words.now child numbers.new }
     ensures below { (i : ℕ) → i < 9 * child
+        → slice_index numbers.new i ≡ slice_index numbers.old i }
+    ensures behind { (i : ℕ) → 9 * child + 9 ≤ i
         → slice_index numbers.new i ≡ slice_index numbers.old i }
     ensures count { length numbers.new ≡ length numbers.old }
 {
     let first = CHILD_NUMBERS * child as usize;
-    numbers[first] = rebuilt_entry(image, child);
+    numbers[first] = rebuilt_entry(geometry, words, child);
     for word in 0..CHILD_WORDS {
-        numbers[first + 1 + word as usize] = rebuilt_word(image, child, word);
+        numbers[first + 1 + word as usize] = rebuilt_word(geometry, words, child, word);
     }
 }
 
 #[tactic(auto, unfolding(frame_model::specs::Rebuilt::rebuilt_free))]
-fn rebuilt_entry(image: &Image, child: u32) -> u64
-    requires { child < image.now.geometry.children }
-    ensures { result ≡ entry_word (rebuilt_free (key_in image.now) image.now.words child)
-        (huge_of image.now.words child) }
+fn rebuilt_entry(geometry: Geometry, words: &[u64], child: u32) -> u64
+    requires count { length words.now ≡ word_count (key_of geometry) }
+    requires child { child < geometry.children }
+    ensures { result ≡ entry_word (rebuilt_free (key_of geometry) words.now child) (huge_of words.now child) }
 {
-    if image.huge(child) {
+    if is_huge(geometry, words, child) {
         entry(0, true)
     } else {
-        entry(CHILD_FRAMES - image.set_frames(child), false)
+        entry(CHILD_FRAMES - set_frames(geometry, words, child), false)
     }
 }
 
 #[tactic(auto, unfolding(frame_model::specs::Rebuilt::rebuilt_bits))]
-fn rebuilt_word(image: &Image, child: u32, word: u32) -> u64
-    requires child { child < image.now.geometry.children }
+fn rebuilt_word(geometry: Geometry, words: &[u64], child: u32, word: u32) -> u64
+    requires count { length words.now ≡ word_count (key_of geometry) }
+    requires child { child < geometry.children }
     requires word { word < 8 }
-    ensures { result ≡ rebuilt_bits (key_in image.now) image.now.words (8 * child + word) }
+    ensures { result ≡ rebuilt_bits (key_of geometry) words.now (8 * child + word) }
 {
-    if image.huge(child) {
+    if is_huge(geometry, words, child) {
         0
     } else {
-        image.word(child, word)
+        bit_word(geometry, words, child, word)
     }
+}
+
+#[tactic(auto, unfolding(frame_model::specs::Words::huge_of, frame_model::specs::Words::entry_of))]
+fn is_huge(geometry: Geometry, words: &[u64], child: u32) -> bool
+    requires count { length words.now ≡ word_count (key_of geometry) }
+    requires child { child < geometry.children }
+    ensures { flag result ≡ huge_of words.now child }
+{
+    let _ = geometry;
+    entry_huge(lane(words[entry_place(child)], child))
+}
+
+#[tactic(auto, unfolding(frame_model::specs::Words::bit_word_of))]
+fn bit_word(geometry: Geometry, words: &[u64], child: u32, word: u32) -> u64
+    requires count { length words.now ≡ word_count (key_of geometry) }
+    requires child { child < geometry.children }
+    requires word { word < 8 }
+    ensures { result ≡ bit_word_of (key_of geometry) words.now (8 * child + word) }
+{
+    words[bits_place(geometry, CHILD_WORDS * child + word)]
+}
+
+fn set_frames(geometry: Geometry, words: &[u64], child: u32) -> u32
+    requires count { length words.now ≡ word_count (key_of geometry) }
+    requires child { child < geometry.children }
+    ensures value { result ≡ set_of (key_of geometry) words.now child }
+    ensures limit { result ≤ 512 }
+{
+    let mut set = 0;
+    for word in 0..CHILD_WORDS {
+        set += bit_word(geometry, words, child, word).count_ones();
+    }
+    set
 }

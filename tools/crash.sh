@@ -1,0 +1,96 @@
+#!/usr/bin/env bash
+# Kills programs that use the library for C, and looks at what is left (tools/crash/crash.c, steps.c, sweep.c): the
+# words of the allocator, a journal and the pages of its frames lie in files that outlive the process.
+#     tools/crash.sh [KILLS]
+# kills so many times in each way to recover (150), stops behind each instruction of 300 calls, and has to find five
+# wrong programs. It needs a C compiler and python3, and builds the library where it has to. The last line counts.
+set -u
+root=$(cd "$(dirname "$0")/.." && pwd)
+cc=${CC:-cc}
+kills=${1:-150}
+folder=$(mktemp -d)
+# files in memory where there are some: a kill is the same, and nothing waits for a disk
+files=$(mktemp -d -p "$([ -w /dev/shm ] && echo /dev/shm || echo "${TMPDIR:-/tmp}")")/kept
+trap 'rm -rf "$folder" "$(dirname "$files")"' EXIT
+passed=0
+fails() {
+    [ ! -s "$folder/log" ] || tail -n 20 "$folder/log" >&2
+    echo "$1: failed" >&2
+    echo "$passed passed, 1 failed"
+    exit 1
+}
+passes() {
+    echo "$1: ok"
+    passed=$((passed + 1))
+}
+shows() { [ ! -t 2 ] || printf '\r\033[K%s' "$*" >&2; }
+command -v "$cc" >/dev/null || { printf 'no C compiler: no kill is tried\n0 passed, 0 failed\n'; exit; }
+"$root/tools/c_library.sh" >"$folder/log" 2>&1 || fails 'the library is built'
+library=$root/crates/llfree_c/out/libllfree_c.a
+
+# builds FOLDER NAME: the program of the sources in that folder; its heap is its own
+builds() {
+    local source=("$1/$2.c" "$1/kept_words.c")
+    [ "$2" = sweep ] || source+=("$1/journal.c")
+    "$cc" -O2 -Wall -Wextra -Werror -I"$root/include" -o "$folder/$2" "${source[@]}" "$library" -lpthread >"$folder/log" 2>&1
+}
+# tries NAME PROGRAM WORD..
+tries() {
+    local name=$1
+    shift
+    shows "$name"
+    "$folder/$1" "${@:2}" >"$folder/log" 2>&1 || fails "$name"
+    shows
+    passes "$name"
+}
+
+for program in sweep steps crash; do
+    builds "$root/tools/crash" "$program" || fails "$program is built"
+done
+tries 'the words lie where the heap puts them, for 4,000 sizes' sweep
+tries 'a stop behind each instruction of 300 calls' steps 300
+for way in hold reclaim journal claim; do
+    tries "$kills kills: $way" crash "$files" "$kills" "$way" 16000 16 1
+done
+
+# wrong NAME FILE OLD NEW PROGRAM WORD..: with this change, which fits once, the program has to find itself wrong
+wrong() {
+    local name=$1 file=$2 old=$3 new=$4
+    shift 4
+    shows "$name"
+    rm -rf "$folder/wrong"
+    cp -r "$root/tools/crash" "$folder/wrong"
+    python3 - "$folder/wrong/$file" "$old" "$new" 2>"$folder/log" <<'PYTHON' || fails "$name: the change fits once"
+import sys
+name, old, new = sys.argv[1:]
+text = open(name).read()
+assert text.count(old) == 1, text.count(old)
+open(name, 'w').write(text.replace(old, new))
+PYTHON
+    builds "$folder/wrong" "$1" || fails "$name: is built"
+    ! "$folder/$1" "${@:2}" >"$folder/log" 2>&1 || fails "$name: is found"
+    grep -q '^WRONG: ' "$folder/log" || fails "$name: says what is wrong"
+    shows
+    passes "$name is found"
+}
+many="$files 800 reclaim 16000 16 7"
+wrong 'a journal that is cleared after the give' crash.c \
+    '    journal[b.frame] = 0;
+    *doing = GIVING;
+    uint32_t status = llfree_give(&cores[t->number].core, b.frame, b.order);' \
+    '    *doing = GIVING;
+    uint32_t status = llfree_give(&cores[t->number].core, b.frame, b.order);
+    journal[b.frame] = 0;' crash $many
+wrong 'one region for old words and new ones' crash.c 'head->current == 1 ? 2 : 1' '1' crash $many
+wrong 'a region that counts before the opening has answered' crash.c '    head->phase = OPENING;' \
+    '    head->phase = OPENING;
+    head->words_at[next] = region_at[next];
+    head->current = next;' crash $many
+wrong 'pages that are written behind the journal' crash.c \
+    '                write_pages(frame, order, serial);
+                journal[frame] = entry_of(serial, order);' \
+    '                journal[frame] = entry_of(serial, order);
+                write_pages(frame, order, serial);' crash $many
+wrong 'a huge frame that is claimed as one after its split' journal.c 'if (order == HUGE_ORDER && !huge)' 'if (false)' \
+    steps 2000 4000 1
+echo "$passed passed, 0 failed"
