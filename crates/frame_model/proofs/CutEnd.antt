@@ -1,5 +1,5 @@
 -- A stop of a memory that ends inside its child and holds a range back.
-use Rattle.std.proofs.Common.{◌≡◌, ⊎_elim, ℕ, zero, suc, ◌+◌, ◌*◌, ◌<◌, ◌≤◌, List, [], ◌∷◌, Option, None, Some, Bool, true, false, cond, refl, ap, sym}
+use Rattle.std.proofs.Common.{◌≡◌, ⊎_elim, ℕ, zero, suc, ◌+◌, ◌<◌, ◌≤◌, List, [], ◌∷◌, Option, None, Some, Bool, true, false, cond, refl, ap, sym}
 use Rattle.std.proofs.Common.{◌∙◌, arith}
 use Rattle.std.specs.Prelude.{if◌then◌else◌, not, nat_eq, count_by}
 use Rattle.std.specs.List.{range_with_len}
@@ -17,7 +17,7 @@ use Rattle.frame_model.specs.Rebuilt.{rebuilt_free, rebuilt_in_tree, rebuilt_bit
 use Rattle.frame_model.specs.Openings.{IsSealedOpening, set_blocks, huge_blocks}
 use Rattle.frame_model.specs.Laws.{blocks_with}
 use Rattle.frame_model.specs.Stops.{Passes, stays, stops, unsealed, known_of, flying_of, is_lost, range_blocks, Survives, EveryStopIsSurvived}
-use Rattle.frame_model.specs.WorkedRuns.{one_child, words_of_one, full_word}
+use Rattle.frame_model.specs.WorkedRuns.{one_child, full_word}
 use Rattle.frame_model.specs.CutEnd.{cut_end, cut_words, cut_opens, cut_stops, HoldsSoMany, StopWithACutEnd}
 use Rattle.frame_model.proofs.Bits.{ones_zero, ones_run, run-lt}
 use Rattle.frame_model.proofs.HeldBack.{rebuilt_unsealed}
@@ -157,16 +157,16 @@ past_after x l = grind (arith, nat_tests)
 
 pub stop_with_a_cut_end : EveryStopIsSurvived → StopWithACutEnd
 stop_with_a_cut_end survived =
-    let opens : Survives cut_opens = survived cut_end cut_words cut_opens cut_key cut_opening (stays cut_opens) in
-    let lives : Survives cut_stops = survived cut_end cut_words cut_stops cut_key cut_opening cut_passes in
+    let opens : Survives 1 cut_opens = survived cut_end cut_words 1 cut_opens cut_key (omega arith) cut_opening (stays cut_opens) in
+    let lives : Survives 1 cut_stops = survived cut_end cut_words 1 cut_stops cut_key (omega arith) cut_opening cut_passes in
     record {
       is_key = cut_key;
       opening = cut_opening;
       holds_first = cut_holds_first;
-      range_first = λ x l h. opens.named_held x (omega arith) (in_the_range x l h);
-      end_first = λ x l h. opens.named_held x (omega arith) (past_before x l);
+      range_first = λ x l h. opens.known.named_held x (omega arith) (in_the_range x l h);
+      end_first = λ x l h. opens.known.named_held x (omega arith) (past_before x l);
       passes = cut_passes;
       holds = cut_holds;
-      end = λ x l h. lives.named_held x (omega arith) (past_after x l);
+      end = λ x l h. lives.known.named_held x (omega arith) (past_after x l);
       survives = lives;
     }

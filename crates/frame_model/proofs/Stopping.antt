@@ -6,4 +6,5 @@ pub mod Between
 pub mod Stop
 pub mod Survival
 pub mod Existing
+pub mod Reopening
 pub mod Sample

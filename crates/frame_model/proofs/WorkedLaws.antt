@@ -1,5 +1,5 @@
 -- What the laws say of the worked runs.
-use Rattle.std.proofs.Common.{◌≡◌, ℕ, List, [], ◌∷◌, ◌++◌, refl, arith}
+use Rattle.std.proofs.Common.{◌≡◌, ℕ, ◌+◌, ◌<◌, List, [], ◌∷◌, ◌++◌, refl, arith}
 use Rattle.frame_words.specs.Words.{entry_word, free_in, flag_in, lane_in, lane_put, lane_shift, rest_in}
 use Rattle.frame_model.specs.declared.block.FrameBlock.{FrameBlock}
 use Rattle.frame_model.specs.Seats.{hand_out}
@@ -7,7 +7,7 @@ use Rattle.frame_model.specs.Key.{is_in_range, is_boot_frame}
 use Rattle.frame_model.specs.Block.{block, IsBlock, covers}
 use Rattle.frame_model.specs.Words.{entry_place, tree_place, local_place, bits_place, word_count, entry_of, free_of, huge_of, tree_word_of}
 use Rattle.frame_model.specs.Words.{tree_free_of, local_word_of, rest_of, bit_word_of, bit_of, count_on, resting_on}
-use Rattle.frame_model.specs.View.{IsIdle, count_in, counted, boot_blocks, fixed_ground}
+use Rattle.frame_model.specs.View.{IsIdle, idle, count_in, counted, boot_blocks, fixed_ground}
 use Rattle.frame_model.specs.Steps.Amounts.{more, less, IsRun, Leaves}
 use Rattle.frame_model.specs.Holding.{holders}
 use Rattle.frame_model.specs.Rebuilt.{IsRebuilt}
@@ -18,13 +18,14 @@ use Rattle.frame_model.specs.Laws.{paying_tree, refunding_tree, reserving_tree, 
 use Rattle.frame_model.specs.Laws.{paying_local, refunding_local, collecting, filling_word, dropping_flag}
 use Rattle.frame_model.specs.Laws.{parting_share, handing_out, recalling, parting_ground, adopting, joining_idle}
 use Rattle.frame_model.specs.Laws.{handing_in, keeping_in, loading, losing, losing_at_will}
-use Rattle.frame_model.specs.Openings.{EveryRunFromSealed, EveryRunFromReopening, set_blocks, huge_blocks}
+use Rattle.frame_model.specs.Openings.{EveryRunFromSealed, EveryRunFromReopening, set_blocks, huge_blocks, opened}
 use Rattle.frame_model.specs.Stops.{Moment, Passes, stays, stops, opening_moment, unsealed, known_at, known_of, flying_of, is_lost}
-use Rattle.frame_model.specs.Stops.{range_blocks, lost_frames, EveryStopIsSurvived, EveryStopIsExact, EveryMomentCanStop}
+use Rattle.frame_model.specs.Stops.{range_blocks, lost_frames, ended_shares, EveryStopIsSurvived, EveryStopIsExact, EveryMomentCanStop}
 use Rattle.frame_model.specs.Stops.{EveryRebuildingExists, EveryRebuildingIsExact}
 use Rattle.frame_model.specs.Without.{without, remains, remainder, is_apart, is_inside}
 use Rattle.frame_model.specs.WorkedRuns.{one_child, words_of_one, full_word, all_free, at_first, claimed_one, claims_second, one_claimed}
 use Rattle.frame_model.specs.WorkedLaws.{SafeRun, takes_and_keeps, ClosesWithOneKept, stop_at, StopIsSurvived, LosesAClaim, handed_out}
+use Rattle.frame_model.specs.WorkedLaws.{LosesAClaimBesideAStranger, LosesAtMost}
 use Rattle.frame_model.specs.WorkedLaws.{LosesNoBlock, RebuildsToExact, FormsAreApart}
 use Rattle.frame_model.proofs.Bits.{ones_zero}
 use Rattle.frame_model.proofs.Blocks.{smalls_cons, smalls_none, wholes_cons, wholes_none}
@@ -35,7 +36,7 @@ use Rattle.frame_model.proofs.Stopping.Sample.{ArePlain, before, allowed, is_key
 use Rattle.frame_model.proofs.WorkedRuns.Lost.{lost_set}
 use Rattle.frame_model.proofs.WorkedRuns.Pieces.{can_pay, can_charge, can_claim, claimed, claimed_are_blocks, two_words, small_covers}
 use Rattle.frame_model.proofs.WorkedRuns.Pieces.{no_blocks}
-use Rattle.frame_model.proofs.WorkedRuns.Stops.{clear_64, set_64}
+use Rattle.frame_model.proofs.WorkedRuns.Stops.{clear_64, set_64, stop_after_one_claim_allowed}
 use Rattle.frame_model.proofs.Without.{without_leaves}
 use Rattle.frame_model.proofs.HeldBack.{rebuilt_unsealed}
 use Rattle.frame_model.proofs.WorkedRuns.Rebuilding.{opens_all_free, no_bits, all_bits, rebuilt_by_bits}
@@ -123,50 +124,56 @@ closes_with_one_kept fit runs counters held =
 
 -- Stops.
 
-abbrev first : Moment
-first = opening_moment one_child all_free
+abbrev first : ℕ → Moment
+first shares = opening_moment one_child all_free shares
 
--- a run of the one core, and then a stop
-goes : (events : List Event) (again : List ℕ) → ArePlain events → (all : AllAllowed one_child before events)
-    → IsRebuilt (unsealed one_child) (reached one_child before events).words again
-    → Passes first (stop_at (reached one_child before events) again)
-goes events again plain all r =
-    let end : State = reached one_child before events in
-    passes_by first (stop_at end again) events end plain (run_of one_child before events all)
-    (stops (record first { state = end }) (stop_at end again) again r (stays (stop_at end again)))
+abbrev opens : ℕ → State
+opens shares = opened all_free (idle one_child shares)
+
+-- a run, and then a stop
+goes : (shares : ℕ) (events : List Event) (again : List ℕ) → ArePlain events → (all : AllAllowed one_child (opens shares) events)
+    → IsRebuilt (unsealed one_child) (reached one_child (opens shares) events).words again
+    → Passes (first shares) (stop_at shares (reached one_child (opens shares) events) again)
+goes shares events again plain all r =
+    let end : State = reached one_child (opens shares) events in
+    passes_by (first shares) (stop_at shares end again) events end plain (run_of one_child (opens shares) events all)
+    (stops (record (first shares) { state = end }) (stop_at shares end again) again r (stays (stop_at shares end again)))
 
 -- the moment just before that stop
-goes_before : (events : List Event) → ArePlain events → (all : AllAllowed one_child before events)
-    → Passes first (record first { state = reached one_child before events })
-goes_before events plain all =
-    let end : State = reached one_child before events in
-    passes_by first (record first { state = end }) events end plain (run_of one_child before events all)
-    (stays (record first { state = end }))
+goes_before : (shares : ℕ) (events : List Event) → ArePlain events → (all : AllAllowed one_child (opens shares) events)
+    → Passes (first shares) (record (first shares) { state = reached one_child (opens shares) events })
+goes_before shares events plain all =
+    let end : State = reached one_child (opens shares) events in
+    passes_by (first shares) (record (first shares) { state = end }) events end plain (run_of one_child (opens shares) events all)
+    (stays (record (first shares) { state = end }))
 
 survived_with : EveryStopIsSurvived → EveryStopIsExact → EveryMomentCanStop
-    → (events : List Event) (again : List ℕ) (known : List FrameBlock) (lost : ℕ)
-    → ArePlain events → AllAllowed one_child before events
-    → IsRebuilt (unsealed one_child) (reached one_child before events).words again
-    → known_at (stop_at (reached one_child before events) again) ≡ known
-    → lost_frames (stop_at (reached one_child before events) again) ≡ lost → StopIsSurvived events again known lost
-survived_with survived exact can_stop events again known lost plain all r who how_many =
-    let end : State = reached one_child before events in
+    → (shares : ℕ) → 0 < shares → (events : List Event) (again : List ℕ) (known : List FrameBlock) (lost : ℕ)
+    → ArePlain events → AllAllowed one_child (opens shares) events
+    → IsRebuilt (unsealed one_child) (reached one_child (opens shares) events).words again
+    → known_at (stop_at shares (reached one_child (opens shares) events) again) ≡ known
+    → lost_frames (stop_at shares (reached one_child (opens shares) events) again) ≡ lost
+    → StopIsSurvived shares events again known lost
+survived_with survived exact can_stop shares some events again known lost plain all r who how_many =
+    let end : State = reached one_child (opens shares) events in
+    let gone : Passes (first shares) (stop_at shares end again) = goes shares events again plain all r in
     record {
       end = end;
-      run = run_of one_child before events all;
+      run = run_of one_child (opens shares) events all;
       rebuilt = r;
-      passes = goes events again plain all r;
-      exact = exact one_child all_free (record first { state = end }) again is_key opens_all_free (goes_before events plain all) r;
+      passes = gone;
+      exact = exact one_child all_free shares (record (first shares) { state = end }) again is_key some opens_all_free
+          (goes_before shares events plain all) r;
       known_then = who;
       lost_then = how_many;
-      survives = survived one_child all_free (stop_at end again) is_key opens_all_free (goes events again plain all r);
-      stops_again = can_stop one_child all_free (stop_at end again) is_key opens_all_free (goes events again plain all r);
+      survives = survived one_child all_free shares (stop_at shares end again) is_key some opens_all_free gone;
+      stops_again = can_stop one_child all_free shares (stop_at shares end again) is_key some opens_all_free gone;
     }
 
 claimed_plain : ArePlain claimed_one
 claimed_plain = (tt, (tt, (tt, (tt, (tt, (tt, (tt, (tt, (tt, (tt, (tt, (tt, (tt, tt)))))))))))))
 
-none_known : known_at (stop_at (reached one_child before claimed_one) one_claimed) ≡ []
+none_known : known_at (stop_at 1 (reached one_child before claimed_one) one_claimed) ≡ []
 unfolding known_of range_blocks is_boot_frame is_in_range
 none_known = refl
 
@@ -178,13 +185,36 @@ rebuilt_one =
     (omega (arith, ones_zero, ones_full))
     all_bits no_bits no_bits no_bits no_bits no_bits no_bits no_bits)
 
-lost_one : lost_frames (stop_at (reached one_child before claimed_one) one_claimed) ≡ 64
+lost_one : lost_frames (stop_at 1 (reached one_child before claimed_one) one_claimed) ≡ 64
 unfolding known_of
 lost_one = lost_set (reached one_child before claimed_one) one_claimed refl rebuilt_one.in_range 64 clear_64 set_64
 
 pub loses_a_claim : EveryStopIsSurvived → EveryStopIsExact → EveryMomentCanStop → LosesAClaim
 loses_a_claim survived exact can_stop =
-    survived_with survived exact can_stop claimed_one one_claimed [] 64 claimed_plain allowed rebuilt_one none_known lost_one
+    survived_with survived exact can_stop 1 (omega arith) claimed_one one_claimed [] 64 claimed_plain allowed rebuilt_one none_known lost_one
+
+-- the same with a share for a stranger
+
+none_known_of_two : known_at (stop_at 2 (reached one_child at_first claimed_one) one_claimed) ≡ []
+unfolding known_of range_blocks is_boot_frame is_in_range
+none_known_of_two = refl
+
+rebuilt_of_two : IsRebuilt (unsealed one_child) (reached one_child at_first claimed_one).words one_claimed
+unfolding entry_place tree_place bits_place local_place word_count last_seen free_in flag_in entry_word lane_in
+    lane_put lane_shift count_in counted more less
+rebuilt_of_two =
+    rebuilt_unsealed one_child _ _ (rebuilt_by_bits 384 384 0 448 full_word 0 0 0 0 0 0 0 (omega arith)
+    (omega (arith, ones_zero, ones_full))
+    all_bits no_bits no_bits no_bits no_bits no_bits no_bits no_bits)
+
+lost_of_two : lost_frames (stop_at 2 (reached one_child at_first claimed_one) one_claimed) ≡ 64
+unfolding known_of
+lost_of_two = lost_set (reached one_child at_first claimed_one) one_claimed refl rebuilt_of_two.in_range 64 clear_64 set_64
+
+pub loses_a_claim_beside_a_stranger : EveryStopIsSurvived → EveryStopIsExact → EveryMomentCanStop → LosesAClaimBesideAStranger
+loses_a_claim_beside_a_stranger survived exact can_stop =
+    survived_with survived exact can_stop 2 (omega arith) claimed_one one_claimed [] 64 claimed_plain stop_after_one_claim_allowed
+    rebuilt_of_two none_known_of_two lost_of_two
 
 -- the two words of the block leave what is in flight
 two_leave : Leaves one_child (claimed 0 2) (block 0 7) (without (block 0 7) (claimed 0 2))
@@ -236,11 +266,11 @@ rebuilt_two =
     (rebuilt_by_bits 384 384 0 384 full_word full_word 0 0 0 0 0 0 (omega arith) (omega (arith, ones_zero, ones_full))
     all_bits all_bits no_bits no_bits no_bits no_bits no_bits no_bits)
 
-block_known : known_at (stop_at (reached one_child before handed_out) two_claimed) ≡ block 0 7 ∷ []
+block_known : known_at (stop_at 1 (reached one_child before handed_out) two_claimed) ≡ block 0 7 ∷ []
 unfolding known_of range_blocks is_boot_frame is_in_range
 block_known = refl
 
-lost_none : lost_frames (stop_at (reached one_child before handed_out) two_claimed) ≡ 0
+lost_none : lost_frames (stop_at 1 (reached one_child before handed_out) two_claimed) ≡ 0
 unfolding is_lost known_of flying_of range_blocks is_boot_frame is_in_range holders covers blocks_with fixed_ground
     boot_blocks set_blocks huge_blocks bit_of huge_of entry_of bit_word_of entry_place bits_place tree_place
     local_place word_count free_in flag_in lane_in lane_put lane_shift entry_word count_in counted more less last_seen
@@ -248,13 +278,37 @@ lost_none = refl
 
 pub loses_no_block : EveryStopIsSurvived → EveryStopIsExact → EveryMomentCanStop → LosesNoBlock
 loses_no_block survived exact can_stop =
-    survived_with survived exact can_stop handed_out two_claimed (block 0 7 ∷ []) 0 handed_plain handed_allowed rebuilt_two block_known
+    survived_with survived exact can_stop 1 (omega arith) handed_out two_claimed (block 0 7 ∷ []) 0 handed_plain handed_allowed rebuilt_two block_known
     lost_none
 
 pub rebuilds_to_exact : EveryRebuildingExists → EveryRebuildingIsExact → RebuildsToExact
 rebuilds_to_exact exists exact ws r =
     let new : (new : List ℕ) × IsRebuilt one_child ws new = exists one_child ws r in
     (new.0, new.1, exact one_child ws new.0 r new.1)
+
+ended_never : (shares cores n : ℕ) → n ≡ 0 → ended_shares shares cores n ≡ 0
+unfolding ended_shares
+ended_never shares cores n e = rw e refl
+
+ended_once : (shares cores n : ℕ) → cores ≡ 1 → n ≡ 1 → ended_shares shares cores n ≡ shares + 0
+unfolding ended_shares
+ended_once shares cores n e f = rw (e, f) refl
+
+ended_twice : (shares cores n : ℕ) → cores ≡ 4 → n ≡ 2 → ended_shares shares cores n ≡ shares + 4
+unfolding ended_shares
+ended_twice shares cores n e f = rw (e, f) refl
+
+pub loses_at_most_none : EveryStopIsSurvived → LosesAtMost 64 64 0 0
+loses_at_most_none survived key ws m k o p cores now =
+    let few = (survived key ws 64 m k (omega arith) o p).few_lost in omega (arith, few, ended_never 64 m.key.cores m.stops now)
+
+pub loses_at_most_once : EveryStopIsSurvived → LosesAtMost 1 1 1 512
+loses_at_most_once survived key ws m k o p cores now =
+    let few = (survived key ws 1 m k (omega arith) o p).few_lost in omega (arith, few, ended_once 1 m.key.cores m.stops cores now)
+
+pub loses_at_most_twice : EveryStopIsSurvived → LosesAtMost 4 4 2 4096
+loses_at_most_twice survived key ws m k o p cores now =
+    let few = (survived key ws 4 m k (omega arith) o p).few_lost in omega (arith, few, ended_twice 4 m.key.cores m.stops cores now)
 
 -- Forms.
 

@@ -78,10 +78,10 @@ rebuilt_first = rebuilt_unsealed one_child _ _ held_again
 -- Between the stops.
 
 abbrev first : Moment
-first = opening_moment one_child all_free
+first = opening_moment one_child all_free 1
 
 abbrev once : Moment
-once = stop_at ended two_held
+once = stop_at 1 ended two_held
 
 known_once : known_at once ≡ block 0 6 ∷ []
 unfolding known_of range_blocks is_boot_frame is_in_range
@@ -209,5 +209,5 @@ stop_adopt_stop survived = record {
   twice = refl;
   known = known_twice;
   lost = lost_twice;
-  survives = survived one_child all_free twice is_key opens_all_free passes_twice;
+  survives = survived one_child all_free 1 twice is_key (omega arith) opens_all_free passes_twice;
 }

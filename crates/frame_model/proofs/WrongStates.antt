@@ -11,6 +11,8 @@ use Rattle.frame_model.specs.WrongStates.{TreePromisesTooMuch, EntryIsOff, TreeI
 use Rattle.frame_model.specs.WrongStates.{RebuiltTreeDiffers, SetWithoutABlock, ClearInABlock, BootFrameIsClear, HeldIsClear, FlagIsOff, KnownOverlap, KnownIsFree}
 use Rattle.frame_model.specs.WrongStates.{NamedIsFree, LostWithoutAStop, LosesTooMuch, ExactEntryIsOff, ExactTreeIsOff, ReservedStill}
 use Rattle.frame_model.specs.WrongStates.{RestingStill, FormIsMissing, MomentDoesNotFit, NamedIsKnown, NamedIsFlying}
+use Rattle.frame_model.specs.WrongStates.{KnownIsLost, LostSinceThen, LosesMoreThanThen, CanNotStop, StopsInexactly}
+use Rattle.frame_model.specs.Stops.{ended_shares}
 use Rattle.frame_model.proofs.Safe.{left_out, stays_in}
 use Rattle.frame_model.proofs.Stopping.Known.{holders_both}
 
@@ -100,33 +102,59 @@ pub flag_is_off : FlagIsOff
 flag_is_off key words blocks c h off holds = off (holds.huge c h)
 
 pub known_overlap : KnownOverlap
-known_overlap m x two lives = omega (arith, lives.known_apart.disjoint x)
+known_overlap shares m x two lives = omega (arith, lives.known.known_apart.disjoint x)
 
 pub known_is_free : KnownIsFree
-known_is_free m x some free lives = omega (arith, lives.known_held x)
+known_is_free shares m x some free lives = omega (arith, lives.known.known_held x)
 
 pub named_is_free : NamedIsFree
-named_is_free m x h named free lives = let held = lives.named_held x h named in omega (arith, held.0)
+named_is_free shares m x h named free lives = let held = lives.known.named_held x h named in omega (arith, held.0)
 
 pub named_is_known : NamedIsKnown
-named_is_known m x h named known lives = let held = lives.named_held x h named in omega (arith, held.1, known)
+named_is_known shares m x h named known lives = let held = lives.known.named_held x h named in omega (arith, held.1, known)
 
 pub named_is_flying : NamedIsFlying
-named_is_flying m x h named flies lives = let held = lives.named_held x h named in omega (arith, held.2, flies)
+named_is_flying shares m x h named flies lives = let held = lives.known.named_held x h named in omega (arith, held.2, flies)
 
 pub moment_does_not_fit : MomentDoesNotFit
-moment_does_not_fit m not lives = not lives.fits
+moment_does_not_fit shares m not lives = not lives.known.fits
 
 pub lost_without_a_stop : LostWithoutAStop
-lost_without_a_stop m x h lost none lives = omega (arith, lives.were_in_flight x h lost)
+lost_without_a_stop shares m x h lost none lives = omega (arith, lives.were_in_flight x h lost)
+
+two_stops : (shares cores stops : ℕ) → cores ≡ 1 → stops ≡ 2 → ended_shares shares cores stops ≡ shares + 1
+unfolding ended_shares
+two_stops shares cores stops one twice = rw (one, twice) refl
+
+one_stop : (shares cores stops : ℕ) → stops ≡ 1 → ended_shares shares cores stops ≡ shares + cores * 0
+unfolding ended_shares
+one_stop shares cores stops once = rw once refl
+
+none_later : (cores : ℕ) → cores * 0 ≡ 0
+none_later cores = omega arith
 
 pub loses_too_much : LosesTooMuch
-loses_too_much m one once more lives =
-    let most = lives.few_lost in
-    omega (arith, most, bound m.key.cores m.stops one once)
-  where
-    bound : (cores stops : ℕ) → cores ≡ 1 → stops ≡ 1 → 512 * cores * stops ≡ 512
-    bound cores stops one once = rw (one, once) refl
+loses_too_much = (
+  λ m one once more lives.
+      let most = lives.few_lost in omega (arith, most, one_stop 1 m.key.cores m.stops once, none_later m.key.cores),
+  λ m one twice more lives. let most = lives.few_lost in omega (arith, most, two_stops 9 m.key.cores m.stops one twice),
+)
+
+pub known_is_lost : KnownIsLost
+known_is_lost first m not lives = not lives.known
+
+pub lost_since_then : LostSinceThen
+lost_since_then first m x h lost was none lives = omega (arith, lives.were_in_flight x h lost was)
+
+pub loses_more_than_then : LosesMoreThanThen
+loses_more_than_then first m share one once more lives =
+    let most = lives.few_lost in omega (arith, most, one_stop first.shares m.key.cores m.stops once, none_later m.key.cores)
+
+pub can_not_stop : CanNotStop
+can_not_stop first m none lives = none lives.can_stop.0 lives.can_stop.1
+
+pub stops_inexactly : StopsInexactly
+stops_inexactly first m new r off lives = off (lives.exact new r)
 
 pub exact_entry_is_off : ExactEntryIsOff
 exact_entry_is_off key words c h off exact = off (exact.entries c h)

@@ -23,7 +23,7 @@ cut_words = words_of_one 296 296 0 (run 8 4) 0 0 0 (run 44 20) full_word full_wo
 
 -- as it opens
 abbrev pub cut_opens : Moment
-cut_opens = opening_moment cut_end cut_words
+cut_opens = opening_moment cut_end cut_words 1
 
 -- after a stop, at its own words
 abbrev pub cut_stops : Moment
@@ -58,4 +58,4 @@ pub record StopWithACutEnd : Type 0 where
   pub passes : Passes cut_opens cut_stops
   pub holds : HoldsSoMany cut_stops 212 (block 8 0 ∷ block 9 0 ∷ block 10 0 ∷ block 11 0 ∷ []) 0
   pub end : AreHeldBack cut_stops 300 512
-  pub survives : Survives cut_stops
+  pub survives : Survives 1 cut_stops

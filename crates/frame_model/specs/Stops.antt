@@ -1,5 +1,5 @@
 -- Stops: all threads end between two events, and the memory is opened again with rebuilt words.
-use Rattle.std.specs.Prelude.{◌≡◌, ℕ, ◌+◌, ◌*◌, ◌<◌, ◌≤◌, List, [], ◌∷◌, ◌++◌, Bool, true, false, not, ◌&&◌, nat_eq, nat_lt, if◌then◌else◌, replicate, map, filter, count_by, All}
+use Rattle.std.specs.Prelude.{◌≡◌, ℕ, zero, suc, ◌+◌, ◌*◌, ◌<◌, ◌≤◌, List, [], ◌∷◌, ◌++◌, Bool, true, false, not, ◌&&◌, nat_eq, nat_lt, if◌then◌else◌, replicate, map, filter, count_by, All}
 use Rattle.std.specs.List.{range_with_len}
 use Rattle.frame_model.specs.declared.block.FrameBlock.{FrameBlock}
 use Rattle.frame_model.specs.declared.key.Key.{Key}
@@ -10,9 +10,10 @@ use Rattle.frame_model.specs.Block.{block, IsBlock, covers}
 use Rattle.frame_model.specs.Words.{free_of, held_of, held_in_tree, tree_free_of, reserved_of, resting_on, AreInRange}
 use Rattle.frame_model.specs.View.{idle, ground_with}
 use Rattle.frame_model.specs.Holding.{holders, IsHolding}
+use Rattle.frame_model.specs.Steps.{next}
 use Rattle.frame_model.specs.Rebuilt.{IsRebuilt}
-use Rattle.frame_model.specs.Openings.{held_blocks, IsSealedOpening, opened}
-use Rattle.frame_model.specs.Seats.{adopt}
+use Rattle.frame_model.specs.Openings.{held_blocks, IsSealedOpening, IsReopening, reopener, opened}
+use Rattle.frame_model.specs.Seats.{part_ground, adopt, left_by, right_by}
 use Rattle.frame_model.specs.Events.{State, eye, views_of, Event, cuts, Happens, Fits}
 use Rattle.frame_model.specs.Laws.{holding_of}
 
@@ -122,19 +123,24 @@ pub record IsExact (key : Key) (words : List ℕ) : Type 0 where
   pub unreserved : (t : ℕ) → t < tree_count key → reserved_of key words t ≡ 0
   pub resting : (t : ℕ) → resting_on key words t ≡ 0
 
--- the moment at a sealed opening, with a share for each core and no strangers
-abbrev pub opening_moment : Key → List ℕ → Moment
-opening_moment key words = record {
+-- the moment at a sealed opening with so many shares: one for each core, and one for each stranger
+abbrev pub opening_moment : Key → List ℕ → ℕ → Moment
+opening_moment key words shares = record {
   key = key;
-  shares = key.cores;
-  state = opened words (idle key key.cores);
+  shares = shares;
+  state = opened words (idle key shares);
   remembered = [];
   abandoned = [];
   stops = 0;
 }
 
--- known blocks are held whole and apart, and few frames are lost, which were in flight at a stop
-pub record Survives (m : Moment) : Type 0 where
+-- the shares that so many stops ended: those of the opening at the first, and one for each core at each later one
+unfoldable pub ended_shares : (shares cores stops : ℕ) → ℕ
+ended_shares shares cores zero = 0
+ended_shares shares cores (suc later) = shares + cores * later
+
+-- words and views agree, and known blocks are held whole and apart
+pub record KnownIsHeld (m : Moment) : Type 0 where
   pub fits : Fits m.key m.shares m.state
   pub known_apart : IsHolding m.key (known_at m)
   pub known_held : (x : ℕ)
@@ -143,14 +149,25 @@ pub record Survives (m : Moment) : Type 0 where
   pub named_held : (x : ℕ) → x < frame_count m.key → is_boot_frame m.key x ≡ true
       → (0 < holders x (holding_of m.key (views_of m.state)))
       × (holders x (known_at m) ≡ 0) × (holders x (flying_at m) ≡ 0)
-  pub few_lost : lost_frames m ≤ 512 * m.key.cores * m.stops
+
+-- what is known is held, and few frames are lost, which were in flight at a stop
+pub record Survives (shares : ℕ) (m : Moment) : Type 0 where
+  pub known : KnownIsHeld m
+  pub few_lost : lost_frames m ≤ 512 * ended_shares shares m.key.cores m.stops
   pub were_in_flight : (x : ℕ) → x < frame_count m.key → is_lost m x ≡ true
       → 0 < holders x m.abandoned
 
--- whatever events and stops lead on from a sealed opening, what was known survives
+-- whatever events and stops lead on from a sealed opening, with however many shares, what was known survives
 abbrev pub EveryStopIsSurvived : Type 0
-EveryStopIsSurvived = (key : Key) (words : List ℕ) (m : Moment)
-    → IsKey key → IsSealedOpening key words → Passes (opening_moment key words) m → Survives m
+EveryStopIsSurvived = (key : Key) (words : List ℕ) (shares : ℕ) (m : Moment)
+    → IsKey key → 0 < shares → IsSealedOpening key words
+    → Passes (opening_moment key words shares) m → Survives shares m
+
+-- without strangers at most 512 frames are lost for each core and stop
+abbrev pub EveryStopLosesLittle : Type 0
+EveryStopLosesLittle = (key : Key) (words : List ℕ) (shares : ℕ) (m : Moment)
+    → IsKey key → 0 < shares → shares ≤ key.cores → IsSealedOpening key words
+    → Passes (opening_moment key words shares) m → lost_frames m ≤ 512 * m.key.cores * m.stops
 
 -- rebuilding makes exact counters of any words
 abbrev pub EveryRebuildingIsExact : Type 0
@@ -164,16 +181,67 @@ EveryRebuildingExists = (key : Key) (old : List ℕ)
 
 -- so whatever led to a moment, it may be stopped
 abbrev pub EveryMomentCanStop : Type 0
-EveryMomentCanStop = (key : Key) (words : List ℕ) (m : Moment)
-    → IsKey key → IsSealedOpening key words → Passes (opening_moment key words) m
+EveryMomentCanStop = (key : Key) (words : List ℕ) (shares : ℕ) (m : Moment)
+    → IsKey key → 0 < shares → IsSealedOpening key words → Passes (opening_moment key words shares) m
     → (new : List ℕ) × IsRebuilt (unsealed m.key) m.state.words new
 
 -- at whatever moment it is stopped, the counters are exact afterwards
 abbrev pub EveryStopIsExact : Type 0
-EveryStopIsExact = (key : Key) (words : List ℕ) (m : Moment) (new : List ℕ)
-    → IsKey key → IsSealedOpening key words → Passes (opening_moment key words) m
+EveryStopIsExact = (key : Key) (words : List ℕ) (shares : ℕ) (m : Moment) (new : List ℕ)
+    → IsKey key → 0 < shares → IsSealedOpening key words → Passes (opening_moment key words shares) m
     → IsRebuilt (unsealed m.key) m.state.words new
     → IsExact (stopped m new).key (stopped m new).state.words
+
+-- the state once the ground parted off from the one seat of an opening at words that were in use before
+abbrev pub parted : Key → List ℕ → ℕ → State
+parted key words shares = record {
+  words = words;
+  eyes = eye (left_by next part_ground (reopener key words shares)) []
+      ∷ eye (right_by part_ground (reopener key words shares)) [] ∷ [];
+}
+
+-- it may part off, and then leads there
+abbrev pub EveryGroundPartsOff : Type 0
+EveryGroundPartsOff = (key : Key) (words : List ℕ) (shares : ℕ) → 0 < shares
+    → Happens key (opened words (reopener key words shares)) (cuts 0 part_ground)
+    (parted key words shares)
+
+-- the blocks are some of what these words hold, apart, and none past the end
+pub record AreHeldIn (key : Key) (words : List ℕ) (blocks : List FrameBlock) : Type 0 where
+  pub are_blocks : All (IsBlock key) blocks
+  pub held : (x : ℕ) → holders x blocks ≤ holders x (held_blocks key words)
+  pub inside : (x : ℕ) → key.frames ≤ x → holders x blocks ≡ 0
+
+-- that moment, where somebody remembers these blocks from before the opening
+abbrev pub reopened_moment : Key → List ℕ → ℕ → List FrameBlock → Moment
+reopened_moment key words shares remembered = record {
+  key = key;
+  shares = shares;
+  state = parted key words shares;
+  remembered = remembered;
+  abandoned = [];
+  stops = 0;
+}
+
+-- what is known is held, few frames are lost beyond those that were lost first, and those were in flight at a
+-- stop; it may be stopped, and the counters are exact then
+pub record StaysKnown (first m : Moment) : Type 0 where
+  pub known : KnownIsHeld m
+  pub few_lost : lost_frames m
+      ≤ lost_frames first + 512 * ended_shares first.shares m.key.cores m.stops
+  pub were_in_flight : (x : ℕ) → x < frame_count m.key → is_lost m x ≡ true → is_lost first x ≡ false
+      → 0 < holders x m.abandoned
+  pub can_stop : (new : List ℕ) × IsRebuilt (unsealed m.key) m.state.words new
+  pub exact : (new : List ℕ) → IsRebuilt (unsealed m.key) m.state.words new
+      → IsExact (stopped m new).key (stopped m new).state.words
+
+-- whatever events and stops lead on from the parting off of the ground at words that were in use before, what
+-- was remembered of them and what was known since stays known
+abbrev pub EveryReopeningIsSurvived : Type 0
+EveryReopeningIsSurvived = (key : Key) (words : List ℕ) (shares : ℕ) (remembered : List FrameBlock) (m : Moment)
+    → IsKey key → 0 < shares → IsReopening key words → AreHeldIn key words remembered
+    → Passes (reopened_moment key words shares remembered) m
+    → StaysKnown (reopened_moment key words shares remembered) m
 
 -- a moment after a stop at which frames were in flight, of which one is lost
 pub record Stopping : Type 0 where
@@ -182,7 +250,7 @@ pub record Stopping : Type 0 where
   pub end : Moment
   pub is_key : IsKey key
   pub opening : IsSealedOpening key words
-  pub passes : Passes (opening_moment key words) end
+  pub passes : Passes (opening_moment key words key.cores) end
   pub once : end.stops ≡ 1
   pub frame : ℕ
   pub inside : frame < frame_count key

@@ -54,27 +54,31 @@ pub record Closes (events : List Event) (kept : List FrameBlock) (free_frames : 
 abbrev pub ClosesWithOneKept : Type 0
 ClosesWithOneKept = Closes takes_and_keeps (block 0 0 ∷ []) 511
 
--- the moment after these words were made of those of a state, at a stop
-abbrev pub stop_at : State → List ℕ → Moment
-stop_at end again = stopped (record (opening_moment one_child all_free) { state = end }) again
+-- the moment after these words were made of those of a state, at a stop after an opening with so many shares
+abbrev pub stop_at : ℕ → State → List ℕ → Moment
+stop_at shares end again = stopped (record (opening_moment one_child all_free shares) { state = end }) again
 
--- all threads stop after these events of the one core, and these words are made: then the counters are
--- exact, just these blocks are known, so many frames are lost, what was known survives, and all may stop again
-pub record StopIsSurvived (events : List Event) (again : List ℕ) (known : List FrameBlock) (lost : ℕ)
-    : Type 0 where
+-- all threads stop after these events of a memory with so many shares, and these words are made: then the counters
+-- are exact, just these blocks are known, so many frames are lost, what was known survives, and all may stop again
+pub record StopIsSurvived (shares : ℕ) (events : List Event) (again : List ℕ) (known : List FrameBlock)
+    (lost : ℕ) : Type 0 where
   pub end : State
-  pub run : LeadsTo one_child (opened all_free (idle one_child 1)) events end
+  pub run : LeadsTo one_child (opened all_free (idle one_child shares)) events end
   pub rebuilt : IsRebuilt (unsealed one_child) end.words again
-  pub passes : Passes (opening_moment one_child all_free) (stop_at end again)
+  pub passes : Passes (opening_moment one_child all_free shares) (stop_at shares end again)
   pub exact : IsExact (unsealed one_child) again
-  pub known_then : known_at (stop_at end again) ≡ known
-  pub lost_then : lost_frames (stop_at end again) ≡ lost
-  pub survives : Survives (stop_at end again)
+  pub known_then : known_at (stop_at shares end again) ≡ known
+  pub lost_then : lost_frames (stop_at shares end again) ≡ lost
+  pub survives : Survives shares (stop_at shares end again)
   pub stops_again : (new : List ℕ) × IsRebuilt (unsealed one_child) again new
 
 -- a word was claimed, and the block was not handed out yet: nobody knows of its frames
 abbrev pub LosesAClaim : Type 0
-LosesAClaim = StopIsSurvived claimed_one one_claimed [] 64
+LosesAClaim = StopIsSurvived 1 claimed_one one_claimed [] 64
+
+-- the same where a stranger has a share too
+abbrev pub LosesAClaimBesideAStranger : Type 0
+LosesAClaimBesideAStranger = StopIsSurvived 2 claimed_one one_claimed [] 64
 
 -- the block was handed out
 abbrev pub handed_out : List Event
@@ -82,7 +86,7 @@ handed_out = claimed_two ++ cuts 0 (hand_out (block 0 7) (without (block 0 7))) 
 
 -- it is known, so nothing is lost
 abbrev pub LosesNoBlock : Type 0
-LosesNoBlock = StopIsSurvived handed_out
+LosesNoBlock = StopIsSurvived 1 handed_out
     (words_of_one 384 384 0 full_word full_word 0 0 0 0 0 0) (block 0 7 ∷ []) 0
 
 -- whatever the words of a child are, rebuilt words of it exist, and their counters are exact
@@ -90,10 +94,11 @@ abbrev pub RebuildsToExact : Type 0
 RebuildsToExact = (words : List ℕ) → AreInRange one_child words
     → (new : List ℕ) × IsRebuilt one_child words new × IsExact one_child new
 
--- however a memory of so many cores was used, after so many stops so few frames are lost
-abbrev pub LosesAtMost : (cores stops most : ℕ) → Type 0
-LosesAtMost cores stops most = (key : Key) (words : List ℕ) (m : Moment)
-    → IsKey key → IsSealedOpening key words → Passes (opening_moment key words) m
+-- however a memory that was opened with so many shares, for so many cores, was used, after so many stops so few
+-- frames are lost
+abbrev pub LosesAtMost : (shares cores stops most : ℕ) → Type 0
+LosesAtMost shares cores stops most = (key : Key) (words : List ℕ) (m : Moment)
+    → IsKey key → IsSealedOpening key words → Passes (opening_moment key words shares) m
     → m.key.cores ≡ cores → m.stops ≡ stops → lost_frames m ≤ most
 
 -- a rest of blocks for events of which only the form is looked at

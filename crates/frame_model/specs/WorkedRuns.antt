@@ -46,7 +46,7 @@ pub record RunHandsOut (events : List Event) (seat : ℕ) (b : FrameBlock) (free
 
 -- the moment after a stop at this state, once these words were made of its words
 abbrev pub stopped_at : State → List ℕ → Moment
-stopped_at end again = stopped (record (opening_moment one_child all_free) { shares = 2; state = end }) again
+stopped_at end again = stopped (record (opening_moment one_child all_free 2) { state = end }) again
 
 -- these events may happen before a stop, the child then shows so much, rebuilding makes these words of its
 -- words, and so many frames are lost

@@ -4,7 +4,7 @@ use Rattle.frame_model.specs.Block.{block}
 use Rattle.frame_model.specs.View.{idle}
 use Rattle.frame_model.specs.Seats.{hand_out, adopt}
 use Rattle.frame_model.specs.Without.{without, less_one}
-use Rattle.frame_model.specs.Events.{State, Event, cuts, views_of, LeadsTo}
+use Rattle.frame_model.specs.Events.{State, Event, cuts, LeadsTo}
 use Rattle.frame_model.specs.Openings.{opened}
 use Rattle.frame_model.specs.Stops.{Moment, Steps, Passes, opening_moment, stopped, known_at, lost_frames, Survives}
 use Rattle.frame_model.specs.WorkedRuns.{one_child, words_of_one, full_word, all_free, claimed_two}
@@ -27,16 +27,16 @@ adopts_half = cuts 1 (adopt (block 0 5) (without (block 0 5)))
 pub record StopAdoptStop : Type 0 where
   pub end : State
   pub run : LeadsTo one_child (opened all_free (idle one_child 1)) hands_out_lower end
-  pub known_first : known_at (stop_at end two_held) ≡ block 0 6 ∷ []
-  pub lost_first : lost_frames (stop_at end two_held) ≡ 64
+  pub known_first : known_at (stop_at 1 end two_held) ≡ block 0 6 ∷ []
+  pub lost_first : lost_frames (stop_at 1 end two_held) ≡ 64
   -- the moment between the stops
   pub adopted : Moment
-  pub adopts : Steps adopts_half (stop_at end two_held) adopted
+  pub adopts : Steps adopts_half (stop_at 1 end two_held) adopted
   pub remembered : adopted.remembered ≡ block 32 5 ∷ []
   pub known_between : known_at adopted ≡ block 0 5 ∷ block 32 5 ∷ []
   -- the moment after the second stop
-  pub passes : Passes (opening_moment one_child all_free) (stopped adopted two_held)
+  pub passes : Passes (opening_moment one_child all_free 1) (stopped adopted two_held)
   pub twice : (stopped adopted two_held).stops ≡ 2
   pub known : known_at (stopped adopted two_held) ≡ block 0 5 ∷ block 32 5 ∷ []
   pub lost : lost_frames (stopped adopted two_held) ≡ 64
-  pub survives : Survives (stopped adopted two_held)
+  pub survives : Survives 1 (stopped adopted two_held)

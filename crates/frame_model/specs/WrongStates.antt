@@ -11,7 +11,7 @@ use Rattle.frame_model.specs.Rebuilt.{IsRebuilt}
 use Rattle.frame_model.specs.Events.{views_of, Fits}
 use Rattle.frame_model.specs.Laws.{holding_of, IsSafe, AddsUp, HoldsJust, Form, form_of, AreOfEveryForm}
 use Rattle.frame_model.specs.Events.{Event}
-use Rattle.frame_model.specs.Stops.{Moment, known_at, flying_at, is_lost, lost_frames, IsExact, Survives}
+use Rattle.frame_model.specs.Stops.{Moment, known_at, flying_at, is_lost, lost_frames, unsealed, IsExact, KnownIsHeld, Survives, StaysKnown}
 
 -- Words and views that are not safe.
 
@@ -109,40 +109,67 @@ FlagIsOff = (key : Key) (words : List ℕ) (blocks : List FrameBlock) (c : ℕ)
 
 -- the words and the views do not agree
 abbrev pub MomentDoesNotFit : Type 0
-MomentDoesNotFit = (m : Moment) → ¬ Fits m.key m.shares m.state → ¬ Survives m
+MomentDoesNotFit = (shares : ℕ) (m : Moment) → ¬ Fits m.key m.shares m.state → ¬ Survives shares m
 
 -- two blocks that somebody knows share a frame
 abbrev pub KnownOverlap : Type 0
-KnownOverlap = (m : Moment) (x : ℕ) → 1 < holders x (known_at m) → ¬ Survives m
+KnownOverlap = (shares : ℕ) (m : Moment) (x : ℕ) → 1 < holders x (known_at m) → ¬ Survives shares m
 
 -- a block that somebody knows is not held
 abbrev pub KnownIsFree : Type 0
-KnownIsFree = (m : Moment) (x : ℕ) → 0 < holders x (known_at m)
-    → holders x (holding_of m.key (views_of m.state)) ≡ 0 → ¬ Survives m
+KnownIsFree = (shares : ℕ) (m : Moment) (x : ℕ) → 0 < holders x (known_at m)
+    → holders x (holding_of m.key (views_of m.state)) ≡ 0 → ¬ Survives shares m
 
 -- a frame that the key names is free
 abbrev pub NamedIsFree : Type 0
-NamedIsFree = (m : Moment) (x : ℕ) → x < frame_count m.key → is_boot_frame m.key x ≡ true
-    → holders x (holding_of m.key (views_of m.state)) ≡ 0 → ¬ Survives m
+NamedIsFree = (shares : ℕ) (m : Moment) (x : ℕ) → x < frame_count m.key → is_boot_frame m.key x ≡ true
+    → holders x (holding_of m.key (views_of m.state)) ≡ 0 → ¬ Survives shares m
 
 -- somebody knows a frame that the key names
 abbrev pub NamedIsKnown : Type 0
-NamedIsKnown = (m : Moment) (x : ℕ) → x < frame_count m.key → is_boot_frame m.key x ≡ true
-    → 0 < holders x (known_at m) → ¬ Survives m
+NamedIsKnown = (shares : ℕ) (m : Moment) (x : ℕ) → x < frame_count m.key → is_boot_frame m.key x ≡ true
+    → 0 < holders x (known_at m) → ¬ Survives shares m
 
 -- a frame that the key names is in flight
 abbrev pub NamedIsFlying : Type 0
-NamedIsFlying = (m : Moment) (x : ℕ) → x < frame_count m.key → is_boot_frame m.key x ≡ true
-    → 0 < holders x (flying_at m) → ¬ Survives m
+NamedIsFlying = (shares : ℕ) (m : Moment) (x : ℕ) → x < frame_count m.key → is_boot_frame m.key x ≡ true
+    → 0 < holders x (flying_at m) → ¬ Survives shares m
 
 -- a frame is lost that was not in flight at a stop
 abbrev pub LostWithoutAStop : Type 0
-LostWithoutAStop = (m : Moment) (x : ℕ) → x < frame_count m.key → is_lost m x ≡ true
-    → holders x m.abandoned ≡ 0 → ¬ Survives m
+LostWithoutAStop = (shares : ℕ) (m : Moment) (x : ℕ) → x < frame_count m.key → is_lost m x ≡ true
+    → holders x m.abandoned ≡ 0 → ¬ Survives shares m
 
--- of one core more than 512 frames are lost at one stop
+-- of one share more than 512 frames are lost at one stop, or of nine and then one core more than 5,120 at two
 abbrev pub LosesTooMuch : Type 0
-LosesTooMuch = (m : Moment) → m.key.cores ≡ 1 → m.stops ≡ 1 → 512 < lost_frames m → ¬ Survives m
+LosesTooMuch = ((m : Moment) → m.key.cores ≡ 1 → m.stops ≡ 1 → 512 < lost_frames m → ¬ Survives 1 m)
+    × ((m : Moment) → m.key.cores ≡ 1 → m.stops ≡ 2 → 5120 < lost_frames m → ¬ Survives 9 m)
+
+-- Moments after a reopening at which something went wrong.
+
+-- the words and the views do not agree, or what somebody knows or the key names is not held as it has to be
+abbrev pub KnownIsLost : Type 0
+KnownIsLost = (first m : Moment) → ¬ KnownIsHeld m → ¬ StaysKnown first m
+
+-- a frame is lost that was not lost first, and was not in flight at a stop
+abbrev pub LostSinceThen : Type 0
+LostSinceThen = (first m : Moment) (x : ℕ) → x < frame_count m.key → is_lost m x ≡ true
+    → is_lost first x ≡ false → holders x m.abandoned ≡ 0 → ¬ StaysKnown first m
+
+-- of one share more than 512 frames are lost at one stop, beyond those that were lost first
+abbrev pub LosesMoreThanThen : Type 0
+LosesMoreThanThen = (first m : Moment) → first.shares ≡ 1 → m.key.cores ≡ 1 → m.stops ≡ 1
+    → lost_frames first + 512 < lost_frames m → ¬ StaysKnown first m
+
+-- no words can be made of its words at a stop
+abbrev pub CanNotStop : Type 0
+CanNotStop = (first m : Moment)
+    → ((new : List ℕ) → ¬ IsRebuilt (unsealed m.key) m.state.words new) → ¬ StaysKnown first m
+
+-- such words are not exact
+abbrev pub StopsInexactly : Type 0
+StopsInexactly = (first m : Moment) (new : List ℕ) → IsRebuilt (unsealed m.key) m.state.words new
+    → ¬ IsExact (unsealed m.key) new → ¬ StaysKnown first m
 
 -- an entry that was rebuilt is off
 abbrev pub ExactEntryIsOff : Type 0

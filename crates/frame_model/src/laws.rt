@@ -3,7 +3,8 @@
 ghost use Rattle.frame_model.specs.Events.{EveryRunFits};
 ghost use Rattle.frame_model.specs.Laws.{EveryFitIsSafe, Happening};
 ghost use Rattle.frame_model.specs.Laws.{EveryClosingAddsUp, EveryClosingHoldsTheKept};
-ghost use Rattle.frame_model.specs.Stops.{EveryStopIsSurvived, EveryStopIsExact, EveryRebuildingIsExact, EveryRebuildingExists, EveryMomentCanStop, Stopping};
+ghost use Rattle.frame_model.specs.Stops.{EveryStopIsSurvived, EveryStopLosesLittle, EveryStopIsExact, EveryRebuildingIsExact, EveryRebuildingExists, EveryMomentCanStop, Stopping};
+ghost use Rattle.frame_model.specs.Stops.{EveryGroundPartsOff, EveryReopeningIsSurvived};
 ghost use Rattle.frame_model.specs.Openings.{EveryRunFromSealed, EveryRunFromReopening};
 
 /// Every list of events leads from words and views that agree to such as agree.
@@ -36,16 +37,28 @@ pub fn every_form_of_event_happens()
     ensures { Happening }
 {}
 
-/// Whatever happens after a sealed opening, and however often all threads stop at once: words
-/// and views agree, every block that somebody knows is held whole and apart from the others, and
-/// at most 512 frames are lost for each core and stop, each of which was in flight at a stop.
+/// Whatever happens after a sealed opening, with shares for cores and for strangers, and however
+/// often all threads stop at once: words and views agree, every block that somebody knows is held
+/// whole and apart from the others, and at most 512 frames are lost for each share at the first
+/// stop and for each core at later ones, each of which was in flight at a stop. Without strangers
+/// these are at most 512 for each core and stop.
 /// The frames that the key names stay held, and nobody is given them. After a stop every counter
 /// is exact, and it may be stopped at any moment. Such a stop happens.
 pub fn every_stop_is_survived()
     ensures survived { EveryStopIsSurvived }
+    ensures few_lost { EveryStopLosesLittle }
     ensures exact { EveryStopIsExact }
     ensures rebuilt { EveryRebuildingIsExact }
     ensures exists { EveryRebuildingExists }
     ensures can_stop { EveryMomentCanStop }
     ensures happens { Stopping }
+{}
+
+/// The ground may part off at an opening at words that were in use before. Whatever happens since,
+/// and however often all threads stop: the blocks that somebody remembered of those words, and
+/// those that somebody knows since, are held whole and apart, no more frames are lost than first
+/// and in flight at stops, and it may be stopped at any moment, with exact counters after it.
+pub fn every_reopening_is_survived()
+    ensures parts_off { EveryGroundPartsOff }
+    ensures survived { EveryReopeningIsSurvived }
 {}

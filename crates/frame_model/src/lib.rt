@@ -12,8 +12,9 @@ mod wrong;
 pub use block::{FrameBlock, HeldBlock, PlainBlock};
 pub use key::Key;
 pub use laws::{
-    every_closing_adds_up, every_fit_is_safe, every_form_of_event_happens, every_run_fits,
-    every_run_from_an_opening_fits, every_stop_is_survived,
+    every_closing_adds_up, every_fit_is_safe, every_form_of_event_happens,
+    every_reopening_is_survived, every_run_fits, every_run_from_an_opening_fits,
+    every_stop_is_survived,
 };
 pub use place::Place;
 pub use view::{Amount, Eye, Sighting, View};
@@ -23,6 +24,6 @@ pub use worked::{
 };
 pub use wrong::{
     a_missing_form_is_seen, wrong_closings_do_not_add_up, wrong_counters_are_not_exact,
-    wrong_moments_do_not_survive, wrong_states_are_not_safe, wrong_steps_are_met,
-    wrong_steps_do_not_fit,
+    wrong_moments_do_not_survive, wrong_reopenings_do_not_survive, wrong_states_are_not_safe,
+    wrong_steps_are_met, wrong_steps_do_not_fit,
 };

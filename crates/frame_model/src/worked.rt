@@ -2,7 +2,7 @@
 
 ghost use Rattle.frame_model.specs.CutEnd.{StopWithACutEnd};
 ghost use Rattle.frame_model.specs.WorkedLaws.{SafeRun, ClosesWithOneKept, LosesAClaim};
-ghost use Rattle.frame_model.specs.WorkedLaws.{LosesNoBlock, LosesAtMost, RebuildsToExact};
+ghost use Rattle.frame_model.specs.WorkedLaws.{LosesAClaimBesideAStranger, LosesNoBlock, LosesAtMost, RebuildsToExact};
 ghost use Rattle.frame_model.specs.WorkedStops.{StopAdoptStop};
 ghost use Rattle.frame_model.specs.WorkedReports.{OneIsHeld, EveryOtherIsHeld, TreesDiffer};
 ghost use Rattle.frame_model.specs.WorkedReports.{RebuiltFromBits, RebuiltFromTheFlag};
@@ -56,11 +56,12 @@ pub fn a_worked_closing_adds_up()
 pub fn worked_stops_are_survived()
     ensures claim { LosesAClaim }
     ensures block { LosesNoBlock }
+    ensures stranger { LosesAClaimBesideAStranger }
     ensures adopted { StopAdoptStop }
     ensures rebuilds { RebuildsToExact }
-    ensures no_stop { LosesAtMost 64 0 0 }
-    ensures one_stop { LosesAtMost 1 1 512 }
-    ensures two_stops { LosesAtMost 4 2 4096 }
+    ensures no_stop { LosesAtMost 64 64 0 0 }
+    ensures one_stop { LosesAtMost 1 1 1 512 }
+    ensures two_stops { LosesAtMost 4 4 2 4096 }
 {
     every_stop_is_survived();
 }

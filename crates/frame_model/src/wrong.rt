@@ -11,6 +11,8 @@ ghost use Rattle.frame_model.specs.WrongStates.{KnownOverlap, KnownIsFree, Named
 ghost use Rattle.frame_model.specs.WrongStates.{NamedIsKnown, NamedIsFlying, LostWithoutAStop};
 ghost use Rattle.frame_model.specs.WrongStates.{LosesTooMuch, ExactEntryIsOff, ExactTreeIsOff};
 ghost use Rattle.frame_model.specs.WrongStates.{ReservedStill, RestingStill, FormIsMissing};
+ghost use Rattle.frame_model.specs.WrongStates.{KnownIsLost, LostSinceThen, LosesMoreThanThen};
+ghost use Rattle.frame_model.specs.WrongStates.{CanNotStop, StopsInexactly};
 ghost use Rattle.frame_model.specs.WrongSteps.{BitsBeforeTheCharge, ClaimsUncharged};
 ghost use Rattle.frame_model.specs.WrongSteps.{RefundBeforeTheRelease, HugeFrom511};
 ghost use Rattle.frame_model.specs.WrongSteps.{DropsTheRestingCount, ReservesTwice, HandsOutHalf};
@@ -70,6 +72,17 @@ pub fn wrong_moments_do_not_survive()
     ensures named_flying { NamedIsFlying }
     ensures lost { LostWithoutAStop }
     ensures too_many { LosesTooMuch }
+{}
+
+/// Nothing stays known since a reopening where what somebody knows is not held, where a frame is lost
+/// since that was not in flight at a stop, or too many are, where it can not be stopped, or where
+/// counters are not exact then.
+pub fn wrong_reopenings_do_not_survive()
+    ensures known { KnownIsLost }
+    ensures lost { LostSinceThen }
+    ensures too_many { LosesMoreThanThen }
+    ensures stop { CanNotStop }
+    ensures exact { StopsInexactly }
 {}
 
 /// No counters are exact where one is off, or where something is reserved or rests.

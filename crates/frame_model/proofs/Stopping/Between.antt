@@ -34,7 +34,7 @@ use Rattle.frame_model.proofs.Without.{covers-le}
 use Rattle.frame_model.proofs.Steps.Untouched.{untouched}
 use Rattle.frame_model.proofs.Steps.Seats.{ground_yes}
 use Rattle.frame_model.proofs.Steps.Shared.{view_of}
-use Rattle.frame_model.proofs.Stopping.Known.{grounded, boot, ground_at, GroundApart, Carries, held_at}
+use Rattle.frame_model.proofs.Stopping.Known.{grounded, boot, ground_at, GroundApart, Start, Carries, held_at}
 
 abbrev view_in : Eye → View
 view_in e = e.view
@@ -53,7 +53,7 @@ not_ground v a h = not_ground_by v.is_ground (λ e. let z = a e in omega arith)
 no_ground : (v : View) → v.is_ground ≡ false → GroundApart v
 no_ground v e g = absurd (true-is-not-false (sym g ∙ e))
 
-none_grounded : (x : ℕ) (v : View) → v.is_ground ≡ false → grounded x v ≡ 0
+pub none_grounded : (x : ℕ) (v : View) → v.is_ground ≡ false → grounded x v ≡ 0
 unfolding grounded
 none_grounded x v e = rw e refl
 
@@ -213,8 +213,8 @@ abbrev pub after_event : Moment → State → List FrameBlock → Moment
 after_event m t rem = record m { state = t; remembered = rem }
 
 -- no adoption: nothing that is carried changes
-plain_carries : (m : Moment) (event : Event) (t : State) → Carries m → NoAdoption event
-    → Happens m.key m.state event t → Carries (after_event m t m.remembered)
+plain_carries : {start : Start} (m : Moment) (event : Event) (t : State) → Carries start m → NoAdoption event
+    → Happens m.key m.state event t → Carries start (after_event m t m.remembered)
 plain_carries m event t c other_than h =
     let g : SameGrounds (views_of m.state) (views_of t) = same_grounds m.key m.state event t c.apart other_than h in
     let n : Moment = after_event m t m.remembered in
@@ -227,7 +227,7 @@ plain_carries m event t c other_than h =
     record {
       fits = event_fits m.key m.shares m.state event t c.fits h;
       is_key = c.is_key;
-      few = c.few;
+      ended = c.ended;
       apart = g.apart;
       are_blocks = c.are_blocks;
       remembered = λ x q. omega (arith, c.remembered x q, same x);
@@ -244,7 +244,7 @@ inside_by : (end x : ℕ) → x < end → (nat_le end x || list_any (is_in_range
 inside_by end x h = grind (arith, nat_tests)
 
 -- frames of an unsealed memory are named by its key only past the end
-not_boot : (key : Key) (x : ℕ) → key.ranges ≡ [] → x < key.frames → boot key x ≡ 0
+pub not_boot : (key : Key) (x : ℕ) → key.ranges ≡ [] → x < key.frames → boot key x ≡ 0
 unfolding is_boot_frame
 not_boot key x r h = ap (λ (rs : List (ℕ × ℕ)). if nat_le key.frames x || list_any (is_in_range x) rs then 1 else 0) r
     ∙ ap (λ (b : Bool). if b then 1 else 0) (inside_by key.frames x h)
@@ -253,7 +253,7 @@ covered_inside : (b : FrameBlock) (x : ℕ) → covers b x ≡ 1 → x < b.frame
 unfolding covers
 covered_inside b x e = grind (arith, nat_tests)
 
-module _ (m : Moment) (c : Carries m) (id : ℕ) (b : FrameBlock) (rest : Rest) (e : Eye)
+module _ {start : Start} (m : Moment) (c : Carries start m) (id : ℕ) (b : FrameBlock) (rest : Rest) (e : Eye)
     (at : get_elem? m.state.eyes id ≡ some e) (may : CanAdopt m.key e.view b (rest e.view.own)) where
   there : get_elem? (views_of m.state) id ≡ some e.view
   there = at_map view_in m.state.eyes id e at
@@ -312,7 +312,7 @@ module _ (m : Moment) (c : Carries m) (id : ℕ) (b : FrameBlock) (rest : Rest) 
 
   adopt_carries : (t : State) (rem : List FrameBlock) → Happens m.key m.state (cuts id (adopt b rest)) t
       → views_of t ≡ set (views_of m.state) id (left_by next (adopt b rest) e.view) ++ right_by (adopt b rest) e.view ∷ []
-      → Forgets m.key m.remembered b rem → Carries (after_event m t rem)
+      → Forgets m.key m.remembered b rem → Carries start (after_event m t rem)
   adopt_carries t rem h views f =
       let n : Moment = after_event m t rem in
       let less : (x : ℕ) → ground_at n x + covers b x ≡ ground_at m x =
@@ -332,7 +332,7 @@ module _ (m : Moment) (c : Carries m) (id : ℕ) (b : FrameBlock) (rest : Rest) 
       record {
         fits = event_fits m.key m.shares m.state (cuts id (adopt b rest)) t c.fits h;
         is_key = c.is_key;
-        few = c.few;
+        ended = c.ended;
         apart = subst (All GroundApart) (sym views) adopted_apart;
         are_blocks = f.are_blocks;
         remembered = λ x q.
@@ -361,34 +361,34 @@ adopted_views s t id w u is =
     ap views_of is ∙ map-append view_in (set s.eyes id w) (u ∷ [])
     ∙ ap (λ (vs : List View). vs ++ u.view ∷ []) (map-set view_in s.eyes id w)
 
-event_carries : (m : Moment) (event : Event) (t : State) (rem : List FrameBlock) → Carries m
-    → Happens m.key m.state event t → Remembers m.key event m.remembered rem → Carries (after_event m t rem)
-event_carries m (loads id word) t rem c h r =
-    subst (λ (x : List FrameBlock). Carries (after_event m t x)) (sym r) (plain_carries m (loads id word) t c tt h)
-event_carries m (makes id kind) t rem c h r =
-    subst (λ (x : List FrameBlock). Carries (after_event m t x)) (sym r) (plain_carries m (makes id kind) t c tt h)
-event_carries m (loses id kind) t rem c h r =
-    subst (λ (x : List FrameBlock). Carries (after_event m t x)) (sym r) (plain_carries m (loses id kind) t c tt h)
-event_carries m (loses_at_will id kind) t rem c h r =
-    subst (λ (x : List FrameBlock). Carries (after_event m t x)) (sym r) (plain_carries m (loses_at_will id kind) t c tt h)
-event_carries m (cuts id (part_share n)) t rem c h r =
-    subst (λ (x : List FrameBlock). Carries (after_event m t x)) (sym r) (plain_carries m (cuts id (part_share n)) t c tt h)
-event_carries m (cuts id (hand_out b rest)) t rem c h r =
-    subst (λ (x : List FrameBlock). Carries (after_event m t x)) (sym r) (plain_carries m (cuts id (hand_out b rest)) t c tt h)
-event_carries m (cuts id (recall b rest)) t rem c h r =
-    subst (λ (x : List FrameBlock). Carries (after_event m t x)) (sym r) (plain_carries m (cuts id (recall b rest)) t c tt h)
-event_carries m (cuts id part_ground) t rem c h r =
-    subst (λ (x : List FrameBlock). Carries (after_event m t x)) (sym r) (plain_carries m (cuts id part_ground) t c tt h)
-event_carries m (cuts id (adopt b rest)) t rem c (e, at, may, is) r =
+event_carries : (start : Start) (m : Moment) (event : Event) (t : State) (rem : List FrameBlock) → Carries start m
+    → Happens m.key m.state event t → Remembers m.key event m.remembered rem → Carries start (after_event m t rem)
+event_carries start m (loads id word) t rem c h r =
+    subst (λ (x : List FrameBlock). Carries start (after_event m t x)) (sym r) (plain_carries m (loads id word) t c tt h)
+event_carries start m (makes id kind) t rem c h r =
+    subst (λ (x : List FrameBlock). Carries start (after_event m t x)) (sym r) (plain_carries m (makes id kind) t c tt h)
+event_carries start m (loses id kind) t rem c h r =
+    subst (λ (x : List FrameBlock). Carries start (after_event m t x)) (sym r) (plain_carries m (loses id kind) t c tt h)
+event_carries start m (loses_at_will id kind) t rem c h r =
+    subst (λ (x : List FrameBlock). Carries start (after_event m t x)) (sym r) (plain_carries m (loses_at_will id kind) t c tt h)
+event_carries start m (cuts id (part_share n)) t rem c h r =
+    subst (λ (x : List FrameBlock). Carries start (after_event m t x)) (sym r) (plain_carries m (cuts id (part_share n)) t c tt h)
+event_carries start m (cuts id (hand_out b rest)) t rem c h r =
+    subst (λ (x : List FrameBlock). Carries start (after_event m t x)) (sym r) (plain_carries m (cuts id (hand_out b rest)) t c tt h)
+event_carries start m (cuts id (recall b rest)) t rem c h r =
+    subst (λ (x : List FrameBlock). Carries start (after_event m t x)) (sym r) (plain_carries m (cuts id (recall b rest)) t c tt h)
+event_carries start m (cuts id part_ground) t rem c h r =
+    subst (λ (x : List FrameBlock). Carries start (after_event m t x)) (sym r) (plain_carries m (cuts id part_ground) t c tt h)
+event_carries start m (cuts id (adopt b rest)) t rem c (e, at, may, is) r =
     adopt_carries m c id b rest e at may t rem (e, at, may, is)
     (adopted_views m.state t id (eye (left_by next (adopt b rest) e.view) e.read)
     (eye (right_by (adopt b rest) e.view) []) is) r
-event_carries m (joins id other join) t rem c h r =
-    subst (λ (x : List FrameBlock). Carries (after_event m t x)) (sym r) (plain_carries m (joins id other join) t c tt h)
+event_carries start m (joins id other join) t rem c h r =
+    subst (λ (x : List FrameBlock). Carries start (after_event m t x)) (sym r) (plain_carries m (joins id other join) t c tt h)
 
 -- an event between stops
-pub step_carries : (m n : Moment) (event : Event) → Carries m → Steps event m n → Carries n
-step_carries m n event c s =
+pub step_carries : (start : Start) (m n : Moment) (event : Event) → Carries start m → Steps event m n → Carries start n
+step_carries start m n event c s =
     let same : n ≡ after_event m n.state n.remembered =
     (λ i. record {
       key = s.key i;
@@ -398,4 +398,4 @@ step_carries m n event c s =
       abandoned = s.abandoned i;
       stops = s.stops i;
     }) in
-    subst Carries (sym same) (event_carries m event n.state n.remembered c s.happens s.remembers)
+    subst (Carries start) (sym same) (event_carries start m event n.state n.remembered c s.happens s.remembers)

@@ -8,14 +8,14 @@ use Rattle.frame_model.specs.Key.{tree_count, children_in}
 use Rattle.frame_model.specs.Words.{free_of, huge_of, tree_free_of, reserved_of, rest_of, bit_word_of, with_entry, with_tree, with_local}
 use Rattle.frame_model.specs.Words.{with_bits, IsRest, AreInRange}
 use Rattle.frame_model.specs.Rebuilt.{rebuilt_free, rebuilt_in_tree, rebuilt_bits, IsRebuilt}
-use Rattle.frame_model.specs.Stops.{opening_moment, unsealed, EveryRebuildingExists, EveryMomentCanStop}
+use Rattle.frame_model.specs.Stops.{unsealed, EveryRebuildingExists, EveryMomentCanStop}
 use Rattle.frame_model.proofs.OtherWords.{bit_word_of-with_entry, bit_word_of-with_tree, bit_word_of-with_local}
 use Rattle.frame_model.proofs.Opening.{range_all}
 use Rattle.frame_model.proofs.RebuiltLemmas.{rebuilt_free-set, rebuilt_free-huge, rebuilt_bits-set, rebuilt_bits-huge}
 use Rattle.frame_model.proofs.ReportLemmas.{range_le}
 use Rattle.frame_model.proofs.Stopping.Known.{Carries}
 use Rattle.frame_model.proofs.HeldBack.{in_range_unsealed}
-use Rattle.frame_model.proofs.Stopping.Survival.{opening_carries, passing_carries}
+use Rattle.frame_model.proofs.Stopping.Survival.{fresh, opened_carries}
 use Rattle.frame_model.proofs.Words.{entry_written, tree_written, local_written, bits_written}
 use Rattle.frame_model.proofs.Zeros.{local_word-none}
 
@@ -197,6 +197,6 @@ pub every_rebuilding_exists : EveryRebuildingExists
 every_rebuilding_exists key old was = rebuilding key old was
 
 pub every_moment_can_stop : EveryMomentCanStop
-every_moment_can_stop key words m k o p =
-    let c : Carries m = passing_carries (opening_moment key words) m (opening_carries key words k o) p in
+every_moment_can_stop key words shares m k some o p =
+    let c : Carries (fresh shares) m = opened_carries key words shares k some o m p in
     rebuilding (unsealed m.key) m.state.words (in_range_unsealed m.key m.state.words c.fits.words_in_range)

@@ -13,10 +13,11 @@ use Rattle.frame_model.specs.Key.{frame_count, is_boot_frame, IsKey}
 use Rattle.frame_model.specs.Block.{IsBlock, covers}
 use Rattle.frame_model.specs.View.{spent, ground_with, boot_blocks, fixed_ground, IsViewOf}
 use Rattle.frame_model.specs.Fit.{total}
-use Rattle.frame_model.specs.Holding.{holders}
+use Rattle.frame_model.specs.Holding.{holders, IsHolding}
 use Rattle.frame_model.specs.Events.{views_of, Fits}
 use Rattle.frame_model.specs.Laws.{blocks_with, holding_of}
-use Rattle.frame_model.specs.Stops.{Moment, is_holder, known_of, flying_of, known_at, flying_at, is_lost, Survives}
+use Rattle.frame_model.specs.Stops.{Moment, is_holder, known_of, flying_of, known_at, flying_at, is_lost}
+use Rattle.frame_model.specs.Stops.{lost_frames, ended_shares}
 use Rattle.frame_model.proofs.Keeps.{total_is}
 use Rattle.frame_model.proofs.Safe.{none_outside, once}
 use Rattle.frame_model.proofs.ReportLemmas.{range_le}
@@ -36,17 +37,26 @@ ground_at m x = total m.key (grounded x) (views_of m.state)
 abbrev pub GroundApart : View → Type 0
 GroundApart v = v.is_ground ≡ true → v.share ≡ 0
 
-pub record Carries (m : Moment) : Type 0 where
+-- how it began: with how many shares, and which frames the ground had that nobody remembered
+pub record Start : Type 0 where
+  pub shares : ℕ
+  pub lost : ℕ → ℕ
+
+-- how many these were
+abbrev pub lost_then : Start → Key → ℕ
+lost_then start key = sum_by start.lost (range_with_len 0 (frame_count key))
+
+pub record Carries (start : Start) (m : Moment) : Type 0 where
   pub fits : Fits m.key m.shares m.state
   pub is_key : IsKey m.key
-  pub few : m.shares ≤ m.key.cores
+  pub ended : ended_shares start.shares m.key.cores (m.stops + 1) ≡ ended_shares start.shares m.key.cores m.stops + m.shares
   pub apart : All GroundApart (views_of m.state)
   pub are_blocks : All (IsBlock m.key) m.remembered
   pub remembered : (x : ℕ) → x < frame_count m.key → holders x m.remembered + boot m.key x ≤ ground_at m x
   pub abandoned : (x : ℕ) → x < frame_count m.key
-      → ground_at m x ≤ holders x m.remembered + boot m.key x + holders x m.abandoned
+      → ground_at m x ≤ holders x m.remembered + boot m.key x + (holders x m.abandoned + start.lost x)
   pub count : sum_by (λ x. ground_at m x - (holders x m.remembered + boot m.key x))
-      (range_with_len 0 (frame_count m.key)) ≤ 512 * m.key.cores * m.stops
+      (range_with_len 0 (frame_count m.key)) ≤ lost_then start m.key + 512 * ended_shares start.shares m.key.cores m.stops
 
 pub holders_none : (x : ℕ) → holders x [] ≡ 0
 unfolding holders
@@ -161,7 +171,7 @@ no_boot : (b : Bool) → not b ≡ true → ◌≡◌ {A = ℕ} (if b then 1 els
 no_boot true e = absurd (let f : false ≡ true = e in cc)
 no_boot false e = refl
 
-module _ (m : Moment) (c : Carries m) where
+module _ {start : Start} (m : Moment) (c : Carries start m) where
   pub known_is : (x : ℕ)
       → holders x (known_at m) ≡ holders x (known_of (views_of m.state)) + holders x m.remembered
   known_is x = holders_both x (known_of (views_of m.state)) m.remembered
@@ -175,7 +185,7 @@ module _ (m : Moment) (c : Carries m) where
       ≡ holders x (known_of (views_of m.state)) + holders x (flying_at m) + ground_at m x
   held_at x = held_is_split m.key x (views_of m.state) c.apart
 
-  known_held : (x : ℕ) → holders x (known_at m) ≤ holders x (holding_of m.key (views_of m.state))
+  pub known_held : (x : ℕ) → holders x (known_at m) ≤ holders x (holding_of m.key (views_of m.state))
   known_held x =
       ⊎_elim
       (λ h. omega (arith, known_is x, held_at x, c.remembered x h))
@@ -203,30 +213,33 @@ module _ (m : Moment) (c : Carries m) where
       by true e = let t = lost_is x e in omega (arith, t.0, t.1, t.2)
       by false e = omega arith
 
-  pub survives : Survives m
-  survives = record {
-    fits = c.fits;
-    known_apart = record {
-      blocks = known_are_blocks;
-      disjoint = λ x.
-          ⊎_elim
-          (λ h. omega (arith, known_held x, once m.key m.shares m.state.words (views_of m.state) c.fits x h))
-          (λ h. omega (arith, none_outside m.key x (known_at m) known_are_blocks h))
-          (cases_lt x (frame_count m.key));
-    };
-    known_held = known_held;
-    named_held = λ x h e.
-        let one = once m.key m.shares m.state.words (views_of m.state) c.fits x h in
-        let some = named_boot (is_boot_frame m.key x) e in (
-          omega (arith, c.remembered x h, some, held_at x),
-          omega (arith, c.remembered x h, some, held_at x, one, known_is x),
-          omega (arith, c.remembered x h, some, held_at x, one),
-        );
-    few_lost = omega (
-      arith,
-      c.count,
-      range_le (λ x. cond {A = ℕ} (is_lost m x) 1 0) (λ x. ground_at m x - (holders x m.remembered + boot m.key x)) 0
-          (frame_count m.key) (λ x l h. counted_lost x),
-    );
-    were_in_flight = λ x h e. let t = lost_is x e in omega (arith, c.abandoned x h, t.0, t.1, t.2);
+  pub known_apart : IsHolding m.key (known_at m)
+  known_apart = record {
+    blocks = known_are_blocks;
+    disjoint = λ x.
+        ⊎_elim
+        (λ h. omega (arith, known_held x, once m.key m.shares m.state.words (views_of m.state) c.fits x h))
+        (λ h. omega (arith, none_outside m.key x (known_at m) known_are_blocks h))
+        (cases_lt x (frame_count m.key));
   }
+
+  pub named_held : (x : ℕ) → x < frame_count m.key → is_boot_frame m.key x ≡ true
+      → (0 < holders x (holding_of m.key (views_of m.state))) × (holders x (known_at m) ≡ 0) × (holders x (flying_at m) ≡ 0)
+  named_held x h e =
+      let one = once m.key m.shares m.state.words (views_of m.state) c.fits x h in
+      let some = named_boot (is_boot_frame m.key x) e in (
+        omega (arith, c.remembered x h, some, held_at x),
+        omega (arith, c.remembered x h, some, held_at x, one, known_is x),
+        omega (arith, c.remembered x h, some, held_at x, one),
+      )
+
+  pub few_lost : lost_frames m ≤ lost_then start m.key + 512 * ended_shares start.shares m.key.cores m.stops
+  few_lost = omega (
+    arith,
+    c.count,
+    range_le (λ x. cond {A = ℕ} (is_lost m x) 1 0) (λ x. ground_at m x - (holders x m.remembered + boot m.key x)) 0
+        (frame_count m.key) (λ x l h. counted_lost x),
+  )
+
+  pub were_lost : (x : ℕ) → x < frame_count m.key → is_lost m x ≡ true → 0 < holders x m.abandoned + start.lost x
+  were_lost x h e = let t = lost_is x e in omega (arith, c.abandoned x h, t.0, t.1, t.2)

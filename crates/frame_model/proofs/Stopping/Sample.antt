@@ -165,7 +165,7 @@ rebuilt = rebuilt_by_bits 384 384 0 448 full_word 0 0 0 0 0 0 0 (omega arith)
     (omega (arith, ones_zero, ones_full)) full_fits low_word low_word low_word low_word low_word low_word low_word
 
 abbrev first : Moment
-first = opening_moment one_child all_free
+first = opening_moment one_child all_free 1
 
 abbrev last : Moment
 last = stopped (record first { state = then }) again

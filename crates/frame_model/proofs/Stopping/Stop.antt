@@ -20,6 +20,7 @@ use Rattle.frame_model.specs.Openings.{held_blocks}
 use Rattle.frame_model.specs.Events.{views_of, Fits}
 use Rattle.frame_model.specs.Laws.{blocks_with, holding_of}
 use Rattle.frame_model.specs.Stops.{Moment, known_of, flying_of, known_at, flying_at, unsealed, range_blocks, stopped, seats_after}
+use Rattle.frame_model.specs.Stops.{ended_shares}
 use Rattle.frame_model.proofs.Sums.{sum_plus}
 use Rattle.frame_model.proofs.Keeps.{total_is}
 use Rattle.frame_model.proofs.Blocks.{behind_block}
@@ -30,7 +31,7 @@ use Rattle.frame_model.proofs.Safe.{holders_are, once}
 use Rattle.frame_model.proofs.HeldBack.{in_range_unsealed}
 use Rattle.frame_model.proofs.Stopping.Rebuilding.{again, held_then, past_then}
 use Rattle.frame_model.proofs.Stopping.Reopened.{after_sum, after_all, reopened_fits, views_after}
-use Rattle.frame_model.proofs.Stopping.Known.{grounded, boot, ground_at, GroundApart, Carries, holders_none, holders_both, known_are_blocks}
+use Rattle.frame_model.proofs.Stopping.Known.{grounded, boot, ground_at, GroundApart, Start, Carries, holders_none, holders_both, known_are_blocks}
 use Rattle.frame_model.proofs.Stopping.Known.{known_is, held_at}
 
 -- Names of frames before and after.
@@ -214,6 +215,20 @@ times_none n = omega arith
 one_more : (a n : ℕ) → a * (n + 1) ≡ a * n + a
 one_more a n = grind arith
 
+ended_at : (shares cores later : ℕ) → ended_shares shares cores (suc later) ≡ shares + cores * later
+unfolding ended_shares
+ended_at shares cores later = refl
+
+ended_later : (shares cores later : ℕ) → ended_shares shares cores (later + 1) ≡ shares + cores * later
+ended_later shares cores later =
+    let next : later + 1 ≡ suc later = omega arith in ap (ended_shares shares cores) next ∙ ended_at shares cores later
+
+-- a stop after the first one ends a share for each core
+ended_next : (shares cores stops : ℕ)
+    → ended_shares shares cores (stops + 1 + 1) ≡ ended_shares shares cores (stops + 1) + cores
+ended_next shares cores stops =
+    omega (arith, ended_later shares cores (stops + 1), ended_later shares cores stops, one_more cores stops)
+
 own-le-blocks : (x : ℕ) (vs : List View) (k : ℕ) (d : View) → k < length vs
     → holders x (get_or vs k d).own ≤ holders x (blocks_with vs)
 unfolding blocks_with
@@ -230,7 +245,7 @@ own-le-held : (key : Key) (x : ℕ) (vs : List View) (k : ℕ) (d : View) → k 
     → holders x (get_or vs k d).own ≤ holders x (holding_of key vs)
 own-le-held key x vs k d h = own-le-blocks x (all_views key vs) (suc k) d (omega arith)
 
-module _ (m : Moment) (c : Carries m) (new : List ℕ) (r : IsRebuilt (unsealed m.key) m.state.words new) where
+module _ {start : Start} (m : Moment) (c : Carries start m) (new : List ℕ) (r : IsRebuilt (unsealed m.key) m.state.words new) where
   exact : IsRebuilt (unsealed m.key) new new
   exact = again (unsealed m.key) m.state.words new (in_range_unsealed m.key m.state.words c.fits.words_in_range) r
 
@@ -268,14 +283,13 @@ module _ (m : Moment) (c : Carries m) (new : List ℕ) (r : IsRebuilt (unsealed 
   flying_once k d h x q =
       omega (arith, once m.key m.shares m.state.words (views_of m.state) c.fits x q, own-le-held m.key x (views_of m.state) k d h)
 
-  few_flying : sum_by (λ x. holders x (flying_at m)) (range_with_len 0 (frame_count m.key)) ≤ 512 * m.key.cores
+  few_flying : sum_by (λ x. holders x (flying_at m)) (range_with_len 0 (frame_count m.key)) ≤ 512 * m.shares
   few_flying =
       omega (
         arith,
         flying_sum m.key (views_of m.state) c.fits.each flying_once,
         c.fits.shares_add_up,
         total_is m.key (λ v. v.share) (views_of m.state),
-        c.few,
       )
 
   remembers : (x : ℕ)
@@ -288,11 +302,11 @@ module _ (m : Moment) (c : Carries m) (new : List ℕ) (r : IsRebuilt (unsealed 
     names_split m.key c.is_key x,
   )
 
-  pub stop_carries : Carries (stopped m new)
+  pub stop_carries : Carries start (stopped m new)
   stop_carries = record {
     fits = stop_fits;
     is_key = unsealed_key m.key c.is_key;
-    few = omega arith;
+    ended = ended_next start.shares m.key.cores m.stops;
     apart = after_all (unsealed m.key) new GroundApart (λ e. absurd (false-is-not-true e)) (λ e. refl);
     are_blocks = same_blocks m.key (known_at m ++ range_blocks m.key)
         (All-append (IsBlock m.key) (known_at m) (range_blocks m.key) (known_are_blocks m c) (range_blocks_are m.key c.is_key));
@@ -319,6 +333,6 @@ module _ (m : Moment) (c : Carries m) (new : List ℕ) (r : IsRebuilt (unsealed 
             stop_ground x q,
             held_at m c x,
           )),
-      one_more (512 * m.key.cores) m.stops,
+      c.ended,
     );
   }
