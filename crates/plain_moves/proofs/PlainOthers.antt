@@ -4,6 +4,7 @@ use Rattle.std.proofs.Common.{get_or, set, refl, ap, sym, subst, ◌∙◌, arit
 use Rattle.std.specs.List.{All}
 use Rattle.std.proofs.Math.Logic.{∥∥₁_map}
 use Rattle.std.proofs.lemmas.Int.{ints}
+use Rattle.std.proofs.lemmas.Bool.{cases_eq}
 use Rattle.std.specs.Prelude.{slice_get}
 use Rattle.std.proofs.lemmas.List.Elements.{All-set}
 use borrow.Author.Differences.{up, down}
@@ -22,7 +23,7 @@ use Rattle.frame_model.proofs.Steps.Seats.{ground_no}
 use Rattle.plain_moves.specs.declared.plain.party.Party.{Party}
 use Rattle.plain_moves.specs.declared.plain.party.Company.{Company}
 use Rattle.plain_moves.specs.declared.plain.PlainMoves.{PlainMoves}
-use Rattle.plain_moves.specs.PlainState.{IsParked}
+use Rattle.plain_moves.specs.PlainState.{view_by, IsParked, IsTurned, IsAlike, IsUnmoved}
 use Rattle.plain_moves.specs.Allowed.{own_stand, their_stand}
 use Rattle.plain_moves.specs.Plain.{plain_key, plain_view, IsOf, AreOf, AreHeld, AreNotBoth, Agrees}
 use Rattle.plain_moves.proofs.PlainOuts.{other_stays}
@@ -266,11 +267,43 @@ module _ {X : Type 0} where
   written_at (y ∷ ys) zero x h = refl
   written_at (y ∷ ys) (suc k) x h = written_at ys k x (omega arith)
 
+  pub reads_else : (xs : List X) (k : ℕ) (x : X) (i : ℕ) → i ≢ k → slice_get (set xs k x) i ≡ slice_get xs i
+  reads_else [] k x i ne = refl
+  reads_else (y ∷ ys) zero x zero ne = absurd (ne refl)
+  reads_else (y ∷ ys) zero x (suc i) ne = refl
+  reads_else (y ∷ ys) (suc k) x zero ne = refl
+  reads_else (y ∷ ys) (suc k) x (suc i) ne = reads_else ys k x i (λ e. ne (ap suc e))
+
   pub all_at : (P : X → Type 0) (xs : List X) (k : ℕ) (x : X) → k < length xs → x ≡ get_or xs k x → All P xs → P x
   all_at P xs k x h e all = subst P (sym e) (all k x h)
 
   pub all_set : (P : X → Type 0) (xs : List X) (k : ℕ) (x : X) → P x → All P xs → All P (set xs k x)
   all_set P xs k x h all = All-set P xs k x h all
+
+pub alike_self : (p : Party) → IsAlike p p
+alike_self p = record {
+  share = refl;
+  own = refl;
+  paid = refl;
+  charged = refl;
+  reserving = refl;
+  filled = refl;
+  moves = refl;
+  lost = refl;
+}
+
+pub unmoved_self : (m : PlainMoves) → IsUnmoved m m
+unmoved_self m = record {
+  key = refl;
+  words = refl;
+  outs = refl;
+  view = refl;
+  their_outs = refl;
+  parties = λ k p e. (p, (e, alike_self p));
+}
+
+one_of : {X : Type 0} (xs : List X) (k : ℕ) (x y : X) → slice_get xs k ≡ Some x → slice_get xs k ≡ Some y → x ≡ y
+one_of xs k x y e f = let some : Some x ≡ Some y = sym e ∙ f in cc
 
 -- the own view has what the party had, on the other side of the blocks that are out
 pub stand_is : (p : Party) (now m : PlainMoves) → now.geometry ≡ m.geometry → now.sealed ≡ m.sealed → now.words ≡ m.words
@@ -282,3 +315,58 @@ stand_is p now m g s w o is = λ i. record {
   view = plain_view (plain_key (g i) (s i)) (sym is.share i) (o i).items (sym is.paid i) (sym is.charged i) (sym is.reserving i)
       (sym is.own i).items (sym is.filled i).items (sym is.moves i) (sym is.lost i);
 }
+
+-- who changed places twice has all as before
+module _ (who : ℕ) (a b c : PlainMoves) (there : IsTurned who a b) (back : IsTurned who b c) where
+  first : IsParked there.went.0 c
+  first = subst (λ (p : Party). IsParked p c) (one_of b.them.parties.items who _ _ back.came.1.0 there.went.1.0) back.came.1.1
+
+  home : view_by c ≡ view_by a
+  home = let p = first in let q = there.went.1.1 in λ i.
+      plain_view
+      (plain_key ((back.key.0 ∙ there.key.0) i) ((back.key.1 ∙ there.key.1) i))
+      ((sym p.share ∙ q.share) i)
+      ((back.outs.0 ∙ there.outs.1) i).items
+      ((sym p.paid ∙ q.paid) i)
+      ((sym p.charged ∙ q.charged) i)
+      ((sym p.reserving ∙ q.reserving) i)
+      ((sym p.own ∙ q.own) i).items
+      ((sym p.filled ∙ q.filled) i).items
+      ((sym p.moves ∙ q.moves) i)
+      ((sym p.lost ∙ q.lost) i)
+
+  alike : (k : ℕ) (p : Party) → slice_get a.them.parties.items k ≡ Some p
+      → (q : Party) × ((slice_get c.them.parties.items k ≡ Some q) × IsAlike p q)
+  alike k p is = ⊎_elim
+      (λ (e : k ≡ who).
+      let here : slice_get a.them.parties.items who ≡ Some p = subst (λ (j : ℕ). slice_get a.them.parties.items j ≡ Some p) e is in
+      let was : IsParked p b = subst (λ (q : Party). IsParked q b) (one_of a.them.parties.items who _ _ there.came.1.0 here) there.came.1.1 in
+      let q = back.went.0 in
+      let now = back.went.1.1 in (
+        q,
+        (
+          subst (λ (j : ℕ). slice_get c.them.parties.items j ≡ Some q) (sym e) back.went.1.0,
+          record {
+            share = was.share ∙ sym now.share;
+            own = was.own ∙ sym now.own;
+            paid = was.paid ∙ sym now.paid;
+            charged = was.charged ∙ sym now.charged;
+            reserving = was.reserving ∙ sym now.reserving;
+            filled = was.filled ∙ sym now.filled;
+            moves = was.moves ∙ sym now.moves;
+            lost = was.lost ∙ sym now.lost;
+          },
+        ),
+      ))
+      (λ ne. (p, (back.others k ne ∙ there.others k ne ∙ is, alike_self p)))
+      (cases_eq k who)
+
+  pub turned_twice : IsUnmoved a c
+  turned_twice = record {
+    key = λ i. plain_key ((back.key.0 ∙ there.key.0) i) ((back.key.1 ∙ there.key.1) i);
+    words = back.words ∙ there.words;
+    outs = back.outs.0 ∙ there.outs.1;
+    view = home;
+    their_outs = back.outs.1 ∙ there.outs.0;
+    parties = alike;
+  }

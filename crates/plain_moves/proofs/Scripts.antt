@@ -1,6 +1,6 @@
 -- Each half of a move by a script, joined to what the trait tells of the move.
 use Rattle.std.proofs.Common.{◌≡◌, ◌≢◌, ◌⊎◌, inl, inr, ⊎_elim, ℕ, ◌-◌, ◌≤◌, List, Bool, true, false, ◌||◌, Option}
-use Rattle.std.proofs.Common.{Some, refl, ap, sym, subst, ◌∙◌, arith}
+use Rattle.std.proofs.Common.{Some, length, refl, ap, sym, subst, ◌∙◌, arith}
 use Rattle.std.specs.Prelude.{slice_get, slice_index}
 use Rattle.std.specs.List.{All}
 use Rattle.frame_words.specs.Words.{rest_in}
@@ -11,7 +11,7 @@ use Rattle.frame_model.specs.declared.view.View.{View}
 use Rattle.frame_model.specs.Steps.{Kind, swap_local, place, effect, after_load, after_loss}
 use Rattle.frame_model.specs.Words.{IsRest}
 use Rattle.frame_core.specs.Moves.{hand_out_block, place_of, HasLayout, ReadsBut, after, Changes}
-use Rattle.frame_core.specs.Mover.{Mover, IsApart, Keeps, Loads, Tries, Makes, Swaps, HandsOut, HandsIn}
+use Rattle.frame_core.specs.Mover.{IsApart, Keeps, Loads, Tries, Makes, Swaps, HandsOut, HandsIn}
 use Rattle.frame_model.specs.Seats.{hand_in, left_by, joined_by}
 use Rattle.frame_model.specs.View.{holder}
 use Rattle.plain_moves.specs.declared.plain.PlainMoves.{PlainMoves}
@@ -19,17 +19,14 @@ use Rattle.plain_moves.specs.declared.plain.party.Company.{Company}
 use Rattle.plain_moves.specs.declared.script.ScriptMoves.{ScriptMoves}
 use Rattle.plain_moves.specs.declared.script.cue.Cue.{Cue}
 use Rattle.plain_moves.specs.declared.script.cue.What.TheVariants.{Lose, Stop}
-use Rattle.plain_moves.specs.Plain.{plain_tick, plain_mover, IsIdleParty, IsOutIn}
-use Rattle.plain_moves.specs.PlainState.{key_by, words_by, view_by, Loses}
+use Rattle.plain_moves.specs.Plain.{plain_tick, IsIdleParty, IsOutIn}
+use Rattle.plain_moves.specs.PlainState.{key_by, words_by, view_by, mover_by, Loses}
 use Rattle.plain_moves.specs.Script.{IsPast, NoneAt, LosesAt, ShowsStop}
-use Rattle.plain_moves.specs.ScriptState.{at_by, read_by, scripted, script_mover, IsOver, IsReady, IsLost, FindsWord}
+use Rattle.plain_moves.specs.ScriptState.{at_by, read_by, scripted, script_mover, IsOver, IsReady, IsLost, FindsWord, MeetsFirst}
+use Rattle.plain_moves.specs.Plays.{Plays, IsSilent, TriesIt, LoadsIt}
 use Rattle.plain_moves.specs.ScriptLaws.{over_is_quiet}
 use Rattle.plain_moves.proofs.Cues.{is_not_at, stepped}
 use Rattle.plain_moves.proofs.PlainSteps.{apart_known, got}
-
--- what the plain moves have
-abbrev pub at_plain : PlainMoves → Mover Company FrameBlock
-at_plain p = plain_mover (key_by p) p.them (words_by p) p.outs.items (view_by p)
 
 or_false : (b : Bool) → b ≡ (b || false)
 or_false true = refl
@@ -63,7 +60,7 @@ module _ (m n : ScriptMoves) (kind : Kind) (p seen : ℕ) (is : IsLost p seen m 
   pub lost_by : Tries plain_tick kind seen false (script_mover m) (script_mover n)
   lost_by = record {
     keeps = record {
-      same_tie = refl;
+      same_tie = λ i. ((is.cues i).items, is.begun i);
       same_key = is.key;
       stays_alone = λ over. still_over m n.plain n.cues.items n.begun ((is.quiet (over_is_quiet m over)).1.them)
           (ap (λ v. v.items) is.cues) lost_at over;
@@ -162,7 +159,7 @@ module _ (m r : ScriptMoves) (p now : PlainMoves) (cs : List Cue) (begun : ℕ) 
   pub keeps_by : (read : List ℕ) (missed : Bool) → ((b : FrameBlock) → IsOutIn r.plain.outs.items b → IsOutIn p.outs.items b)
       → Keeps (script_mover m) (scripted now cs read begun missed)
   keeps_by read missed out = record {
-    same_tie = refl;
+    same_tie = λ i. ((cues ∙ ap (λ v. v.items) ready.untold.cues) i, (same_begun ∙ ready.untold.begun) i);
     same_key = same_key;
     stays_alone = over_on;
     stay_out = λ b o. out_on b (out b) o;
@@ -196,7 +193,7 @@ module _ (m r w n : ScriptMoves) (p : PlainMoves) (kind : Kind) (q : ℕ) (ready
       (λ i ne. found.reads i ne ∙ ap (λ l. slice_get l.items i) (with.read ∙ ready.untold.read))
 
   -- a change was made
-  pub made_by : Makes plain_tick kind (at_plain r.plain) (at_plain p) → Makes plain_tick kind (script_mover m) (script_mover n)
+  pub made_by : Makes plain_tick kind (mover_by r.plain) (mover_by p) → Makes plain_tick kind (script_mover m) (script_mover n)
   made_by is = record {
     keeps = keeps_by m r p n.plain n.cues.items n.begun ready is.keeps.same_tie is.keeps.same_key
         (ap (λ (v : View). v.moves) is.view ∙ ticks (view_by r.plain)) now (ap (λ v. v.items) (found.cues ∙ with.cues))
@@ -211,7 +208,7 @@ module _ (m r w n : ScriptMoves) (p : PlainMoves) (kind : Kind) (q : ℕ) (ready
   }
 
   -- an exchange was made
-  won_true : (seen : ℕ) → Tries plain_tick kind seen true (at_plain r.plain) (at_plain p)
+  won_true : (seen : ℕ) → Tries plain_tick kind seen true (mover_by r.plain) (mover_by p)
       → Tries plain_tick kind seen true (script_mover m) (script_mover n)
   won_true seen is = record {
     keeps = keeps_by m r p n.plain n.cues.items n.begun ready is.keeps.same_tie is.keeps.same_key
@@ -233,7 +230,7 @@ module _ (m r w n : ScriptMoves) (p : PlainMoves) (kind : Kind) (q : ℕ) (ready
 
   -- and where its word is as it was seen, it is
   pub won_by : (seen : ℕ) (made : Bool) → slice_get (words_by r.plain) (place (key_by m.plain) kind) ≡ Some seen
-      → Tries plain_tick kind seen made (at_plain r.plain) (at_plain p)
+      → Tries plain_tick kind seen made (mover_by r.plain) (mover_by p)
       → Tries plain_tick kind seen made (script_mover m) (script_mover n)
   won_by seen true stands is = won_true seen is
   won_by seen false stands is = absurd ((is.words tt).0 (got (words_by r.plain) (place (key_by r.plain) kind) seen
@@ -243,7 +240,7 @@ module _ (m r w n : ScriptMoves) (p : PlainMoves) (kind : Kind) (q : ℕ) (ready
 module _ (m r w n : ScriptMoves) (p : PlainMoves) (core : ℕ) (put answer : Option (ℕ × ℕ)) (q : ℕ) (ready : IsReady m r)
     (with : IsWith p r w)
     (found : FindsWord q w n) (here : q ≡ place (key_by p) (swap_local core put)) where
-  pub swapped_by : Swaps plain_tick core put answer (at_plain r.plain) (at_plain p)
+  pub swapped_by : Swaps plain_tick core put answer (mover_by r.plain) (mover_by p)
       → Swaps plain_tick core put answer (script_mover m) (script_mover n)
   swapped_by is = let now : n.plain ≡ p = found.plain ∙ with.plain in record {
     keeps = keeps_by m r p n.plain n.cues.items n.begun ready is.keeps.same_tie is.keeps.same_key
@@ -271,7 +268,7 @@ module _ (m r w n : ScriptMoves) (p : PlainMoves) (core : ℕ) (put answer : Opt
 module _ (m r w n : ScriptMoves) (p : PlainMoves) (word : Place) (answer result q : ℕ) (ready : IsReady m r) (with : IsWith p r w)
     (found : FindsWord q w n) (here_p : q ≡ place_of (key_by p) word) (reads_as : read_by n q ≡ Some result)
     (value : slice_index (words_by p) q ≡ result) where
-  pub loaded_by : Loads plain_tick word answer (at_plain r.plain) (at_plain p)
+  pub loaded_by : Loads plain_tick word answer (mover_by r.plain) (mover_by p)
       → Loads plain_tick word result (script_mover m) (script_mover n)
   loaded_by is =
       let now : n.plain ≡ p = found.plain ∙ with.plain in
@@ -309,7 +306,7 @@ module _ (m r : ScriptMoves) (p : PlainMoves) (ready : IsReady m r) (b : FrameBl
       → ◌≡◌ {A = Option (List ℕ)} (Some (words_by p)) (Some (words_by m.plain))
   words_on same none = same ∙ ap (λ ws. Some ws.items) (ready.quiet none).words
 
-  pub out_by : (held : FrameBlock) → HandsOut plain_tick (λ d. d) b held (at_plain r.plain) (at_plain p)
+  pub out_by : (held : FrameBlock) → HandsOut plain_tick (λ d. d) b held (mover_by r.plain) (mover_by p)
       → HandsOut plain_tick (λ d. d) b held (script_mover m) (scripted p r.cues.items r.read.items r.begun r.missed)
   out_by held is = record {
     keeps = keeps_by m r p p r.cues.items r.begun ready is.keeps.same_tie is.keeps.same_key (ap (λ (v : View). v.moves) is.view)
@@ -322,13 +319,13 @@ module _ (m r : ScriptMoves) (p : PlainMoves) (ready : IsReady m r) (b : FrameBl
     words = λ none. words_on (is.words tt) none;
   }
 
-  pub in_by : HandsIn plain_tick (λ d. d) b (at_plain r.plain) (at_plain p)
+  pub in_by : HandsIn plain_tick (λ d. d) b (mover_by r.plain) (mover_by p)
       → HandsIn plain_tick (λ d. d) b (script_mover m) (scripted p r.cues.items r.read.items r.begun r.missed)
   in_by is =
       let moves = ap (λ (v : View). v.moves) is.view in
       record {
         keeps = record {
-          same_tie = refl;
+          same_tie = λ i. ((ready.untold.cues i).items, ready.untold.begun i);
           same_key = is.keeps.same_key ∙ ready.still.key;
           stays_alone = over_on m r p p r.cues.items r.begun ready is.keeps.same_tie is.keeps.same_key moves refl refl refl;
           others_out = λ d ne o. out_on m r p p r.cues.items r.begun ready is.keeps.same_tie is.keeps.same_key moves refl refl refl d
@@ -343,7 +340,40 @@ module _ (m r : ScriptMoves) (p : PlainMoves) (ready : IsReady m r) (b : FrameBl
 -- An exchange was tried: the script shows the last stop of all moves so far.
 module _ (m r : ScriptMoves) (p : PlainMoves) (kind : Kind) (seen : ℕ) (ready : IsReady m r)
     (ticks : (v : View) → (after plain_tick kind v).moves ≡ plain_tick v.moves) where
-  pub tried : (made : Bool) → Tries plain_tick kind seen made (at_plain r.plain) (at_plain p)
+  pub tried : (made : Bool) → Tries plain_tick kind seen made (mover_by r.plain) (mover_by p)
       → ∥ ShowsStop (key_by p) r.begun (p.moves - r.begun) 0 r.cues.items r.has_stopped r.stop.words ∥₁
   tried true is = stepped m r p _ ready is.keeps.same_key is.view (ticks (view_by r.plain))
   tried false is = stepped m r p _ ready is.keeps.same_key is.view refl
+
+-- The caller's own step.
+
+-- where the word is as it was seen, the exchange is made
+pub own_try : (m r : ScriptMoves) (p : PlainMoves) (kind : Kind) (seen : ℕ) (made : Bool) → IsReady m r
+    → slice_get (words_by r.plain) (place (key_by m.plain) kind) ≡ Some seen
+    → Tries plain_tick kind seen made (mover_by r.plain) (mover_by p) → TriesIt kind seen made r.plain p
+own_try m r p kind seen true ready stands is = is
+own_try m r p kind seen false ready stands is =
+    absurd ((is.words tt).0 (got (words_by r.plain) (place (key_by r.plain) kind) seen
+    (subst (λ (k : Key). slice_get (words_by r.plain) (place k kind) ≡ Some seen) (sym ready.still.key) stands)))
+
+-- the word that was loaded is the one that is read
+pub own_load : (a b : PlainMoves) (word : Place) (answer result q : ℕ) → q ≡ place_of (key_by b) word → slice_index (words_by b) q ≡ result
+    → Loads plain_tick word answer (mover_by a) (mover_by b) → LoadsIt word result a b
+own_load a b word answer result q here value is =
+    let whole = (is.words tt).1 in
+    let same : words_by b ≡ words_by a = cc in
+    let there : q ≡ place_of (key_by a) word = here ∙ ap (λ k. place_of k word) is.keeps.same_key in
+    let told : answer ≡ result =
+    sym (is.words tt).0 ∙ ap (slice_index (words_by a)) (sym there) ∙ ap (λ ws. slice_index ws q) (sym same) ∙ value in
+    subst (λ (x : ℕ). LoadsIt word x a b) told is
+
+-- the cues, and then the caller's own step
+pub played : (is_exchange : Bool) (Own : PlainMoves → PlainMoves → Type 0) (m r n : ScriptMoves) (p : PlainMoves)
+    → MeetsFirst m.cues.items is_exchange (length m.cues.items) m r → Own r.plain p → n.plain ≡ p → IsSilent r n
+    → Plays is_exchange Own m n
+played is_exchange Own m r n p met own now silent = record {
+  ready = r;
+  met = met;
+  own = subst (Own r.plain) (sym now) own;
+  silent = silent;
+}

@@ -1,3 +1,4 @@
+pub mod Acts
 pub mod Allowed
 pub mod Apart
 pub mod Plain
@@ -5,4 +6,5 @@ pub mod PlainLaws
 pub mod PlainState
 pub mod Script
 pub mod ScriptState
+pub mod Plays
 pub mod ScriptLaws

@@ -1,13 +1,15 @@
 -- What plain moves have: the key, the words and the own view.
-use Rattle.std.specs.Prelude.{◌≡◌, ℕ, List, [], vec_len}
+use Rattle.std.specs.Prelude.{◌≡◌, ◌≢◌, ℕ, List, [], Some, vec_len, slice_get}
+use Rattle.frame_model.specs.declared.block.FrameBlock.{FrameBlock}
 use Rattle.frame_model.specs.declared.key.Key.{Key}
 use Rattle.frame_model.specs.declared.view.View.{View}
 use Rattle.frame_core.specs.Image.{Contents}
+use Rattle.frame_core.specs.Mover.{Mover}
 use Rattle.frame_model.specs.Steps.{after_loss}
 use Rattle.plain_moves.specs.declared.plain.PlainMoves.{PlainMoves}
 use Rattle.plain_moves.specs.declared.plain.party.Company.{Company}
 use Rattle.plain_moves.specs.declared.plain.party.Party.{Party}
-use Rattle.plain_moves.specs.Plain.{plain_key, plain_tick, plain_view}
+use Rattle.plain_moves.specs.Plain.{plain_key, plain_mover, plain_tick, plain_view}
 
 -- the key of the memory
 abbrev pub key_by : PlainMoves → Key
@@ -26,6 +28,10 @@ abbrev pub view_by : PlainMoves → View
 view_by m =
     plain_view (key_by m) m.share m.outs.items m.paid m.charged m.reserving m.own.items
     m.filled.items m.moves m.lost
+
+-- what the moves of the own view have
+abbrev pub mover_by : PlainMoves → Mover Company FrameBlock
+mover_by m = plain_mover (key_by m) m.them (words_by m) m.outs.items (view_by m)
 
 -- nobody waits beside the own view
 abbrev pub IsByItself : PlainMoves → Type 0
@@ -49,6 +55,38 @@ pub record IsParked (p : Party) (m : PlainMoves) : Type 0 where
   pub filled : p.filled ≡ m.filled
   pub moves : p.moves ≡ m.moves
   pub lost : p.lost ≡ m.lost
+
+-- what the party of this number has in flight and what the own view has change places, and so do the
+-- blocks that they handed out; nothing else has changed
+pub record IsTurned (who : ℕ) (old new : PlainMoves) : Type 0 where
+  pub key : (new.geometry ≡ old.geometry) × (new.sealed ≡ old.sealed)
+  pub words : new.words ≡ old.words
+  pub outs : (new.outs ≡ old.them.outs) × (new.them.outs ≡ old.outs)
+  pub came : (p : Party) × ((slice_get old.them.parties.items who ≡ Some p) × IsParked p new)
+  pub went : (p : Party) × ((slice_get new.them.parties.items who ≡ Some p) × IsParked p old)
+  pub others : (k : ℕ) → k ≢ who
+      → slice_get new.them.parties.items k ≡ slice_get old.them.parties.items k
+
+-- both parties have the same in flight
+pub record IsAlike (p q : Party) : Type 0 where
+  pub share : p.share ≡ q.share
+  pub own : p.own ≡ q.own
+  pub paid : p.paid ≡ q.paid
+  pub charged : p.charged ≡ q.charged
+  pub reserving : p.reserving ≡ q.reserving
+  pub filled : p.filled ≡ q.filled
+  pub moves : p.moves ≡ q.moves
+  pub lost : p.lost ≡ q.lost
+
+-- nothing has changed: not the words, not the own view, and not what anybody else has
+pub record IsUnmoved (old new : PlainMoves) : Type 0 where
+  pub key : key_by new ≡ key_by old
+  pub words : new.words ≡ old.words
+  pub outs : new.outs ≡ old.outs
+  pub view : view_by new ≡ view_by old
+  pub their_outs : new.them.outs ≡ old.them.outs
+  pub parties : (k : ℕ) (p : Party) → slice_get old.them.parties.items k ≡ Some p
+      → (q : Party) × ((slice_get new.them.parties.items k ≡ Some q) × IsAlike p q)
 
 -- the own view and its blocks that are out are as before; words and company may have changed
 pub record IsStill (old new : PlainMoves) : Type 0 where

@@ -1,5 +1,5 @@
 -- What moves by a script have, and what its cues and each half of a move leave.
-use Rattle.std.specs.Prelude.{◌≡◌, ◌≢◌, ◌⊎◌, ℕ, ◌+◌, ◌-◌, ◌<◌, min, List, Option, Some, None, if◌then◌else◌, Bool, true, false, MatchBool, slice_get, slice_index, length, zero, suc}
+use Rattle.std.specs.Prelude.{◌≡◌, ◌≢◌, ◌⊎◌, ℕ, ◌+◌, ◌-◌, ◌<◌, min, List, Option, Some, None, if◌then◌else◌, Bool, true, false, MatchBool, slice_get, slice_index, length, vec_len, zero, suc}
 use Rattle.std.specs.List.{All}
 use Rattle.frame_model.specs.declared.block.FrameBlock.{FrameBlock}
 use Rattle.frame_core.specs.Image.{Contents}
@@ -11,9 +11,11 @@ use Rattle.plain_moves.specs.declared.script.cue.Cue.{Cue}
 use Rattle.plain_moves.specs.declared.script.cue.What.{What}
 use Rattle.plain_moves.specs.declared.script.cue.What.TheVariants.{Lose, Stranger, Stop}
 use Rattle.plain_moves.specs.declared.plain.PlainMoves.{PlainMoves}
+use Rattle.plain_moves.specs.declared.plain.party.Party.{Party}
 use Rattle.plain_moves.specs.declared.script.ScriptMoves.{ScriptMoves}
-use Rattle.plain_moves.specs.Plain.{plain_tick, IsIdleParty, IsOutIn}
-use Rattle.plain_moves.specs.PlainState.{key_by, words_by, view_by, IsStill}
+use Rattle.plain_moves.specs.Plain.{plain_tick, IsFresh, IsIdleParty, IsOutIn}
+use Rattle.plain_moves.specs.PlainState.{key_by, words_by, view_by, IsStill, IsUnmoved}
+use Rattle.plain_moves.specs.Acts.{TheyAct}
 use Rattle.plain_moves.specs.Allowed.{TheyMayAct}
 use Rattle.plain_moves.specs.Script.{IsPast, NoneAt, LosesAt, NoStop, ShowsStop, StopsAt}
 
@@ -33,6 +35,14 @@ stop_by m = if m.has_stopped then Some m.stop else None
 abbrev pub at_by : ScriptMoves → ℕ
 at_by m = m.plain.moves - m.begun
 
+-- the script
+abbrev pub cues_by : ScriptMoves → List Cue
+cues_by m = m.cues.items
+
+-- what the strangers have
+abbrev pub strangers_by : ScriptMoves → List Party
+strangers_by m = m.plain.them.parties.items
+
 -- what the caller last found each word to be
 abbrev pub read_by : ScriptMoves → ℕ → Option ℕ
 read_by m i = slice_get m.read.items i
@@ -43,9 +53,9 @@ pub record IsOver (at : ℕ) (cues : List Cue) (m : PlainMoves) : Type 0 where
   pub idle : All IsIdleParty m.them.parties.items
 
 -- what a mover by a script has
-abbrev pub scripted : PlainMoves → List Cue → List ℕ → ℕ → Bool → Mover (Unit {0}) FrameBlock
+abbrev pub scripted : PlainMoves → List Cue → List ℕ → ℕ → Bool → Mover (List Cue × ℕ) FrameBlock
 scripted plain cues read begun missed = record {
-  tie = tt;
+  tie = (cues, begun);
   key = key_by plain;
   view = view_by plain;
   read = λ i. slice_get read i;
@@ -58,7 +68,7 @@ scripted plain cues read begun missed = record {
 }
 
 -- what the caller's moves have
-abbrev pub script_mover : ScriptMoves → Mover (Unit {0}) FrameBlock
+abbrev pub script_mover : ScriptMoves → Mover (List Cue × ℕ) FrameBlock
 script_mover m = scripted m.plain m.cues.items m.read.items m.begun m.missed
 
 -- nobody but the caller changed anything
@@ -88,14 +98,16 @@ one_skipped n = min (n + 1) 4294967295
 abbrev pub StrangerMay : ℕ → Act → PlainMoves → Type 0
 StrangerMay who act m = (who < 8) × TheyMayAct who act m
 
--- a cue is counted exactly where it was not made: a loss at a move that is no exchange, and an act
--- that its conditions do not allow
+-- a cue is counted exactly where it is not made: a loss at a move that is no exchange, and an act
+-- that its conditions do not allow, of which nothing is left; an act that they allow is made
 abbrev pub CountsCue : What → Bool → ScriptMoves → ScriptMoves → Type 0
 CountsCue Lose is_exchange old new =
     MatchBool is_exchange (new.skipped ≡ old.skipped) (new.skipped ≡ one_skipped old.skipped)
 CountsCue (Stranger who act) is_exchange old new =
-    ((new.skipped ≡ old.skipped) × StrangerMay who act old.plain)
-    ⊎ ((new.skipped ≡ one_skipped old.skipped) × (StrangerMay who act old.plain → ⊥))
+    ((new.skipped ≡ old.skipped)
+    × (StrangerMay who act old.plain × TheyAct who act old.plain new.plain))
+    ⊎ ((new.skipped ≡ one_skipped old.skipped)
+    × ((StrangerMay who act old.plain → ⊥) × IsUnmoved old.plain new.plain))
 CountsCue Stop is_exchange old new = new.skipped ≡ old.skipped
 
 -- the words were copied
@@ -175,7 +187,8 @@ pub record FindsWord (place : ℕ) (old new : ScriptMoves) : Type 0 where
   pub missed : new.missed ≡ old.missed
   pub reads : ReadsBut place (read_by old) (read_by new)
 
--- the script begins over these moves: eight idle strangers came, and no cue was reached
+-- the script begins over these moves: eight strangers came, each with one share and nothing in flight,
+-- who have handed out no block, and no cue was reached
 pub record Follows (plain : PlainMoves) (cues : List Cue) (m : ScriptMoves) : Type 0 where
   pub key : key_by m.plain ≡ key_by plain
   pub view : view_by m.plain ≡ view_by plain
@@ -184,10 +197,14 @@ pub record Follows (plain : PlainMoves) (cues : List Cue) (m : ScriptMoves) : Ty
   pub reads : (i : ℕ) → read_by m i ≡ slice_get (words_by plain) i
   pub script : m.cues.items ≡ cues
   pub at : at_by m ≡ 0
+  pub begun : m.begun ≡ (view_by plain).moves
   pub skipped : m.skipped ≡ 0
   pub missed : m.missed ≡ false
   pub stop : m.has_stopped ≡ false
-  pub idle : All IsIdleParty m.plain.them.parties.items
+  pub tells : (script_mover m).words ≡ Some (words_by plain)
+  pub eight : vec_len m.plain.them.parties ≡ 8
+  pub fresh : All IsFresh (strangers_by m)
+  pub none_out : (b : FrameBlock) → IsOutIn m.plain.them.outs.items b → ⊥
 
 -- these words stood just before the move of the last cue Stop of all moves so far
 abbrev pub IsStopOf : ScriptMoves → List ℕ → Type 0

@@ -2,9 +2,11 @@
 #![tactic(auto)]
 
 mod act;
+mod laws;
 mod plain;
 mod script;
 
 pub use act::Act;
+pub use laws::scripts_are_honest;
 pub use plain::PlainMoves;
 pub use script::{Cue, ScriptMoves, What};

@@ -4,8 +4,9 @@ mod cue;
 mod cues;
 mod moves;
 
-ghost use Rattle.std.specs.Prelude.{◌≡◌, ◌<◌, ◌-◌, ℕ, None, Some, MatchOption, length, vec_len, IfSome, IfOk, IfErr};
-ghost use Rattle.plain_moves.specs.Plain.{plain_key};
+ghost use Rattle.std.specs.Prelude.{◌≡◌, ◌<◌, ◌-◌, ℕ, List, [], None, Some, MatchOption, length, vec_len, IfSome, IfOk, IfErr};
+ghost use Rattle.frame_model.specs.declared.key.Key.{Key};
+ghost use Rattle.plain_moves.specs.Plain.{plain_key, Begins};
 ghost use Rattle.plain_moves.specs.Script.{ShowsStop};
 
 use super::plain::PlainMoves;
@@ -53,6 +54,9 @@ impl ScriptMoves {
         requires alone { IsByItself plain }
         ensures back { IfErr result (λ p. p ≡ plain) }
         ensures follows { IfOk result (Follows plain cues.items) }
+        ensures begins { IfOk result (λ m. (memory : Key) (ws : List ℕ) → cues.items ≡ []
+            → Begins memory ws (⟦<PlainMoves as Moves>⟧.at plain)
+            → Begins memory ws (⟦<ScriptMoves as Moves>⟧.at m)) }
     {
         let Ok(them) = Company::fresh(alloc, plain.geometry()) else {
             return Err(plain);

@@ -1,10 +1,9 @@
 //! Who steps next: the own view and that of a party change places.
 
-ghost use Rattle.std.specs.Prelude.{◌≡◌, ◌*◌, ◌<◌, [], Some, vec_len, slice_get, replicate};
+ghost use Rattle.std.specs.Prelude.{◌≡◌, ◌*◌, ◌<◌, [], vec_len, replicate};
 ghost use Rattle.std.specs.List.{All};
 ghost use Rattle.plain_moves.specs.Plain.{HasRoomToFill, IsFresh};
-ghost use Rattle.plain_moves.specs.declared.plain.party.Party.{Party};
-ghost use Rattle.plain_moves.specs.PlainState.{Admits, IsParked};
+ghost use Rattle.plain_moves.specs.PlainState.{Admits, IsTurned};
 
 use super::PlainMoves;
 use super::party::Company;
@@ -25,15 +24,8 @@ impl PlainMoves {
     // What this party has in flight is the own view now, and what the own view was is the party's.
     pub(crate) fn turn(&mut self, who: usize)
         requires { who < vec_len self.old.them.parties }
-        ensures key { (self.new.geometry ≡ self.old.geometry)
-            × (self.new.sealed ≡ self.old.sealed) }
-        ensures words { self.new.words ≡ self.old.words }
-        ensures outs { (self.new.outs ≡ self.old.them.outs) × (self.new.them.outs ≡ self.old.outs) }
+        ensures turned { IsTurned who self.old self.new }
         ensures parties { vec_len self.new.them.parties ≡ vec_len self.old.them.parties }
-        ensures came { (p : Party) × (slice_get self.old.them.parties.items who ≡ Some p)
-            × IsParked p self.new }
-        ensures went { (p : Party) × (slice_get self.new.them.parties.items who ≡ Some p)
-            × IsParked p self.old }
     {
         let party = &mut self.them.parties[who];
         mem::swap(&mut self.share, &mut party.share);

@@ -1,8 +1,9 @@
 //! What one of the company does between two moves of the own view.
 
 ghost use Rattle.std.specs.Prelude.{◌≡◌, true, false, ◌<◌, vec_len};
+ghost use Rattle.plain_moves.specs.Acts.{Acts, TheyAct};
 ghost use Rattle.plain_moves.specs.Allowed.{MayAct, TheyMayAct};
-ghost use Rattle.plain_moves.specs.PlainState.{IsStill, IsOwnStep};
+ghost use Rattle.plain_moves.specs.PlainState.{IsStill, IsOwnStep, IsUnmoved};
 
 use super::PlainMoves;
 use crate::act::Act;
@@ -14,6 +15,8 @@ impl PlainMoves {
         ensures still { IsStill self.old self.new }
         ensures allowed { result ≡ true → TheyMayAct who act self.old }
         ensures refused { result ≡ false → TheyMayAct who act self.old → ⊥ }
+        ensures made { result ≡ true → TheyAct who act self.old self.new }
+        ensures same { result ≡ false → IsUnmoved self.old self.new }
     {
         self.turn(who);
         let made = self.act(act);
@@ -26,6 +29,8 @@ impl PlainMoves {
         ensures own { IsOwnStep self.old self.new }
         ensures allowed { result ≡ true → MayAct act self.old }
         ensures refused { result ≡ false → MayAct act self.old → ⊥ }
+        ensures made { result ≡ true → Acts act self.old self.new }
+        ensures same { result ≡ false → self.new ≡ self.old }
     {
         match act {
             Act::Charge { child, n } => self.try_charge(child, n),

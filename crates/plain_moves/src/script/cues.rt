@@ -1,7 +1,8 @@
 //! What happens just before a move, as the script says.
 
 ghost use Rattle.std.specs.Prelude.{◌≡◌, ◌<◌, ◌↔◌, Some, true, false, length, slice_get};
-ghost use Rattle.plain_moves.specs.PlainState.{IsStill};
+ghost use Rattle.plain_moves.specs.Acts.{TheyAct};
+ghost use Rattle.plain_moves.specs.PlainState.{IsStill, IsUnmoved};
 ghost use Rattle.plain_moves.specs.Script.{HasCue, LosesAt};
 ghost use Rattle.plain_moves.specs.ScriptState.{
   at_by,
@@ -101,6 +102,8 @@ impl ScriptMoves {
         ensures only { IsButPlain self.old self.new }
         ensures allowed { result ≡ true → StrangerMay who act self.old.plain }
         ensures refused { result ≡ false → StrangerMay who act self.old.plain → ⊥ }
+        ensures made { result ≡ true → TheyAct who act self.old.plain self.new.plain }
+        ensures same { result ≡ false → IsUnmoved self.old.plain self.new.plain }
     {
         who < STRANGERS && self.plain.stranger(who as usize, act)
     }

@@ -1,10 +1,12 @@
 //! Each move of the caller: first what the script says, then the move.
 
-ghost use Rattle.std.specs.Prelude.{◌≡◌, Some, true, false, length, slice_get, slice_index};
+ghost use Rattle.std.specs.Prelude.{◌≡◌, ℕ, List, Some, true, false, length, slice_get, slice_index};
 ghost use Rattle.frame_core.specs.Moves.{place_of, IsPlace};
 ghost use Rattle.plain_moves.specs.declared.script.ScriptMoves.{ScriptMoves};
-ghost use Rattle.plain_moves.specs.PlainState.{key_by, words_by};
-ghost use Rattle.plain_moves.specs.ScriptState.{read_by, FindsWord, IsLost, IsReady, MeetsFirst};
+ghost use Rattle.plain_moves.specs.PlainState.{key_by, words_by, Loses};
+ghost use Rattle.plain_moves.specs.Plays.{Plays, IsSilent};
+ghost use Rattle.plain_moves.specs.Script.{LosesAt};
+ghost use Rattle.plain_moves.specs.ScriptState.{at_by, read_by, FindsWord, IsLost, IsReady, MeetsFirst};
 
 use super::ScriptMoves;
 use frame_core::Moves;
@@ -19,7 +21,7 @@ impl ScriptMoves {
         ensures value { slice_index (words_by self.old.plain)
             (place_of (key_by self.old.plain) place) ≡ result }
         ensures here { read_by self.new (place_of (key_by self.old.plain) place) ≡ Some result }
-        ensures skipped { self.new.skipped ≡ self.old.skipped }
+        ensures silent { IsSilent self.old self.new }
     {
         let found = self.plain.stands(place);
         self.read[self.plain.number_at(place)] = found;
@@ -34,8 +36,10 @@ impl ScriptMoves {
             (place_of (key_by self.old.plain) place) ≡ Some seen }
         ensures lost { result ≡ true
             → IsLost (place_of (key_by self.old.plain) place) seen self.old self.new }
-        ensures met { (ready : ScriptMoves) × (MeetsFirst self.old.cues.items true
-            (length self.old.cues.items) self.old ready × (self.new.skipped ≡ ready.skipped)) }
+        ensures met { result ≡ false → MeetsFirst self.old.cues.items true
+            (length self.old.cues.items) self.old self.new }
+        ensures plays { result ≡ true → Plays true Loses self.old self.new }
+        ensures obeys { LosesAt (at_by self.old) self.old.cues.items → result ≡ true }
     {
         if !self.prompt(true) && self.plain.stands(place) == seen {
             return false;
@@ -51,11 +55,45 @@ impl Moves for ScriptMoves {
     ghost use Rattle.plain_moves.specs.Plain.{plain_tick, is_plain_exact};
     ghost use Rattle.plain_moves.specs.PlainLaws.{plain_outs, plain_fills, plain_sizes, plain_ticks};
     ghost use Rattle.plain_moves.specs.ScriptLaws.{script_fits, over_is_quiet};
-    ghost use Rattle.plain_moves.specs.ScriptState.{script_mover};
+    ghost use Rattle.plain_moves.specs.ScriptState.{script_mover, plain_by};
+    ghost use Rattle.plain_moves.specs.declared.script.cue.Cue.{Cue};
+    ghost use Rattle.frame_model.specs.Block.{block};
+    ghost use Rattle.frame_model.specs.Steps.{
+      charge,
+      refund,
+      claim,
+      take_huge,
+      tree_pay,
+      tree_refund,
+      reserve,
+      swap_local,
+      unreserve,
+      local_pay,
+      local_refund,
+      collect,
+      fill_word,
+    };
+    ghost use Rattle.frame_core.specs.Moves.{OfRun, OfSomeRun, release_run, give_whole, drop_whole};
+    ghost use Rattle.frame_core.specs.Mover.{
+      Clears,
+      MayLoad,
+      Loads,
+      MayTry,
+      Tries,
+      MayMake,
+      Makes,
+      Swaps,
+      MayHandOut,
+      HandsOut,
+      MayHandIn,
+      HandsIn,
+    };
+    ghost use Rattle.plain_moves.specs.Acts.{plain_block, MakesIt};
+    ghost use Rattle.plain_moves.specs.Plays.{TriesIt, LoadsIt, SwapsIt, HandsItOut, HandsItIn};
 
     type Held = PlainBlock;
 
-    ghost Tie = { Unit {0} };
+    ghost Tie = { List Cue × ℕ };
 
     ghost at = { script_mover };
 
@@ -83,17 +121,30 @@ impl Moves for ScriptMoves {
         self.missed
     }
 
-    fn clear_missed(&mut self) {
+    fn clear_missed(&mut self)
+        ensures clears { Clears (script_mover self.old) (script_mover self.new) }
+        ensures silent { IsSilent self.old self.new }
+        ensures plain { plain_by self.new ≡ plain_by self.old }
+    {
         self.missed = false;
     }
 
-    fn load(&mut self, place: Place) -> u64 {
+    fn load(&mut self, place: Place) -> u64
+        requires { MayLoad place (script_mover self.old) }
+        ensures loads { Loads plain_tick place result (script_mover self.old) (script_mover self.new) }
+        ensures plays { Plays false (LoadsIt place result) self.old self.new }
+    {
         self.prompt(false);
         self.plain.load(place);
         self.find(place)
     }
 
-    fn charge(&mut self, child: u32, seen: u64, n: u32) -> bool {
+    fn charge(&mut self, child: u32, seen: u64, n: u32) -> bool
+        requires { MayTry (charge child seen n) seen (script_mover self.old) }
+        ensures tries { Tries plain_tick (charge child seen n) seen result
+            (script_mover self.old) (script_mover self.new) }
+        ensures plays { Plays true (TriesIt (charge child seen n) seen result) self.old self.new }
+    {
         if self.loses(Place::Entry(child), seen) {
             return false;
         }
@@ -102,13 +153,24 @@ impl Moves for ScriptMoves {
         made
     }
 
-    fn refund(&mut self, child: u32, n: u32) {
+    fn refund(&mut self, child: u32, n: u32)
+        requires { MayMake (refund child n) (script_mover self.old) }
+        ensures makes { Makes plain_tick (refund child n) (script_mover self.old) (script_mover self.new) }
+        ensures plays { Plays false (MakesIt (refund child n)) self.old self.new }
+    {
         self.prompt(false);
         self.plain.refund(child, n);
         self.find(Place::Entry(child));
     }
 
-    fn claim(&mut self, word: u32, seen: u64, mask: u64) -> bool {
+    fn claim(&mut self, word: u32, seen: u64, mask: u64) -> bool
+        requires { OfSomeRun mask (λ from order.
+            MayTry (claim word seen from order) seen (script_mover self.old)) }
+        ensures tries { OfRun mask (λ from order.
+            Tries plain_tick (claim word seen from order) seen result (script_mover self.old) (script_mover self.new)) }
+        ensures plays { Plays true (λ a b. OfRun mask (λ from order.
+            TriesIt (claim word seen from order) seen result a b)) self.old self.new }
+    {
         if self.loses(Place::Bits(word), seen) {
             return false;
         }
@@ -117,13 +179,25 @@ impl Moves for ScriptMoves {
         made
     }
 
-    fn release(&mut self, word: u32, mask: u64) {
+    fn release(&mut self, word: u32, mask: u64)
+        requires { OfSomeRun mask (λ from order.
+            MayMake (release_run word from order) (script_mover self.old)) }
+        ensures makes { OfRun mask (λ from order.
+            Makes plain_tick (release_run word from order) (script_mover self.old) (script_mover self.new)) }
+        ensures plays { Plays false (λ a b. OfRun mask (λ from order.
+            MakesIt (release_run word from order) a b)) self.old self.new }
+    {
         self.prompt(false);
         self.plain.release(word, mask);
         self.find(Place::Bits(word));
     }
 
-    fn take_huge(&mut self, child: u32, seen: u64) -> bool {
+    fn take_huge(&mut self, child: u32, seen: u64) -> bool
+        requires { MayTry (take_huge child seen) seen (script_mover self.old) }
+        ensures tries { Tries plain_tick (take_huge child seen) seen result
+            (script_mover self.old) (script_mover self.new) }
+        ensures plays { Plays true (TriesIt (take_huge child seen) seen result) self.old self.new }
+    {
         if self.loses(Place::Entry(child), seen) {
             return false;
         }
@@ -132,23 +206,41 @@ impl Moves for ScriptMoves {
         made
     }
 
-    fn give_huge(&mut self, child: u32) {
+    fn give_huge(&mut self, child: u32)
+        requires { MayMake (give_whole child) (script_mover self.old) }
+        ensures makes { Makes plain_tick (give_whole child) (script_mover self.old) (script_mover self.new) }
+        ensures plays { Plays false (MakesIt (give_whole child)) self.old self.new }
+    {
         self.prompt(false);
         self.plain.give_huge(child);
         self.find(Place::Entry(child));
     }
 
-    fn hand_out(&mut self, frame: u32, order: u8) -> PlainBlock {
+    fn hand_out(&mut self, frame: u32, order: u8) -> PlainBlock
+        requires { MayHandOut (block frame order) (script_mover self.old) }
+        ensures hands_out { HandsOut plain_tick plain_block (block frame order) result
+            (script_mover self.old) (script_mover self.new) }
+        ensures plays { Plays false (HandsItOut (block frame order) result) self.old self.new }
+    {
         self.prompt(false);
         self.plain.hand_out(frame, order)
     }
 
-    fn hand_in(&mut self, held: PlainBlock) {
+    fn hand_in(&mut self, held: PlainBlock)
+        requires { MayHandIn held held (script_mover self.old) }
+        ensures hands_in { HandsIn plain_tick plain_block held (script_mover self.old) (script_mover self.new) }
+        ensures plays { Plays false (HandsItIn held) self.old self.new }
+    {
         self.prompt(false);
         self.plain.hand_in(held);
     }
 
-    fn tree_pay(&mut self, tree: u32, seen: u64, n: u32) -> bool {
+    fn tree_pay(&mut self, tree: u32, seen: u64, n: u32) -> bool
+        requires { MayTry (tree_pay tree seen n) seen (script_mover self.old) }
+        ensures tries { Tries plain_tick (tree_pay tree seen n) seen result
+            (script_mover self.old) (script_mover self.new) }
+        ensures plays { Plays true (TriesIt (tree_pay tree seen n) seen result) self.old self.new }
+    {
         if self.loses(Place::Tree(tree), seen) {
             return false;
         }
@@ -157,13 +249,22 @@ impl Moves for ScriptMoves {
         made
     }
 
-    fn tree_refund(&mut self, tree: u32, n: u32) {
+    fn tree_refund(&mut self, tree: u32, n: u32)
+        requires { MayMake (tree_refund tree n) (script_mover self.old) }
+        ensures makes { Makes plain_tick (tree_refund tree n) (script_mover self.old) (script_mover self.new) }
+        ensures plays { Plays false (MakesIt (tree_refund tree n)) self.old self.new }
+    {
         self.prompt(false);
         self.plain.tree_refund(tree, n);
         self.find(Place::Tree(tree));
     }
 
-    fn reserve(&mut self, tree: u32, seen: u64) -> bool {
+    fn reserve(&mut self, tree: u32, seen: u64) -> bool
+        requires { MayTry (reserve tree seen) seen (script_mover self.old) }
+        ensures tries { Tries plain_tick (reserve tree seen) seen result
+            (script_mover self.old) (script_mover self.new) }
+        ensures plays { Plays true (TriesIt (reserve tree seen) seen result) self.old self.new }
+    {
         if self.loses(Place::Tree(tree), seen) {
             return false;
         }
@@ -172,20 +273,33 @@ impl Moves for ScriptMoves {
         made
     }
 
-    fn swap_local(&mut self, core: u32, put: Option<(u32, u32)>) -> Option<(u32, u32)> {
+    fn swap_local(&mut self, core: u32, put: Option<(u32, u32)>) -> Option<(u32, u32)>
+        requires { MayMake (swap_local core put) (script_mover self.old) }
+        ensures swaps { Swaps plain_tick core put result (script_mover self.old) (script_mover self.new) }
+        ensures plays { Plays false (SwapsIt core put result) self.old self.new }
+    {
         self.prompt(false);
         let rest = self.plain.swap_local(core, put);
         self.find(Place::Local(core));
         rest
     }
 
-    fn unreserve(&mut self, tree: u32, n: u32) {
+    fn unreserve(&mut self, tree: u32, n: u32)
+        requires { MayMake (unreserve tree n) (script_mover self.old) }
+        ensures makes { Makes plain_tick (unreserve tree n) (script_mover self.old) (script_mover self.new) }
+        ensures plays { Plays false (MakesIt (unreserve tree n)) self.old self.new }
+    {
         self.prompt(false);
         self.plain.unreserve(tree, n);
         self.find(Place::Tree(tree));
     }
 
-    fn local_pay(&mut self, core: u32, seen: u64, n: u32) -> bool {
+    fn local_pay(&mut self, core: u32, seen: u64, n: u32) -> bool
+        requires { MayTry (local_pay core seen n) seen (script_mover self.old) }
+        ensures tries { Tries plain_tick (local_pay core seen n) seen result
+            (script_mover self.old) (script_mover self.new) }
+        ensures plays { Plays true (TriesIt (local_pay core seen n) seen result) self.old self.new }
+    {
         if self.loses(Place::Local(core), seen) {
             return false;
         }
@@ -194,7 +308,12 @@ impl Moves for ScriptMoves {
         made
     }
 
-    fn local_refund(&mut self, core: u32, seen: u64, n: u32) -> bool {
+    fn local_refund(&mut self, core: u32, seen: u64, n: u32) -> bool
+        requires { MayTry (local_refund core seen n) seen (script_mover self.old) }
+        ensures tries { Tries plain_tick (local_refund core seen n) seen result
+            (script_mover self.old) (script_mover self.new) }
+        ensures plays { Plays true (TriesIt (local_refund core seen n) seen result) self.old self.new }
+    {
         if self.loses(Place::Local(core), seen) {
             return false;
         }
@@ -203,7 +322,12 @@ impl Moves for ScriptMoves {
         made
     }
 
-    fn collect(&mut self, tree: u32, seen: u64) -> bool {
+    fn collect(&mut self, tree: u32, seen: u64) -> bool
+        requires { MayTry (collect tree seen) seen (script_mover self.old) }
+        ensures tries { Tries plain_tick (collect tree seen) seen result
+            (script_mover self.old) (script_mover self.new) }
+        ensures plays { Plays true (TriesIt (collect tree seen) seen result) self.old self.new }
+    {
         if self.loses(Place::Tree(tree), seen) {
             return false;
         }
@@ -212,13 +336,21 @@ impl Moves for ScriptMoves {
         made
     }
 
-    fn fill_word(&mut self, word: u32) {
+    fn fill_word(&mut self, word: u32)
+        requires { MayMake (fill_word word) (script_mover self.old) }
+        ensures makes { Makes plain_tick (fill_word word) (script_mover self.old) (script_mover self.new) }
+        ensures plays { Plays false (MakesIt (fill_word word)) self.old self.new }
+    {
         self.prompt(false);
         self.plain.fill_word(word);
         self.find(Place::Bits(word));
     }
 
-    fn drop_flag(&mut self, child: u32) {
+    fn drop_flag(&mut self, child: u32)
+        requires { MayMake (drop_whole child) (script_mover self.old) }
+        ensures makes { Makes plain_tick (drop_whole child) (script_mover self.old) (script_mover self.new) }
+        ensures plays { Plays false (MakesIt (drop_whole child)) self.old self.new }
+    {
         self.prompt(false);
         self.plain.drop_flag(child);
         self.find(Place::Entry(child));

@@ -3,6 +3,7 @@
 ghost use Rattle.std.specs.Prelude.{◌≡◌, ◌≤◌, true, false};
 ghost use Rattle.frame_model.specs.Block.{block, IsBlock};
 ghost use Rattle.plain_moves.specs.Plain.{IsOutIn};
+ghost use Rattle.plain_moves.specs.Acts.{Acts};
 ghost use Rattle.plain_moves.specs.Allowed.{MayAct};
 ghost use Rattle.plain_moves.specs.PlainState.{key_by, view_by, IsOwnStep};
 
@@ -17,6 +18,8 @@ impl PlainMoves {
         ensures own { IsOwnStep self.old self.new }
         ensures allowed { result ≡ true → MayAct (Act.HandOut frame order) self.old }
         ensures refused { result ≡ false → MayAct (Act.HandOut frame order) self.old → ⊥ }
+        ensures made { result ≡ true → Acts (Act.HandOut frame order) self.old self.new }
+        ensures same { result ≡ false → self.new ≡ self.old }
     {
         if !self.is_block(frame, order)
             || !self.has_block(frame, order)
@@ -32,6 +35,8 @@ impl PlainMoves {
         ensures own { IsOwnStep self.old self.new }
         ensures allowed { result ≡ true → MayAct (Act.HandIn frame order) self.old }
         ensures refused { result ≡ false → MayAct (Act.HandIn frame order) self.old → ⊥ }
+        ensures made { result ≡ true → Acts (Act.HandIn frame order) self.old self.new }
+        ensures same { result ≡ false → self.new ≡ self.old }
     {
         if !self.is_out(frame, order) {
             return false;

@@ -2,6 +2,7 @@
 
 ghost use Rattle.std.specs.Prelude.{◌≡◌, false, true};
 ghost use Rattle.frame_model.specs.Steps.{refund, May};
+ghost use Rattle.plain_moves.specs.Acts.{Acts};
 ghost use Rattle.plain_moves.specs.Allowed.{MayAct};
 ghost use Rattle.plain_moves.specs.PlainState.{key_by, view_by, IsOwnStep};
 
@@ -17,6 +18,8 @@ impl PlainMoves {
         ensures own { IsOwnStep self.old self.new }
         ensures allowed { result ≡ true → MayAct (Act.Charge child n) self.old }
         ensures refused { result ≡ false → MayAct (Act.Charge child n) self.old → ⊥ }
+        ensures made { result ≡ true → Acts (Act.Charge child n) self.old self.new }
+        ensures same { result ≡ false → self.new ≡ self.old }
     {
         if child >= self.geometry.children() || !self.lies_in(child) {
             return false;
@@ -34,6 +37,8 @@ impl PlainMoves {
         ensures own { IsOwnStep self.old self.new }
         ensures allowed { result ≡ true → MayAct (Act.Refund child n) self.old }
         ensures refused { result ≡ false → MayAct (Act.Refund child n) self.old → ⊥ }
+        ensures made { result ≡ true → Acts (Act.Refund child n) self.old self.new }
+        ensures same { result ≡ false → self.new ≡ self.old }
     {
         if child >= self.geometry.children() || count_at(self.charged, child) < n {
             return false;

@@ -3,6 +3,7 @@
 ghost use Rattle.std.specs.Prelude.{◌≡◌, true, false};
 ghost use Rattle.frame_model.specs.Words.{IsRest};
 ghost use Rattle.frame_model.specs.Steps.Conditions.{GivesUp};
+ghost use Rattle.plain_moves.specs.Acts.{Acts};
 ghost use Rattle.plain_moves.specs.Allowed.{MayAct};
 ghost use Rattle.plain_moves.specs.PlainState.{key_by, view_by, IsOwnStep};
 
@@ -18,6 +19,8 @@ impl PlainMoves {
         ensures own { IsOwnStep self.old self.new }
         ensures allowed { result ≡ true → MayAct (Act.LocalPay core n) self.old }
         ensures refused { result ≡ false → MayAct (Act.LocalPay core n) self.old → ⊥ }
+        ensures made { result ≡ true → Acts (Act.LocalPay core n) self.old self.new }
+        ensures same { result ≡ false → self.new ≡ self.old }
     {
         if core >= self.geometry.cores() {
             return false;
@@ -36,6 +39,8 @@ impl PlainMoves {
         ensures own { IsOwnStep self.old self.new }
         ensures allowed { result ≡ true → MayAct (Act.LocalRefund core n) self.old }
         ensures refused { result ≡ false → MayAct (Act.LocalRefund core n) self.old → ⊥ }
+        ensures made { result ≡ true → Acts (Act.LocalRefund core n) self.old self.new }
+        ensures same { result ≡ false → self.new ≡ self.old }
     {
         if core >= self.geometry.cores() {
             return false;
@@ -54,6 +59,8 @@ impl PlainMoves {
         ensures own { IsOwnStep self.old self.new }
         ensures allowed { result ≡ true → MayAct (Act.SwapLocal core put) self.old }
         ensures refused { result ≡ false → MayAct (Act.SwapLocal core put) self.old → ⊥ }
+        ensures made { result ≡ true → Acts (Act.SwapLocal core put) self.old self.new }
+        ensures same { result ≡ false → self.new ≡ self.old }
     {
         if core >= self.geometry.cores() || !self.is_rest(put) || !self.gives_up(put) {
             return false;

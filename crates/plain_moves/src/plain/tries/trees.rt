@@ -3,6 +3,7 @@
 ghost use Rattle.std.specs.Prelude.{◌≡◌, false, slice_index, true};
 ghost use Rattle.frame_model.specs.Steps.{reserve, tree_refund, unreserve, May};
 ghost use Rattle.frame_model.specs.Words.{tree_place};
+ghost use Rattle.plain_moves.specs.Acts.{Acts};
 ghost use Rattle.plain_moves.specs.Allowed.{MayAct};
 ghost use Rattle.plain_moves.specs.PlainState.{key_by, view_by, IsOwnStep};
 
@@ -18,6 +19,8 @@ impl PlainMoves {
         ensures own { IsOwnStep self.old self.new }
         ensures allowed { result ≡ true → MayAct (Act.TreePay tree n) self.old }
         ensures refused { result ≡ false → MayAct (Act.TreePay tree n) self.old → ⊥ }
+        ensures made { result ≡ true → Acts (Act.TreePay tree n) self.old self.new }
+        ensures same { result ≡ false → self.new ≡ self.old }
     {
         if tree >= self.geometry.trees() || !self.pays_only(tree) {
             return false;
@@ -34,6 +37,8 @@ impl PlainMoves {
         ensures own { IsOwnStep self.old self.new }
         ensures allowed { result ≡ true → MayAct (Act.TreeRefund tree n) self.old }
         ensures refused { result ≡ false → MayAct (Act.TreeRefund tree n) self.old → ⊥ }
+        ensures made { result ≡ true → Acts (Act.TreeRefund tree n) self.old self.new }
+        ensures same { result ≡ false → self.new ≡ self.old }
     {
         if tree >= self.geometry.trees() || count_at(self.paid, tree) < n {
             return false;
@@ -46,6 +51,8 @@ impl PlainMoves {
         ensures own { IsOwnStep self.old self.new }
         ensures allowed { result ≡ true → MayAct (Act.Reserve tree) self.old }
         ensures refused { result ≡ false → MayAct (Act.Reserve tree) self.old → ⊥ }
+        ensures made { result ≡ true → Acts (Act.Reserve tree) self.old self.new }
+        ensures same { result ≡ false → self.new ≡ self.old }
     {
         if tree >= self.geometry.trees() || self.paid.is_some() || self.reserving.is_some() {
             return false;
@@ -62,6 +69,8 @@ impl PlainMoves {
         ensures own { IsOwnStep self.old self.new }
         ensures allowed { result ≡ true → MayAct (Act.Unreserve tree n) self.old }
         ensures refused { result ≡ false → MayAct (Act.Unreserve tree n) self.old → ⊥ }
+        ensures made { result ≡ true → Acts (Act.Unreserve tree n) self.old self.new }
+        ensures same { result ≡ false → self.new ≡ self.old }
     {
         if tree >= self.geometry.trees() || count_at(self.paid, tree) < n {
             return false;
@@ -77,6 +86,8 @@ impl PlainMoves {
         ensures own { IsOwnStep self.old self.new }
         ensures allowed { result ≡ true → MayAct (Act.Collect tree) self.old }
         ensures refused { result ≡ false → MayAct (Act.Collect tree) self.old → ⊥ }
+        ensures made { result ≡ true → Acts (Act.Collect tree) self.old self.new }
+        ensures same { result ≡ false → self.new ≡ self.old }
     {
         if tree >= self.geometry.trees() || !self.pays_only(tree) {
             return false;

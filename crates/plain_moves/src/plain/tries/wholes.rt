@@ -1,6 +1,7 @@
 //! Steps on a child as a whole.
 
 ghost use Rattle.std.specs.Prelude.{◌≡◌, true, false};
+ghost use Rattle.plain_moves.specs.Acts.{Acts};
 ghost use Rattle.plain_moves.specs.Allowed.{MayAct};
 ghost use Rattle.plain_moves.specs.PlainState.{key_by, view_by, IsOwnStep};
 
@@ -16,6 +17,8 @@ impl PlainMoves {
         ensures own { IsOwnStep self.old self.new }
         ensures allowed { result ≡ true → MayAct (Act.TakeHuge child) self.old }
         ensures refused { result ≡ false → MayAct (Act.TakeHuge child) self.old → ⊥ }
+        ensures made { result ≡ true → Acts (Act.TakeHuge child) self.old self.new }
+        ensures same { result ≡ false → self.new ≡ self.old }
     {
         if child >= self.geometry.children() || !self.lies_in(child) {
             return false;
@@ -35,6 +38,8 @@ impl PlainMoves {
         ensures own { IsOwnStep self.old self.new }
         ensures allowed { result ≡ true → MayAct (Act.GiveHuge child) self.old }
         ensures refused { result ≡ false → MayAct (Act.GiveHuge child) self.old → ⊥ }
+        ensures made { result ≡ true → Acts (Act.GiveHuge child) self.old self.new }
+        ensures same { result ≡ false → self.new ≡ self.old }
     {
         if child >= self.geometry.children() || !self.pays_only(child / TREE_CHILDREN) {
             return false;
@@ -50,6 +55,8 @@ impl PlainMoves {
         ensures own { IsOwnStep self.old self.new }
         ensures allowed { result ≡ true → MayAct (Act.DropFlag child) self.old }
         ensures refused { result ≡ false → MayAct (Act.DropFlag child) self.old → ⊥ }
+        ensures made { result ≡ true → Acts (Act.DropFlag child) self.old self.new }
+        ensures same { result ≡ false → self.new ≡ self.old }
     {
         if child >= self.geometry.children() {
             return false;

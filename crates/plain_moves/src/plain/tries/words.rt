@@ -3,6 +3,7 @@
 ghost use Rattle.std.specs.Prelude.{◌≡◌, ◌+◌, ◌/◌, ◌%◌, ◌^◌, ◌≤◌, true, IfSome, false, ℕ, None};
 ghost use Rattle.frame_model.specs.Words.{run};
 ghost use Rattle.frame_model.specs.View.{charged_in, paid_on};
+ghost use Rattle.plain_moves.specs.Acts.{Acts};
 ghost use Rattle.plain_moves.specs.Allowed.{MayAct};
 ghost use Rattle.plain_moves.specs.PlainState.{key_by, view_by, IsOwnStep};
 
@@ -19,6 +20,8 @@ impl PlainMoves {
         ensures own { IsOwnStep self.old self.new }
         ensures allowed { result ≡ true → MayAct (Act.Claim word mask) self.old }
         ensures refused { result ≡ false → MayAct (Act.Claim word mask) self.old → ⊥ }
+        ensures made { result ≡ true → Acts (Act.Claim word mask) self.old self.new }
+        ensures same { result ≡ false → self.new ≡ self.old }
     {
         let Some((_from, order)) = run_in(mask) else {
             return false;
@@ -53,6 +56,8 @@ impl PlainMoves {
         ensures own { IsOwnStep self.old self.new }
         ensures allowed { result ≡ true → MayAct (Act.Release word mask) self.old }
         ensures refused { result ≡ false → MayAct (Act.Release word mask) self.old → ⊥ }
+        ensures made { result ≡ true → Acts (Act.Release word mask) self.old self.new }
+        ensures same { result ≡ false → self.new ≡ self.old }
     {
         let Some((from, order)) = run_in(mask) else {
             return false;
@@ -74,6 +79,8 @@ impl PlainMoves {
         ensures own { IsOwnStep self.old self.new }
         ensures allowed { result ≡ true → MayAct (Act.FillWord word) self.old }
         ensures refused { result ≡ false → MayAct (Act.FillWord word) self.old → ⊥ }
+        ensures made { result ≡ true → Acts (Act.FillWord word) self.old self.new }
+        ensures same { result ≡ false → self.new ≡ self.old }
     {
         if word >= CHILD_WORDS * self.geometry.children() || !self.has_child(word / CHILD_WORDS) {
             return false;

@@ -1,11 +1,11 @@
-use Rattle.std.proofs.Common.{◌≢◌, ◌⊎◌, inl, inr, refl, sym, ◌∙◌}
+use Rattle.std.proofs.Common.{true, ◌≢◌, ◌⊎◌, inl, inr, refl, sym, ◌∙◌}
 use Rattle.std.specs.Prelude.{slice_index}
 use Rattle.frame_core.specs.Moves.{place_of}
-use Rattle.plain_moves.specs.PlainState.{key_by, words_by}
+use Rattle.plain_moves.specs.PlainState.{key_by, words_by, Loses}
 use Rattle.plain_moves.specs.Script.{LosesAt}
 use Rattle.plain_moves.specs.ScriptState.{at_by}
 use Rattle.plain_moves.proofs.Cues.{stepped}
-use Rattle.plain_moves.proofs.Scripts.{lost_found}
+use Rattle.plain_moves.proofs.Scripts.{lost_found, played}
 use Rattle.plain_moves.proofs.script.ScriptMoves.loses.Goals.{else-not-prompt-via-then-not-prompt+else-stands-seen}
 use Rattle.plain_moves.proofs.script.ScriptMoves.loses.Goals.{else-not-prompt-via-else-not-prompt}
 use Rattle.plain_moves.proofs.script.ScriptMoves.loses.Goals as goal
@@ -26,8 +26,7 @@ returns-clause-lost c = λ yes.
     lost_found m r _ c.find.new.self c.args.place c.args.seen c.find.result c.prompt.ensures.ready c.lose.ensures
     c.find.ensures.found c.find.ensures.value c.find.ensures.here why refl refl refl refl
 
-pub returns-then-stands-seen-clause-met : goal.returns-then-stands-seen-clause-met
-returns-then-stands-seen-clause-met c = (c.prompt.new.self, (c.prompt.ensures.met, refl))
-
-pub returns-clause-met : goal.returns-clause-met
-returns-clause-met c = (c.prompt.new.self, (c.prompt.ensures.met, c.find.ensures.skipped))
+pub returns-clause-plays : goal.returns-clause-plays
+returns-clause-plays c = λ yes.
+    played true Loses c.args.self.now c.prompt.new.self c.find.new.self c.lose.new.self c.prompt.ensures.met c.lose.ensures
+    c.find.ensures.found.plain c.find.ensures.silent

@@ -1,7 +1,7 @@
 use Rattle.std.proofs.Common.{inl, inr, true, ap, sym, subst, refl, ◌∙◌, arith}
 use Rattle.plain_moves.specs.declared.plain.PlainMoves.{PlainMoves}
 use Rattle.plain_moves.specs.declared.script.cue.What.{What}
-use Rattle.plain_moves.specs.PlainState.{IsStill}
+use Rattle.plain_moves.specs.PlainState.{IsStill, IsUnmoved}
 use Rattle.plain_moves.specs.ScriptState.{one_skipped, CountsCue}
 use Rattle.plain_moves.proofs.Cues.{stop_shows}
 use Rattle.plain_moves.proofs.script.ScriptMoves.play.Goals as goal
@@ -25,7 +25,14 @@ returns-then-not-acts-clause-happens c =
         missed = after.untold.missed ∙ asked.only.untold.missed;
       };
       counts = subst (λ (w : What). CountsCue w c.args.is_exchange c.args.self.now c.skip-then-not-acts.new.self)
-          (sym stranger) (inr (after.skipped ∙ ap one_skipped asked.only.skipped, asked.refused c.if-not-acts.true));
+          (sym stranger) (inr (
+            after.skipped ∙ ap one_skipped asked.only.skipped,
+            (
+              asked.refused c.if-not-acts.true,
+              subst (λ (m : PlainMoves). IsUnmoved c.args.self.now.plain m) (sym after.plain)
+                  (asked.same c.if-not-acts.true),
+            ),
+          ));
       loses = λ is. absurd (cc);
       stops = λ is. absurd (cc);
       goes_on = λ on. record {
@@ -42,7 +49,7 @@ returns-else-not-acts-clause-happens c =
       still = asked.still;
       untold = asked.only.untold;
       counts = subst (λ (w : What). CountsCue w c.args.is_exchange c.args.self.now c.acts.new.self) (sym stranger)
-          (inl (asked.only.skipped, asked.allowed c.if-not-acts.false));
+          (inl (asked.only.skipped, (asked.allowed c.if-not-acts.false, asked.made c.if-not-acts.false)));
       loses = λ is. absurd (cc);
       stops = λ is. absurd (cc);
       goes_on = λ on. record { has_stopped = asked.only.has_stopped; stop = asked.only.stop };

@@ -4,8 +4,8 @@ use Rattle.plain_moves.proofs.Cues.{stepped}
 use Rattle.plain_moves.proofs.Scripts.{out_by}
 use Rattle.plain_moves.proofs.script.moves.ScriptMovesMoves.hand_out.Goals as goal
 
-pub returns : goal.returns
-returns c =
+pub returns-clause-hands_out : goal.returns-clause-hands_out
+returns-clause-hands_out c =
     out_by c.args.self.now c.prompt.new.self c.hand_out.new.self c.prompt.ensures.ready (block c.args.frame c.args.order)
     c.hand_out.result c.hand_out.ensures
 
