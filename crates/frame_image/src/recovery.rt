@@ -6,6 +6,7 @@ ghost use Rattle.frame_core.specs.Key.{tree_count};
 ghost use Rattle.frame_core.specs.Words.{huge_of};
 ghost use Rattle.frame_core.specs.Image.{key_in, with_child, IsImage};
 ghost use Rattle.frame_core.specs.Rebuilt.{IsRebuilt, rebuilt_free};
+ghost use Rattle.frame_table.specs.Openings.{unsealed_key};
 ghost use Rattle.frame_image.specs.ImageText.{child_bits as the_child_bits};
 ghost use Rattle.frame_image.specs.Rebuilding.{IsRebuiltBelow, RebuildsJust, rebuilt_child};
 
@@ -21,6 +22,8 @@ pub fn rebuild(alloc: Global, image: &Image) -> Result<Image, Fault>
         IsRebuilt (key_in image.now) image.now.words rebuilt.words) }
     ensures again { IfOk result (λ rebuilt.
         RebuildsJust (key_in image.now) rebuilt.words rebuilt.words) }
+    ensures opens { IfOk result (λ rebuilt.
+        IsRebuilt (unsealed_key rebuilt.geometry) rebuilt.words rebuilt.words) }
     ensures fault { IfErr result (λ e. e ≡ Fault.NoMemory) }
 {
     let mut rebuilt = Image::blank(alloc, &image.geometry())?;
