@@ -61,7 +61,8 @@ fn closing_wants_each_core(rt: HostRuntime) -> Result<(), Fail> {
     let mut cores = cores;
     let first = next_core(&allocator, &mut cores).ok_or("a core")?;
     let image = close_two(rt.alloc(), allocator, first, last)?;
-    assert_eq!(rt; (image.free(0), image.tree_free(0)), (512, 512));
+    let fresh = Image::new(rt.alloc(), &Geometry::new(1, 2)?)?;
+    assert_eq!(rt; image.words(), fresh.words());
     Ok(())
 }
 

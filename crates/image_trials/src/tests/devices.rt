@@ -173,17 +173,18 @@ fn a_slow_writer_is_written_the_whole(rt: HostRuntime) -> Result<(), Fail> {
     {
         let writer = SlowWriter {
             taken: &mut taken,
-            fails_at: 11,
+            fails_at: 12,
             how: Failing::TakesNone,
             calls: &calls,
         };
         let mut output = Watched::new(writer);
         write_out(&mut output, TAKES)?;
         write_out(&mut output, b"")?;
+        assert_eq!(rt; output.write(b""), Ok(0));
         assert!(rt; !output.failed());
     }
     assert_eq!(rt; taken.as_slice(), TAKES);
-    assert_eq!(rt; calls.get(), 11);
+    assert_eq!(rt; calls.get(), 12);
     Ok(())
 }
 

@@ -7,18 +7,24 @@ const MOST_TURNS: u32 = 1_000_000_000;
 
 const TAKES_AND_GIVES: u32 = 1_000;
 
-// A gate in which the first request of each of two cores from a record on waits until the other
-// core's came too.
+// Those of both cores, with the take and the give of the block that is moved.
+const REQUESTS: u64 = 4_002;
+
+// A gate that counts its calls, and in which the first request of each of two cores from a record on
+// waits until the other core's came too.
 #[derive(Drop)]
 struct Meeting {
     from: u32,
     first: AtomicU64,
     second: AtomicU64,
     missed: AtomicU64,
+    begun: AtomicU64,
+    ended: AtomicU64,
 }
 
 impl Gate for Meeting {
     fn before(&self, core: u32, line: u32) {
+        self.begun.fetch_add(1, Ordering::SeqCst);
         if line < self.from {
             return;
         }
@@ -38,7 +44,9 @@ impl Gate for Meeting {
         self.missed.store(1, Ordering::SeqCst);
     }
 
-    fn after(&self, _core: u32, _line: u32) {}
+    fn after(&self, _core: u32, _line: u32) {
+        self.ended.fetch_add(1, Ordering::SeqCst);
+    }
 }
 
 // Two cores that take and give side by side, after a block moved from one to the other.
@@ -77,14 +85,18 @@ fn two_busy_cores_leave_all_frames_free(rt: HostRuntime) -> Result<(), Fail> {
 }
 
 #[test]
-fn the_requests_of_two_cores_overlap(rt: HostRuntime) -> Result<(), Fail> {
+fn the_requests_of_two_cores_overlap_and_pass_the_gate(rt: HostRuntime) -> Result<(), Fail> {
     let gate = Meeting {
         from: 4,
         first: AtomicU64::new(0),
         second: AtomicU64::new(0),
         missed: AtomicU64::new(0),
+        begun: AtomicU64::new(0),
+        ended: AtomicU64::new(0),
     };
     is_busy(&rt, rt.alloc(), &gate)?;
     assert_eq!(rt; gate.missed.load(Ordering::SeqCst), 0);
+    assert_eq!(rt; gate.begun.load(Ordering::SeqCst), REQUESTS);
+    assert_eq!(rt; gate.ended.load(Ordering::SeqCst), REQUESTS);
     Ok(())
 }
