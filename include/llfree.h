@@ -14,9 +14,15 @@
  *  3. One call at a time for each handle. Another thread may use it where the one call happens before
  *     the other (a lock, a join, a seq_cst atomic). Handles of different cores need no such order:
  *     threads call through them at the same time.
- *  4. No call from a signal handler, nor in a forked child of a process with threads.
- *  5. rattle_alloc, rattle_dealloc and rattle_realloc, which openings and closings call, are one
- *     allocator, and its blocks are aligned to 16.
+ *  4. No call from a signal or interrupt handler, nor in a forked child of a process with threads.
+ *  5. rattle_alloc, rattle_dealloc and rattle_realloc, which openings and closings alone call, are one
+ *     allocator, whose blocks are aligned to 16. Several threads may be in them at once where openings
+ *     and closings are made at the same time. Each returns (no longjmp, no exception), and calls
+ *     nothing of this header.
+ *
+ * A take, a give or a split needs less than 1 KiB of stack, an opening or a closing with an image some
+ * 5.4 KiB (measured, not proved). The code is for x86-64 processors with popcnt, the library for kernels
+ * too.
  */
 #ifndef LLFREE_H
 #define LLFREE_H
@@ -31,7 +37,8 @@ extern "C" {
 
 enum llfree_status {
     LLFREE_OK = 0,
-    LLFREE_NO_BLOCK = 1,      /* no block of the order is free */
+    LLFREE_NO_BLOCK = 1,      /* no block of the order was found: for one thread none is free, for several
+                                 one may be, as llfree_take says */
     LLFREE_BAD_ORDER = 2,     /* orders are 0 to 9, and a block of order 0 has no halves */
     LLFREE_NOT_HELD = 3,      /* no such block is held: of another order, given before, never taken; or the
                                  struct holds none */
@@ -39,13 +46,15 @@ enum llfree_status {
     LLFREE_NO_MEMORY = 5,
     LLFREE_BAD_GEOMETRY = 6,  /* a memory has 1 to 2097152 frames and 1 to 64 cores */
     LLFREE_OPEN_HANDLE = 7,   /* something is behind the handle already, or the struct holds a block */
-    LLFREE_CONTENDED = 8,     /* other cores were in the way: as NO_BLOCK, but a block may be free */
+    LLFREE_CONTENDED = 8,     /* no block was had, since other cores were in the way */
     LLFREE_BAD_RANGE = 9,     /* more than 1024 ranges, or one is empty, ends past the end of memory, or
                                  begins before the end of the one before it */
     LLFREE_NO_ROOM = 10,      /* the image has more numbers than the buffer */
     LLFREE_CORES_OPEN = 11,   /* other cores of the allocator are open */
     LLFREE_BAD_IMAGE = 12     /* the numbers are those of no image of so many frames */
 };
+
+#define LLFREE_VERSION "1.0.0"
 
 #define LLFREE_CLOSED { false, NULL }
 
@@ -72,9 +81,11 @@ typedef struct llfree_core {
 
 /* Opens an allocator of so many frames, with a core behind each of the closed handles. All frames are
  * free but those of the ranges, which are never given out: what a kernel keeps, holes of the memory.
- * Ranges ascend and do not overlap; NULL and 0 are none. Beside the words of the allocator it has 32
- * bytes a frame. On OPEN_HANDLE (of any handle), BAD_GEOMETRY, BAD_RANGE and NO_MEMORY the handles are
- * as they were. */
+ * Ranges ascend and do not overlap; NULL and 0 are none. (That all else is free is tested, not proved.)
+ * Beside the words of the allocator it has a list of what is out: 32 bytes for each of as many frames as
+ * the next power of two is, that is 32 to 64 bytes a frame. The list grows while it opens, and a heap
+ * that does not use its blocks again at once has to have more: 57 to 77 bytes a frame were measured. On
+ * OPEN_HANDLE (of any handle), BAD_GEOMETRY, BAD_RANGE and NO_MEMORY the handles are as they were. */
 uint32_t llfree_open(llfree_core *handles, size_t cores, uint32_t frames, const llfree_range *ranges,
                      size_t count);
 
@@ -87,19 +98,37 @@ typedef struct llfree_claim {
 /* Opens an allocator of so many frames at the numbers of an image, as llfree_image_words says them,
  * with a core behind each of the closed handles. The claimed blocks are those that the program holds
  * from before: they are out, as if they had been taken, and any core gives them. What the image holds
- * besides is held for good, and all else is free. The counts of free frames are not read: only that
- * none is above 512. On OPEN_HANDLE (of any handle), BAD_GEOMETRY, BAD_IMAGE (count is not
- * llfree_image_words(frames), a number is none of an image, the last child is cut and one block of
- * order 9, or a bit past the end is clear), BAD_ORDER, NOT_HELD (a claimed block is not held by itself,
- * one of order 9 as such, or two share a frame), NO_MEMORY and CONTENDED (a claimed block was not
- * reached; no run ever showed this) the handles are as they were. */
+ * besides is held for good, and all else is free (for several threads: tested, not proved). The counts
+ * of free frames are not read: only that none is above 512. On OPEN_HANDLE (of any handle),
+ * BAD_GEOMETRY, BAD_IMAGE (count is not llfree_image_words(frames), a number is none of an image, the
+ * last child is cut and one block of order 9, or a bit past the end is clear), BAD_ORDER, NOT_HELD (a
+ * claimed block is not held by itself, one of order 9 as such, or two share a frame), NO_MEMORY and
+ * CONTENDED (a claimed block was not reached; no run ever showed this) the handles are as they were. */
 uint32_t llfree_reopen(llfree_core *handles, size_t cores, uint32_t frames, const uint64_t *words,
                        size_t count, const llfree_claim *claims, size_t claimed);
 
-/* Takes a block of the order, and writes its first frame. NO_BLOCK where all of memory was looked at
- * and no other core was in the way, CONTENDED, BAD_ORDER, CLOSED_HANDLE: then *frame is as it was, and
- * nothing more is held. It needs no memory, and neither locks nor waits. */
+/* Takes a block of the order, and writes its first frame. NO_BLOCK after at least as many steps as there
+ * are trees, of 4096 frames each, and no exchange that another core won; CONTENDED; BAD_ORDER;
+ * CLOSED_HANDLE: then *frame is as it was, and nothing more is held. It needs no memory, and neither
+ * locks nor waits.
+ *
+ * Neither NO_BLOCK nor CONTENDED says that no block of the order is free: a core that searches a tree has
+ * all the free frames of that tree in hand until it is done, and others pass the tree by. Four threads
+ * that held at most one frame each of 4096, one tree, were refused 49 % of their takes; with as many
+ * trees as cores none ever was. So let a memory have 4096 frames or more for each core, and where it has
+ * fewer, or few of them are free, make a refused take again, as llfree_take_retry does. */
 uint32_t llfree_take(llfree_core *handle, uint8_t order, uint32_t *frame);
+
+/* llfree_take, up to so many times where it answers NO_BLOCK or CONTENDED; the last answer. It takes once
+ * where tries is 0. */
+static inline uint32_t llfree_take_retry(llfree_core *handle, uint8_t order, uint32_t *frame,
+                                         uint32_t tries)
+{
+    uint32_t status = llfree_take(handle, order, frame);
+    for (; tries > 1 && (status == LLFREE_NO_BLOCK || status == LLFREE_CONTENDED); tries--)
+        status = llfree_take(handle, order, frame);
+    return status;
+}
 
 /* Gives exactly this block back, whichever core took it. NOT_HELD, CLOSED_HANDLE: then nothing
  * changes. Of several gives of one block at the same time one succeeds. It needs no memory, and
@@ -121,9 +150,9 @@ uint32_t llfree_frames(llfree_core *handle);
 void llfree_close(llfree_core *handle);
 
 /* Writes the numbers of the memory's image, as many as llfree_image_words says, in which just the
- * blocks that are held and the ranges are held; then as llfree_close of the last handle of an allocator.
- * NO_ROOM where the buffer has fewer, CORES_OPEN where it is not the last, NO_MEMORY, CLOSED_HANDLE: then
- * nothing changes. */
+ * blocks that are held and the ranges are held (tested, not proved); then as llfree_close of the last
+ * handle of an allocator. What lies behind the numbers stays. NO_ROOM where the buffer has fewer,
+ * CORES_OPEN where it is not the last, NO_MEMORY, CLOSED_HANDLE: then nothing changes. */
 uint32_t llfree_close_image(llfree_core *handle, uint64_t *words, size_t count);
 
 /* How many words an allocator for several threads has, of so many frames and cores: an opening asks its
@@ -202,16 +231,16 @@ uint32_t llfree_plain_take(llfree_plain *handle, uint8_t order, uint32_t *frame)
 uint32_t llfree_plain_give(llfree_plain *handle, uint32_t frame, uint8_t order);
 
 /* Splits exactly this block into its halves, of which each is given or split by itself from then on:
- * (frame, order - 1) and (frame + 2^(order - 1), order - 1). NOT_HELD, BAD_ORDER where the order is 0,
- * CLOSED_HANDLE: then nothing changes. Needs no memory. */
+ * (frame, order - 1) and (frame + 2^(order - 1), order - 1). NOT_HELD, BAD_ORDER where the order is 0
+ * (and the block is held), CLOSED_HANDLE: then nothing changes. Needs no memory. */
 uint32_t llfree_plain_split(llfree_plain *handle, uint32_t frame, uint8_t order);
 
 /* The frames of the memory behind the handle, those of the ranges too; 0 of a closed one. */
 uint32_t llfree_plain_frames(llfree_plain *handle);
 
 /* Writes the numbers of the memory's image, as many as llfree_image_words says, in which just the
- * blocks that are out and the ranges are held; then as llfree_plain_close. NO_ROOM where the buffer
- * has fewer, NO_MEMORY, CLOSED_HANDLE: then nothing changes. */
+ * blocks that are out and the ranges are held; then as llfree_plain_close. What lies behind the numbers
+ * stays. NO_ROOM where the buffer has fewer, NO_MEMORY, CLOSED_HANDLE: then nothing changes. */
 uint32_t llfree_plain_close_image(llfree_plain *handle, uint64_t *words, size_t count);
 
 /* Frees what is behind the handle, blocks that are held and all, and closes it. It does nothing to a

@@ -29,7 +29,8 @@ def blocks_of(header):
     for block in re.split(r'\n\s*\n', header):
         match = re.match(r'\s*/\*(.*?)\*/', block, re.DOTALL)
         comment, rest = (match[1], block[match.end():]) if match else ('', block)
-        code = rest.strip('\n')
+        # of a function that is written out, what a caller sees
+        code = re.sub(r'\n\{.*', ';', rest.strip('\n'), flags=re.DOTALL)
         is_code = 'llfree_' in code or 'LLFREE_CLOSED' in code or 'LLFREE_EMPTY' in code
         yield lines_of(comment), code if is_code else ''
 

@@ -25,9 +25,13 @@ command -v "$cc" >/dev/null || { printf 'no C compiler: the library for C is not
 "$root/tools/c_library.sh" >"$folder/log" 2>&1 || { tail -n 20 "$folder/log" >&2; fails 'the library is not built'; }
 
 nm "$library" | awk '$2 == "T" && $3 ~ /^llfree_/ { print $3 }' | sort >"$folder/exported"
-grep -o '\bllfree_[a-z_]*(' "$root/include/llfree.h" | tr -d '(' | sort -u >"$folder/declared"
+# what the header writes out itself is not exported
+grep -v '^static inline' "$root/include/llfree.h" | grep -o '\bllfree_[a-z_]*(' | tr -d '(' | sort -u >"$folder/declared"
 diff "$folder/exported" "$folder/declared" || fails 'the header and the library differ'
 passes 'the names of the header and of the library'
+grep -qxF "#define LLFREE_VERSION \"$(cat "$root/VERSION")\"" "$root/include/llfree.h" ||
+    fails 'the header has another version than the file VERSION'
+passes 'the version of the header'
 
 # what every C compiler wants of a program without a C library, and the heap
 if nm -u "$library" | awk 'NF == 2 { print $2 }' | grep -vxE 'mem(cpy|move|set|cmp)|rattle_(alloc|realloc|dealloc)'; then
@@ -84,6 +88,30 @@ if command -v make >/dev/null && command -v pkg-config >/dev/null; then
     read -ra with < <(PKG_CONFIG_PATH=$root/examples/c pkg-config --cflags --libs llfree)
     "$cc" -o "$folder/program" "$source" "${with[@]}" || fails "$name: not built"
     runs "$name" "$source"
+else
+    echo "$name: not here"
+fi
+
+# as it is installed: one archive, and a shared library of which only llfree_* is seen
+name='installed'
+if command -v make >/dev/null; then
+    make -s -C "$root/examples/c" install PREFIX=/usr DESTDIR="$folder/to" >/dev/null || fails "$name: not installed"
+    to=$folder/to/usr
+    source=$root/examples/c/first.c
+    "$cc" -I"$to/include" -o "$folder/program" "$source" "$to/lib/libllfree.a" || fails "$name: no archive"
+    runs "$name: the archive" "$source"
+    "$cc" -I"$to/include" -o "$folder/program" "$source" -L"$to/lib" -lllfree -Wl,-rpath,"$to/lib" ||
+        fails "$name: no shared library"
+    runs "$name: the shared library" "$source"
+    nm -D --defined-only "$to/lib/libllfree.so.1" | awk '$2 != "A" { sub(/@.*/, "", $3); print $3 }' | sort |
+        diff - "$folder/exported" || fails "$name: other names in the shared library"
+    passes "$name: the names of the shared library"
+    source=$root/examples/c/own_heap.c
+    "$cc" -I"$to/include" -o "$folder/program" "$source" "$to/lib/libllfree.a" || fails "$name: no heap of its own"
+    runs "$name: a program's own heap" "$source"
+    make -s -C "$root/examples/c" uninstall PREFIX=/usr DESTDIR="$folder/to" >/dev/null || fails "$name: not removed"
+    [ -z "$(find "$folder/to" ! -type d)" ] || fails "$name: something is left"
+    passes "$name: nothing is left"
 else
     echo "$name: not here"
 fi

@@ -12,6 +12,7 @@ struct rattle_block {
 
 enum { ROOM = 1 << 20, ALIGNMENT = 16, CORES = 2 };
 
+/* Plain counts: here one thread opens and closes. Where several do so at once, they are behind a lock. */
 static _Alignas(ALIGNMENT) unsigned char arena[ROOM];
 static size_t used, blocks;
 

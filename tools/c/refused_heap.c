@@ -1,5 +1,6 @@
 /* Openings and closings of the library for C with each call of their heap refused in turn, alone and for
- * good: the answer is NO_MEMORY, the handles are as they were, and no block is left. */
+ * good: the answer is NO_MEMORY, the handles are as they were, and no block is left. Takes, gives and
+ * splits make no such call. */
 #include "check.h"
 
 enum { CORES = 3, FRAMES = 4300, WORDS = 9 * 9 };
@@ -204,8 +205,46 @@ static long reopening(bool is_shared, bool is_for_good)
     return call - 1;
 }
 
+/* Takes, gives and splits call no heap, whether they are refused or not. */
+static void no_calls(void)
+{
+    llfree_core cores[CORES] = { LLFREE_CLOSED };
+    llfree_plain memory = LLFREE_CLOSED;
+    llfree_block block = LLFREE_EMPTY, upper = LLFREE_EMPTY;
+    uint32_t frame = 0;
+
+    refuse(0, false);
+    CHECK(llfree_open(cores, CORES, FRAMES, kept, 2) == LLFREE_OK && open_plain(&memory) == LLFREE_OK);
+    CHECK(calls > 0);
+    calls = 0;
+    for (uint8_t order = 1; order <= LARGEST; order++) {
+        CHECK(llfree_take(&cores[0], order, &frame) == LLFREE_OK);
+        CHECK(llfree_split(&cores[1], frame, order) == LLFREE_OK);
+        CHECK(llfree_give(&cores[2], frame, order) == LLFREE_NOT_HELD);
+        CHECK(llfree_give(&cores[2], frame, order - 1) == LLFREE_OK);
+        CHECK(llfree_take_block(&cores[1], order, &block) == LLFREE_OK);
+        CHECK(llfree_split_block(&cores[2], &block, &upper) == LLFREE_OK);
+        CHECK(llfree_give_block(&cores[0], &block) == LLFREE_OK);
+        CHECK(llfree_give_block(&cores[0], &upper) == LLFREE_OK);
+        CHECK(llfree_plain_take(&memory, order, &frame) == LLFREE_OK);
+        CHECK(llfree_plain_split(&memory, frame, order) == LLFREE_OK);
+        CHECK(llfree_plain_give(&memory, frame, order - 1) == LLFREE_OK);
+    }
+    while (llfree_take(&cores[0], 0, &frame) == LLFREE_OK)
+        ;
+    while (llfree_plain_take(&memory, 0, &frame) == LLFREE_OK)
+        ;
+    CHECK(llfree_take(&cores[1], 0, &frame) == LLFREE_NO_BLOCK);
+    CHECK(calls == 0);
+    llfree_plain_close(&memory);
+    for (int i = 0; i < CORES; i++)
+        llfree_close(&cores[i]);
+    CHECK(blocks == 0);
+}
+
 int main(void)
 {
+    no_calls();
     for (int is_for_good = 0; is_for_good < 2; is_for_good++) {
         long shared = shared_opening(llfree_open, is_for_good), plain = plain_opening(is_for_good);
         long unchecked = shared_opening(llfree_open_unchecked, is_for_good);

@@ -9,7 +9,7 @@ use Rattle.frame_model.specs.Words.{bit_word_of, bits_place}
 use Rattle.frame_core.specs.Image.{Contents, key_in}
 use Rattle.frame_core.specs.Laws.{AddsUp}
 use Rattle.core_frames.specs.PlainState.{PlainState, memory_by, held_by, HoldsExactly}
-use Rattle.llfree_c.specs.Images.{SaysOfChild, SaysAll, LeavesNumbers}
+use Rattle.llfree_c.specs.Images.{SaysOfChild, SaysAll, LeavesNumbers, StaysBehind}
 
 -- what numbers say of the children below stays where those are as before
 pub says_below : (key : Key) (words old new : List ℕ) (child k : ℕ)
@@ -30,6 +30,15 @@ says_more key words old new child same all one k less =
     (λ (below : k < child). says_below key words old new child k same below (all k below))
     (λ (above : child ≤ k). let e : child ≡ k = omega arith in subst (λ (n : ℕ). SaysOfChild key words n new) e one)
     (cases_lt k child)
+
+-- what stays behind a place stays behind a later one, over two writings
+pub stays_behind : (first last : ℕ) (oldest old new : List ℕ) → first ≤ last → StaysBehind last oldest old
+    → StaysBehind first old new → StaysBehind last oldest new
+stays_behind first last oldest old new before a b = record {
+  count = b.count ∙ a.count;
+  same = λ i from less.
+      b.same i (omega (arith, before, from)) (omega (arith, less, a.count)) ∙ a.same i from less;
+}
 
 -- what numbers say of an image's words they say of those of its memory, whatever was held back there
 pub says_of_memory : (state : PlainState) (image : Contents) (numbers : List ℕ)

@@ -18,7 +18,7 @@ use Rattle.llfree_c.specs.CoreImages.{SaysOfRebuilt, SaysRebuilt, LeavesStop}
 use Rattle.llfree_c.specs.Images.{SaysAll}
 use Rattle.frame_core.specs.Events.{State, Fits, views_of}
 use Rattle.frame_words.specs.declared.geometry.Geometry.{Geometry}
-use Rattle.llfree_c.specs.StoppedWords.{IsOfSizes}
+use Rattle.llfree_c.specs.StoppedWords.{HasFramesAndCores}
 use Rattle.frame_table.proofs.Stopped.{stopped_holds, stopped_boot}
 
 -- what numbers say of the children below stays where those are as before
@@ -153,7 +153,7 @@ says_of_sizes key g words numbers s says =
     same_memory key words numbers (subst (λ k. SaysRebuilt k words numbers) is says)
 
 pub has_sizes : (frames cores : ℕ) (key : Key) (g : Geometry) → g.frames ≡ frames → g.cores ≡ cores
-    → IsOfSizes frames cores key → HasSizes key g
+    → HasFramesAndCores frames cores key → HasSizes key g
 has_sizes frames cores key g f k is = (
   omega (arith, is.children, f, g.some_children, g.last_child_begun, g.frames_in_children),
   k ∙ sym is.used_by,

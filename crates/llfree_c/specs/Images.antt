@@ -1,5 +1,5 @@
 -- The numbers that an image is kept as.
-use Rattle.std.specs.Prelude.{◌≡◌, ◌⊎◌, ℕ, ◌+◌, ◌*◌, ◌/◌, ◌<◌, List, Option, Some, None, option_map, slice_index}
+use Rattle.std.specs.Prelude.{◌≡◌, ◌⊎◌, ℕ, ◌+◌, ◌*◌, ◌/◌, ◌<◌, ◌≤◌, List, Option, Some, None, length, option_map, slice_index}
 use Rattle.frame_words.specs.Words.{entry_word}
 use Rattle.frame_model.specs.declared.key.Key.{Key}
 use Rattle.frame_model.specs.Words.{free_of, huge_of, bit_word_of}
@@ -22,6 +22,11 @@ pub record SaysOfChild (key : Key) (words : List ℕ) (c : ℕ) (numbers : List 
 -- the numbers say of each child what the words do
 abbrev pub SaysAll : Key → List ℕ → List ℕ → Type 0
 SaysAll key words numbers = (c : ℕ) → c < key.children → SaysOfChild key words c numbers
+
+-- numbers from this one on are as before, and as many as before
+pub record StaysBehind (first : ℕ) (old new : List ℕ) : Type 0 where
+  pub count : length new ≡ length old
+  pub same : (i : ℕ) → first ≤ i → i < length old → slice_index new i ≡ slice_index old i
 
 -- the numbers are those of words that hold exactly what the memory does, and whose counters add up
 pub record LeavesNumbers (state : PlainState) (numbers : List ℕ) : Type 0 where

@@ -1,7 +1,7 @@
 //! What C calls of an allocator for one thread.
 
 ghost use Rattle.std.specs.Prelude.{◌≡◌, ◌≢◌, ◌⊎◌, ◌≤◌, true, false, length};
-ghost use Rattle.llfree_c.specs.Images.{LeavesImage, memory_behind, IsUnwritten};
+ghost use Rattle.llfree_c.specs.Images.{image_words, LeavesImage, memory_behind, IsUnwritten, StaysBehind};
 ghost use Rattle.llfree_c.specs.Openings.{IsUnopened};
 ghost use Rattle.llfree_c.specs.Status.{ok, no_block, bad_order, not_held, closed, not_closed};
 ghost use Rattle.llfree_c.specs.Seen.{Both, OpensFresh, plain_frames, BlockTaken, NoneWasFree, HasNoOrder};
@@ -141,6 +141,8 @@ pub extern "C" fn llfree_plain_close_image(
     numbers: &mut [u64],
 ) -> u32
     ensures left { result ≡ ok → LeavesImage handle.old.state.value numbers.new }
+    ensures behind { result ≡ ok
+        → StaysBehind (image_words (plain_frames handle.old.state.value)) numbers.old numbers.new }
     ensures closes { result ≡ ok → handle.new.live ≡ false }
     ensures same { result ≢ ok
         → memory_behind handle.new.state.value ≡ memory_behind handle.old.state.value }

@@ -4,6 +4,7 @@ ghost use Rattle.std.specs.Prelude.{◌≡◌, ◌≢◌, ◌⊎◌, ◌<◌, �
 ghost use Rattle.std.specs.List.{All};
 ghost use Rattle.frame_places.specs.Calls.{SharesOne, TakesFor, GivesFor, SplitsFor, FindsNoneFor, LendsNoMore, KeepsCore};
 ghost use Rattle.llfree_c.specs.CoreImages.{LeavesCoreImage, LeavesNoCoreImage};
+ghost use Rattle.llfree_c.specs.Images.{image_words, StaysBehind};
 ghost use Rattle.llfree_c.specs.Status.{ok, no_block, bad_order, not_held, closed, contended};
 ghost use Rattle.llfree_c.specs.OpenCores.{HasNoCores, IsClosedHandle, OpensCores};
 ghost use Rattle.llfree_c.specs.SeenCores.{OnCores, frames_behind};
@@ -141,6 +142,8 @@ pub extern "C" fn llfree_close_image(
     numbers: &mut [u64],
 ) -> u32
     ensures left { result ≡ ok → LeavesCoreImage handle.old.state.value numbers.new }
+    ensures behind { result ≡ ok
+        → StaysBehind (image_words (frames_behind handle.old.state.value)) numbers.old numbers.new }
     ensures closes { result ≡ ok → handle.new.live ≡ false }
     ensures same { result ≢ ok → handle.new.state.value ≡ handle.old.state.value }
     ensures refused { result ≢ ok → (numbers.new ≡ numbers.old)

@@ -2,7 +2,9 @@
 
 ghost use Rattle.std.specs.Prelude.{◌≡◌, ◌≢◌, length, IfOk, IfErr};
 ghost use Rattle.llfree_c.specs.Status.{ok, no_memory};
+ghost use Rattle.frame_places.specs.Calls.{frames_by};
 ghost use Rattle.llfree_c.specs.CoreImages.{StopsCore, HasNoStop};
+ghost use Rattle.llfree_c.specs.Images.{image_words, StaysBehind};
 
 use crate::images::llfree_image_words;
 use crate::rebuilding::write_rebuilt;
@@ -17,6 +19,8 @@ use std::mem::replace;
 /// in its place so that a refusal can put it back.
 pub(crate) fn leave_core_image(state: &mut CoreState, heap: Global, numbers: &mut [u64]) -> u32
     ensures left { result ≡ ok → StopsCore state.old numbers.new }
+    ensures behind { result ≡ ok
+        → StaysBehind (image_words (frames_by state.old)) numbers.old numbers.new }
     ensures same { result ≢ ok → state.new ≡ state.old }
     ensures refused { result ≢ ok → (numbers.new ≡ numbers.old)
         × HasNoStop state.old (length numbers.old) result }

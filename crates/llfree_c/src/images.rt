@@ -2,7 +2,7 @@
 
 ghost use Rattle.std.specs.Prelude.{◌≡◌, ℕ, ◌⊎◌, ◌+◌, ◌*◌, ◌<◌, ◌≤◌, length, slice_index};
 ghost use Rattle.frame_core.specs.Image.{key_in};
-ghost use Rattle.llfree_c.specs.Images.{image_words, SaysOfChild, SaysAll};
+ghost use Rattle.llfree_c.specs.Images.{image_words, SaysOfChild, SaysAll, StaysBehind};
 ghost use Rattle.frame_places.specs.Numbers.{most_frames};
 
 use frame_core::Image;
@@ -27,7 +27,8 @@ pub extern "C" fn llfree_image_words(frames: u32) -> usize
 /// Writes the numbers of the image; what lies behind them stays.
 pub(crate) fn write_numbers(image: &Image, numbers: &mut [u64])
     requires { 9 * image.now.geometry.children ≤ length numbers.old }
-    ensures { SaysAll (key_in image.now) image.now.words numbers.new }
+    ensures written { SaysAll (key_in image.now) image.now.words numbers.new }
+    ensures behind { StaysBehind (9 * image.now.geometry.children) numbers.old numbers.new }
 {
     let geometry = image.geometry();
     for child in 0..geometry.children {
@@ -41,7 +42,7 @@ fn write_child(image: &Image, child: u32, numbers: &mut [u64])
     ensures written { SaysOfChild (key_in image.now) image.now.words child numbers.new }
     ensures below { (i : ℕ) → i < 9 * child
         → slice_index numbers.new i ≡ slice_index numbers.old i }
-    ensures count { length numbers.new ≡ length numbers.old }
+    ensures behind { StaysBehind (9 * child + 9) numbers.old numbers.new }
 {
     let first = CHILD_NUMBERS * child as usize;
     numbers[first] = entry(image.free(child), image.huge(child));

@@ -6,6 +6,7 @@ ghost use Rattle.frame_core.specs.Key.{key_of};
 ghost use Rattle.frame_core.specs.Rebuilt.{rebuilt_free, rebuilt_bits};
 ghost use Rattle.frame_core.specs.Words.{huge_of, set_of, bit_word_of, word_count};
 ghost use Rattle.llfree_c.specs.CoreImages.{SaysOfRebuilt, SaysRebuilt};
+ghost use Rattle.llfree_c.specs.Images.{StaysBehind};
 
 use crate::images::CHILD_NUMBERS;
 use frame_core::layout::{bits_place, entry_place};
@@ -16,10 +17,8 @@ use frame_words::{CHILD_FRAMES, CHILD_WORDS, Geometry, entry, entry_huge, lane};
 pub(crate) fn write_rebuilt(geometry: Geometry, words: &[u64], numbers: &mut [u64])
     requires count { length words.now ≡ word_count (key_of geometry) }
     requires room { 9 * geometry.children ≤ length numbers.old }
-    ensures says { SaysRebuilt (key_of geometry) words.now numbers.new }
-    ensures behind { (i : ℕ) → 9 * geometry.children ≤ i
-        → slice_index numbers.new i ≡ slice_index numbers.old i }
-    ensures count { length numbers.new ≡ length numbers.old }
+    ensures written { SaysRebuilt (key_of geometry) words.now numbers.new }
+    ensures behind { StaysBehind (9 * geometry.children) numbers.old numbers.new }
 {
     for child in 0..geometry.children {
         write_child(geometry, words, child, numbers);
@@ -33,9 +32,7 @@ fn write_child(geometry: Geometry, words: &[u64], child: u32, numbers: &mut [u64
     ensures written { SaysOfRebuilt (key_of geometry) words.now child numbers.new }
     ensures below { (i : ℕ) → i < 9 * child
         → slice_index numbers.new i ≡ slice_index numbers.old i }
-    ensures behind { (i : ℕ) → 9 * child + 9 ≤ i
-        → slice_index numbers.new i ≡ slice_index numbers.old i }
-    ensures count { length numbers.new ≡ length numbers.old }
+    ensures behind { StaysBehind (9 * child + 9) numbers.old numbers.new }
 {
     let first = CHILD_NUMBERS * child as usize;
     numbers[first] = rebuilt_entry(geometry, words, child);

@@ -3,7 +3,7 @@
 ghost use Rattle.std.specs.Prelude.{◌≡◌, ◌≢◌, ◌⊎◌, ◌≤◌, [], IfOk, IfErr, OnOk, OnErr, length};
 ghost use Rattle.frame_core.specs.QuietTake.{QuietTake};
 ghost use Rattle.core_frames.specs.PlainState.{memory_by};
-ghost use Rattle.llfree_c.specs.Images.{LeavesNumbers, HasNoImage};
+ghost use Rattle.llfree_c.specs.Images.{image_words, LeavesNumbers, HasNoImage, StaysBehind};
 ghost use Rattle.llfree_c.specs.Openings.{IsMemoryOf, IsUnopened};
 ghost use Rattle.llfree_c.specs.Status.{ok, no_block, bad_order, not_held};
 ghost use Rattle.llfree_c.specs.Seen.{BlockTaken, NoneWasFree, HasNoOrder, BlockGiven, BlockSplit, HasNoHalves, WasNotOut};
@@ -85,6 +85,8 @@ impl Plain {
     #[tactic(auto, using(crate::proofs::ImageNumbers::leaves_numbers))]
     pub(crate) fn leave_image(&mut self, heap: Global, numbers: &mut [u64]) -> u32
         ensures left { result ≡ ok → LeavesNumbers self.old.allocator numbers.new }
+        ensures behind { result ≡ ok
+            → StaysBehind (image_words self.old.allocator.geometry.frames) numbers.old numbers.new }
         ensures same { result ≢ ok → self.new.allocator ≡ self.old.allocator }
         ensures refused { result ≢ ok → (numbers.new ≡ numbers.old)
             × HasNoImage self.old.allocator (length numbers.old) result }

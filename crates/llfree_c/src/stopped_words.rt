@@ -1,11 +1,11 @@
 //! The numbers of the image at which an allocator that was stopped goes on, from its words.
 
-ghost use Rattle.std.specs.Prelude.{◌≡◌, ◌≢◌, ◌⊎◌, ℕ, ◌<◌, ◌≤◌, length, slice_index};
+ghost use Rattle.std.specs.Prelude.{◌≡◌, ◌≢◌, ◌⊎◌, ℕ, ◌<◌, length};
 ghost use Rattle.frame_core.specs.Words.{word_count};
-ghost use Rattle.llfree_c.specs.Images.{image_words};
+ghost use Rattle.llfree_c.specs.Images.{image_words, StaysBehind};
 ghost use Rattle.llfree_c.specs.Openings.{AreMemorySizes};
 ghost use Rattle.llfree_c.specs.Status.{ok, bad_geometry, no_room, bad_image};
-ghost use Rattle.llfree_c.specs.StoppedWords.{IsOfSizes, SaysOfWords};
+ghost use Rattle.llfree_c.specs.StoppedWords.{HasFramesAndCores, SaysOfWords};
 ghost use Rattle.frame_model.specs.declared.key.Key.{Key};
 
 use crate::images::llfree_image_words;
@@ -17,7 +17,7 @@ use frame_core::layout::word_count;
 /// How many words an allocator of so many frames and cores has; none where there is no such memory.
 #[unsafe(no_mangle)]
 pub extern "C" fn llfree_words(frames: u32, cores: u32) -> usize
-    ensures some { AreMemorySizes frames cores → (key : Key) → IsOfSizes frames cores key
+    ensures some { AreMemorySizes frames cores → (key : Key) → HasFramesAndCores frames cores key
         → result ≡ word_count key }
     ensures none { ¬ AreMemorySizes frames cores → result ≡ 0 }
 {
@@ -36,8 +36,7 @@ pub extern "C" fn llfree_image_of_words(
     numbers: &mut [u64],
 ) -> u32
     ensures says { result ≡ ok → SaysOfWords frames cores words.now numbers.new }
-    ensures behind { (i : ℕ) → image_words frames ≤ i → slice_index numbers.new i ≡ slice_index numbers.old i }
-    ensures count { length numbers.new ≡ length numbers.old }
+    ensures behind { result ≡ ok → StaysBehind (image_words frames) numbers.old numbers.new }
     ensures refused { result ≢ ok → numbers.new ≡ numbers.old }
     ensures why { (result ≡ bad_geometry → ¬ AreMemorySizes frames cores)
         × (result ≡ no_room → length numbers.old < image_words frames) }

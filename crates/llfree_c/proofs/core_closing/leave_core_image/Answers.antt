@@ -14,7 +14,7 @@ returns-in-Ok-stop-clause-left c =
     let numbers = c.write_rebuilt.new.numbers in
     let read : SaysRebuilt (key_of c.geometry.result) image.words numbers =
     subst (λ (ws : List ℕ). SaysRebuilt (key_of c.geometry.result) ws numbers) c.words.ensures
-    c.write_rebuilt.ensures.says in
+    c.write_rebuilt.ensures.written in
     let says : SaysRebuilt (key_of image.geometry) image.words numbers =
     subst (λ (g : Geometry). SaysRebuilt (key_of g) image.words numbers) c.geometry.ensures.value read in
     λ _. subst (λ (s : CoreState). StopsCore s numbers) c.replace.ensures.value

@@ -2,7 +2,7 @@ use Rattle.std.proofs.Common.{◌≡◌, ℕ, List, length, sym, subst, ◌∙�
 use Rattle.frame_model.specs.declared.key.Key.{Key}
 use Rattle.frame_core.specs.Moves.{HasSizes}
 use Rattle.llfree_c.specs.CoreImages.{SaysRebuilt}
-use Rattle.llfree_c.specs.StoppedWords.{IsOfSizes}
+use Rattle.llfree_c.specs.StoppedWords.{HasFramesAndCores}
 use Rattle.llfree_c.proofs.RebuiltNumbers.{has_sizes, same_count, says_of_sizes, leaves_fitting}
 use Rattle.llfree_c.proofs.stopped_words.llfree_image_of_words.Goals as goal
 
@@ -13,10 +13,10 @@ returns-clause-says c =
     let words = c.args.words.now in
     let numbers = c.write_rebuilt.new.numbers in
     let counted : length words ≡ c.word_count.result = search rules in
-    let sizes : (key : Key) → IsOfSizes c.args.frames c.args.cores key → HasSizes key g =
+    let sizes : (key : Key) → HasFramesAndCores c.args.frames c.args.cores key → HasSizes key g =
     λ key is. has_sizes c.args.frames c.args.cores key g made.0 made.1 is in
-    let all : (key : Key) → IsOfSizes c.args.frames c.args.cores key → SaysRebuilt key words numbers =
-    λ key is. says_of_sizes key g words numbers (sizes key is) c.write_rebuilt.ensures.says in
+    let all : (key : Key) → HasFramesAndCores c.args.frames c.args.cores key → SaysRebuilt key words numbers =
+    λ key is. says_of_sizes key g words numbers (sizes key is) c.write_rebuilt.ensures.written in
     λ _. record {
       count = λ key is. counted ∙ (c.word_count.ensures ∙ same_count key g (sizes key is));
       says = all;
