@@ -7,7 +7,7 @@ use Rattle.frame_words.specs.declared.fault.TakeFault.TheVariants.{BadOrder, NoB
 use Rattle.frame_core.specs.Block.{block, IsBlock}
 use Rattle.low_frames.specs.Outcomes.{HasNoBootFrame}
 use Rattle.frame_table.specs.Seats.{id_of}
-use Rattle.core_frames.specs.Cores.{memory_of, lent_by}
+use Rattle.core_frames.specs.Cores.{memory_of, lent_by, kept_by}
 use Rattle.core_frames.specs.Uses.{HasMovedForEach}
 use Rattle.core_frames.specs.declared.allocator.Allocator.{Allocator}
 use Rattle.core_frames.specs.declared.allocator.Core.{Core}
@@ -58,6 +58,21 @@ pub record FindsNothing (a : Allocator) (order : ℕ) (c d : Core) : Type 0 wher
 -- the core lends as many blocks as before
 abbrev pub LendsAsBefore : Core → Core → Type 0
 LendsAsBefore c d = lent_by d ≡ lent_by c
+
+-- the core lends and keeps what it did before
+pub record IsUsedAsBefore (c d : Core) : Type 0 where
+  pub lent : lent_by d ≡ lent_by c
+  pub kept : kept_by d ≡ kept_by c
+
+-- the core lends so many blocks more, and keeps what it did before
+pub record HasTakenSoMany (n : ℕ) (c d : Core) : Type 0 where
+  pub lent : lent_by d ≡ lent_by c +ℤ pos n
+  pub kept : kept_by d ≡ kept_by c
+
+-- the core lends so many blocks less, and keeps what it did before
+pub record HasGivenSoMany (n : ℕ) (c d : Core) : Type 0 where
+  pub lent : lent_by d ≡ lent_by c -ℤ pos n
+  pub kept : kept_by d ≡ kept_by c
 
 -- why a take of the order was refused: there are no blocks of that order; or each tree was looked
 -- at; or other cores were in the way. No block more is lent

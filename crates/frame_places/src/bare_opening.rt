@@ -1,6 +1,6 @@
 //! The cores of a fresh memory that has no places.
 
-ghost use Rattle.std.specs.Prelude.{IfOk, IfErr};
+ghost use Rattle.std.specs.Prelude.{false, IfOk, IfErr};
 ghost use Rattle.core_frames.specs.Ranges.{MayHoldBack, IsUnopenedFor};
 ghost use Rattle.frame_model.specs.Key.{sealed_key};
 ghost use Rattle.frame_places.specs.Openings.{AreCoresOf};
@@ -18,7 +18,7 @@ pub fn open_bare_cores(
     geometry: Geometry,
     ranges: &[(u32, u32)],
 ) -> Result<Vec<CoreState>, Fault>
-    ensures cores { IfOk result (λ states. AreCoresOf (sealed_key geometry ranges.now) states.items) }
+    ensures cores { IfOk result (λ states. AreCoresOf false (sealed_key geometry ranges.now) states.items) }
     ensures lawful { IfOk result (λ _. MayHoldBack geometry ranges.now) }
     ensures refused { IfErr result (IsUnopenedFor geometry ranges.now) }
 {

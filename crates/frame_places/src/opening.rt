@@ -1,12 +1,12 @@
 //! The cores of a fresh memory.
 
-ghost use Rattle.std.specs.Prelude.{◌≡◌, ◌+◌, IfOk, IfErr, IfSome, vec_len};
+ghost use Rattle.std.specs.Prelude.{◌≡◌, ◌+◌, true, IfOk, IfErr, IfSome, vec_len};
 ghost use Rattle.std.specs.Arc.{arc_value};
 ghost use Rattle.std.specs.List.{All};
 ghost use Rattle.core_frames.specs.Cores.{memory_of, IsCoreOf};
 ghost use Rattle.core_frames.specs.Ranges.{MayHoldBack, IsUnopenedFor};
 ghost use Rattle.frame_model.specs.Key.{sealed_key};
-ghost use Rattle.frame_places.specs.Openings.{Shares, AreCoresOf};
+ghost use Rattle.frame_places.specs.Openings.{Shares, HasPlaces, IsUnused, IsUnusedState, AreCoresOf};
 
 use crate::core_state::CoreState;
 use crate::shared::Shared;
@@ -23,7 +23,7 @@ pub fn open_cores(
     geometry: Geometry,
     ranges: &[(u32, u32)],
 ) -> Result<Vec<CoreState>, Fault>
-    ensures cores { IfOk result (λ states. AreCoresOf (sealed_key geometry ranges.now) states.items) }
+    ensures cores { IfOk result (λ states. AreCoresOf true (sealed_key geometry ranges.now) states.items) }
     ensures lawful { IfOk result (λ _. MayHoldBack geometry ranges.now) }
     ensures refused { IfErr result (IsUnopenedFor geometry ranges.now) }
 {
@@ -41,7 +41,9 @@ pub(crate) fn open_shared(
     ranges: &[(u32, u32)],
 ) -> Result<(Shared, Vec<Core>), Fault>
     ensures memory { IfOk result (λ r. memory_of r.0.allocator ≡ sealed_key geometry ranges.now) }
+    ensures places { IfOk result (λ r. HasPlaces true r.0) }
     ensures cores { IfOk result (λ r. All (IsCoreOf r.0.allocator) r.1.items) }
+    ensures unused { IfOk result (λ r. All IsUnused r.1.items) }
     ensures count { IfOk result (λ r. vec_len r.1 ≡ geometry.cores) }
     ensures lawful { IfOk result (λ _. MayHoldBack geometry ranges.now) }
     ensures refused { IfErr result (IsUnopenedFor geometry ranges.now) }
@@ -59,6 +61,8 @@ pub(crate) fn next_core(allocator: &Allocator, cores: &mut Vec<Core>) -> Option<
     requires { All (IsCoreOf allocator.now) cores.old.items }
     ensures core { IfSome result (IsCoreOf allocator.now) }
     ensures left { All (IsCoreOf allocator.now) cores.new.items }
+    ensures unused { All IsUnused cores.old.items
+        → IfSome result IsUnused × All IsUnused cores.new.items }
     ensures count { IfSome result (λ _. vec_len cores.new + 1 ≡ vec_len cores.old) }
 {
     let _ = allocator;
@@ -69,6 +73,8 @@ pub(crate) fn put_back(shared: &Shared, cores: &mut Vec<Core>, core: Core) -> Re
     requires cores { All (IsCoreOf shared.now.allocator) cores.old.items }
     requires core { IsCoreOf shared.now.allocator core }
     ensures cores { All (IsCoreOf shared.now.allocator) cores.new.items }
+    ensures unused { All IsUnused cores.old.items → IsUnused core
+        → IfOk result (λ _. All IsUnused cores.new.items) }
     ensures count { IfOk result (λ _. vec_len cores.new ≡ vec_len cores.old + 1) }
     ensures err { IfErr result (λ e. e ≡ Fault.NoMemory) }
 {
@@ -86,6 +92,7 @@ pub(crate) fn open(
 ) -> Result<(Allocator, Vec<Core>), Fault>
     ensures memory { IfOk result (λ r. memory_of r.0 ≡ sealed_key geometry ranges.now) }
     ensures cores { IfOk result (λ r. All (IsCoreOf r.0) r.1.items) }
+    ensures unused { IfOk result (λ r. All IsUnused r.1.items) }
     ensures count { IfOk result (λ r. vec_len r.1 ≡ geometry.cores) }
     ensures lawful { IfOk result (λ _. MayHoldBack geometry ranges.now) }
     ensures refused { IfErr result (IsUnopenedFor geometry ranges.now) }
@@ -100,6 +107,8 @@ pub(crate) fn cores_over(
 ) -> Result<Vec<CoreState>, Fault>
     requires { All (IsCoreOf (arc_value shared.now).allocator) cores.items }
     ensures shared { IfOk result (λ states. All (Shares (arc_value shared.now)) states.items) }
+    ensures unused { All IsUnused cores.items
+        → IfOk result (λ states. All IsUnusedState states.items) }
     ensures count { IfOk result (λ states. vec_len states ≡ vec_len cores) }
     ensures err { IfErr result (λ e. e ≡ Fault.NoMemory) }
 {

@@ -1,9 +1,9 @@
 //! The places of all blocks of an order.
 
-ghost use Rattle.std.specs.Prelude.{◌≡◌, ◌≤◌, IfOk, IfErr};
+ghost use Rattle.std.specs.Prelude.{◌≡◌, ◌≤◌, IfOk, IfErr, vec_len};
 ghost use Rattle.std.specs.List.{All};
 ghost use Rattle.core_frames.specs.Cores.{IsCoreOf, IsOutOf};
-ghost use Rattle.frame_places.specs.Places.{IsPlaceOf};
+ghost use Rattle.frame_places.specs.Places.{IsPlaceOf, IsUsedAsBefore, HasTakenSoMany, HasGivenSoMany};
 
 use crate::place::Place;
 use core_frames::{Allocator, Core};
@@ -25,6 +25,7 @@ pub(crate) fn places_of(
     requires order { order ≤ 9 }
     requires core { IsCoreOf allocator.now core.old }
     ensures core { IsCoreOf allocator.now core.new }
+    ensures lends { IfOk result (λ _. IsUsedAsBefore core.old core.new) }
     ensures places { IfOk result (λ places. All (IsPlaceOf allocator.now) places.items) }
     ensures err { IfErr result (λ e. e ≡ Fault.NoMemory) }
 {
@@ -82,6 +83,7 @@ fn take_all(
     requires { IsCoreOf allocator.now core.old }
     ensures core { IsCoreOf allocator.now core.new }
     ensures out { IfOk result (λ blocks. All (IsOutOf allocator.now) blocks.items) }
+    ensures lends { IfOk result (λ blocks. HasTakenSoMany (vec_len blocks) core.old core.new) }
     ensures err { IfErr result (λ e. e ≡ Fault.NoMemory) }
 {
     let mut blocks = Vec::new(alloc);
@@ -100,6 +102,7 @@ fn give_all(allocator: &Allocator, core: &mut Core, mut blocks: Vec<Block>)
     requires blocks { All (IsOutOf allocator.now) blocks.items }
     requires core { IsCoreOf allocator.now core.old }
     ensures core { IsCoreOf allocator.now core.new }
+    ensures lends { HasGivenSoMany (vec_len blocks) core.old core.new }
 {
     while let Some(held) = blocks.pop() {
         allocator.give(core, held);

@@ -1,9 +1,9 @@
 //! An allocator with a place for each block.
 
-ghost use Rattle.std.specs.Prelude.{◌≡◌, IfOk, IfErr, IfSome};
+ghost use Rattle.std.specs.Prelude.{◌≡◌, IfOk, IfErr, IfSome, vec_len};
 ghost use Rattle.std.specs.List.{All};
 ghost use Rattle.core_frames.specs.Cores.{memory_of, IsCoreOf};
-ghost use Rattle.frame_places.specs.Places.{IsPlaceOf, ArePlacesOf};
+ghost use Rattle.frame_places.specs.Places.{IsPlaceOf, ArePlacesOf, IsUsedAsBefore};
 
 use crate::place::Place;
 use crate::places::places_of;
@@ -55,7 +55,9 @@ impl Shared {
         requires core { IsCoreOf allocator core.old }
         requires frames { frames ≡ (memory_of allocator).frames }
         ensures core { IsCoreOf allocator core.new }
+        ensures lends { IfOk result (λ _. IsUsedAsBefore core.old core.new) }
         ensures same { IfOk result (λ s. s.allocator ≡ allocator) }
+        ensures rows { IfOk result (λ s. vec_len s.places ≡ 10) }
         ensures err { IfErr result (λ e. e ≡ Fault.NoMemory) }
     {
         let mut places = Vec::new(alloc);
@@ -76,7 +78,8 @@ impl Shared {
     /// No places: only blocks whose rights the caller keeps can be taken.
     pub(crate) fn bare(alloc: Global, allocator: Allocator, frames: u32) -> Shared
         requires { frames ≡ (memory_of allocator).frames }
-        ensures { result.allocator ≡ allocator }
+        ensures same { result.allocator ≡ allocator }
+        ensures rows { vec_len result.places ≡ 0 }
     {
         Shared {
             allocator,

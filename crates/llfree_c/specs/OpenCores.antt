@@ -1,9 +1,9 @@
 -- What an opening of cores leaves behind handles.
-use Rattle.std.specs.Prelude.{◌≡◌, ◌⊎◌, ℕ, List, length, false}
+use Rattle.std.specs.Prelude.{◌≡◌, ◌⊎◌, ℕ, Bool, List, length, false}
 use Rattle.std.specs.List.{All}
 use Rattle.std.specs.declared.boxed.Box.{Box}
 use Rattle.core_frames.specs.Cores.{memory_of}
-use Rattle.frame_places.specs.Openings.{Shares}
+use Rattle.frame_places.specs.Openings.{Shares, HasPlaces, IsUnusedState}
 use Rattle.frame_places.specs.declared.core_state.CoreState.{CoreState}
 use Rattle.frame_places.specs.declared.shared.Shared.{Shared}
 use Rattle.llfree_c.specs.Openings.{IsMemoryOf, IsUnopened}
@@ -24,19 +24,31 @@ IsCoreBehind shared h = OnCore (Shares shared) h.state.value
 abbrev pub HasMemory : ℕ → List FrameRange → Shared → Type 0
 HasMemory frames ranges shared = IsMemoryOf frames ranges (memory_of shared.allocator)
 
--- one allocator of such a memory is shared by the cores behind all of the handles
-abbrev pub OpensCores : ℕ → List FrameRange → List CoreHandle → Type 0
-OpensCores frames ranges handles =
-    (shared : Shared) × HasMemory frames ranges shared × All (IsCoreBehind shared) handles
+-- the core behind the handle lends no block and keeps none
+abbrev pub IsUnusedBehind : CoreHandle → Type 0
+IsUnusedBehind h = OnCore IsUnusedState h.state.value
+
+-- one allocator of such a memory, with places for its blocks or without, is shared by the cores behind all of the
+-- handles, none of which was used yet: no block is out
+abbrev pub OpensCores : (has_places : Bool) → ℕ → List FrameRange → List CoreHandle → Type 0
+OpensCores has_places frames ranges handles =
+    (shared : Shared) × HasMemory frames ranges shared × HasPlaces has_places shared
+    × All (IsCoreBehind shared) handles × All IsUnusedBehind handles
 
 -- the core in the box has its allocator and its places from here
 abbrev pub BoxShares : {Z : Type 0} → Shared → Box CoreState Z → Type 0
 BoxShares shared b = Shares shared b.value
 
--- one allocator of such a memory is shared by all of the cores
-abbrev pub ShareOne : {Z : Type 0} → ℕ → List FrameRange → List (Box CoreState Z) → Type 0
-ShareOne frames ranges cores =
-    (shared : Shared) × HasMemory frames ranges shared × All (BoxShares shared) cores
+-- the core in the box lends no block and keeps none
+abbrev pub IsBoxUnused : {Z : Type 0} → Box CoreState Z → Type 0
+IsBoxUnused b = IsUnusedState b.value
+
+-- one allocator of such a memory, with places for its blocks or without, is shared by all of the cores, none of
+-- which was used yet
+abbrev pub ShareOne : {Z : Type 0} → (has_places : Bool) → ℕ → List FrameRange → List (Box CoreState Z) → Type 0
+ShareOne has_places frames ranges cores =
+    (shared : Shared) × HasMemory frames ranges shared × HasPlaces has_places shared
+    × All (BoxShares shared) cores × All IsBoxUnused cores
 
 -- why no cores were opened behind these handles: one was open, there is no memory of these sizes, the
 -- ranges may not be held back, or memory was wanting

@@ -1,6 +1,6 @@
 //! What C calls of an allocator for several threads, each with a core of its own.
 
-ghost use Rattle.std.specs.Prelude.{◌≡◌, ◌≢◌, ◌⊎◌, ◌<◌, ◌≤◌, false, length};
+ghost use Rattle.std.specs.Prelude.{◌≡◌, ◌≢◌, ◌⊎◌, ◌<◌, ◌≤◌, true, false, length};
 ghost use Rattle.std.specs.List.{All};
 ghost use Rattle.frame_places.specs.Calls.{SharesOne, TakesFor, GivesFor, SplitsFor, FindsNoneFor, LendsNoMore, KeepsCore};
 ghost use Rattle.llfree_c.specs.CoreImages.{LeavesCoreImage, LeavesNoCoreImage};
@@ -27,7 +27,7 @@ pub extern "C" fn llfree_open(
     ranges: &[FrameRange],
 ) -> u32
     ensures open { result ≡ ok → All IsClosedHandle handles.old
-        × OpensCores frames ranges.now handles.new }
+        × OpensCores true frames ranges.now handles.new }
     ensures refused { result ≢ ok → handles.new ≡ handles.old }
     ensures why { result ≢ ok → HasNoCores frames ranges.now handles.old result }
 {

@@ -7,7 +7,8 @@ ghost use Rattle.frame_model.specs.Key.{sealed_key};
 ghost use Rattle.frame_places.specs.Openings.{AreCoresOf};
 ghost use Rattle.frame_places.specs.declared.shared.Shared.{Shared};
 ghost use Rattle.llfree_c.specs.Status.{no_memory};
-ghost use Rattle.llfree_c.specs.OpenCores.{BoxShares, HasNoCores, ShareOne, IsClosedHandle, IsCoreBehind};
+ghost use Rattle.llfree_c.specs.OpenCores.{BoxShares, IsBoxUnused, HasNoCores, ShareOne};
+ghost use Rattle.llfree_c.specs.OpenCores.{IsClosedHandle, IsCoreBehind, IsUnusedBehind};
 
 use crate::core_handle::CoreHandle;
 use crate::crossing::may_cross;
@@ -27,7 +28,7 @@ pub(crate) fn boxed_cores(
 ) -> Result<Vec<Box<CoreState, Global>>, u32>
     ensures count { IfOk result (λ cores. vec_len cores ≡ length handles.now) }
     ensures closed { IfOk result (λ _. All IsClosedHandle handles.now) }
-    ensures cores { IfOk result (λ cores. ShareOne frames ranges.now cores.items) }
+    ensures cores { IfOk result (λ cores. ShareOne has_places frames ranges.now cores.items) }
     ensures err { IfErr result (HasNoCores frames ranges.now handles.now) }
 {
     for handle in handles {
@@ -60,7 +61,8 @@ fn states_of(
     pairs: &[(u32, u32)],
     has_places: bool,
 ) -> Result<Vec<CoreState>, Fault>
-    ensures cores { IfOk result (λ states. AreCoresOf (sealed_key geometry pairs.now) states.items) }
+    ensures cores { IfOk result (λ states.
+        AreCoresOf has_places (sealed_key geometry pairs.now) states.items) }
     ensures lawful { IfOk result (λ _. MayHoldBack geometry pairs.now) }
     ensures refused { IfErr result (IsUnopenedFor geometry pairs.now) }
 {
@@ -92,8 +94,9 @@ pub(crate) fn boxed(
 
 pub(crate) fn hand_over(handles: &mut [CoreHandle], mut cores: Vec<Box<CoreState, Global>>)
     requires { vec_len cores ≡ length handles.old }
-    ensures { (shared : Shared) → All (BoxShares shared) cores.items
+    ensures shares { (shared : Shared) → All (BoxShares shared) cores.items
         → All (IsCoreBehind shared) handles.new }
+    ensures unused { All IsBoxUnused cores.items → All IsUnusedBehind handles.new }
 {
     for handle in handles {
         set_next(handle, &mut cores);
@@ -104,6 +107,8 @@ fn set_next(handle: &mut CoreHandle, cores: &mut Vec<Box<CoreState, Global>>)
     requires { 0 < vec_len cores.old }
     ensures set { (shared : Shared) → All (BoxShares shared) cores.old.items
         → IsCoreBehind shared handle.new }
+    ensures unused { All IsBoxUnused cores.old.items
+        → IsUnusedBehind handle.new × All IsBoxUnused cores.new.items }
     ensures left { (shared : Shared) → All (BoxShares shared) cores.old.items
         → All (BoxShares shared) cores.new.items }
     ensures count { vec_len cores.new + 1 ≡ vec_len cores.old }

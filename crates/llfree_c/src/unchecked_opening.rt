@@ -1,6 +1,6 @@
 //! The opening of an allocator that keeps no list of the blocks that are out.
 
-ghost use Rattle.std.specs.Prelude.{◌≡◌, ◌≢◌};
+ghost use Rattle.std.specs.Prelude.{◌≡◌, ◌≢◌, false};
 ghost use Rattle.std.specs.List.{All};
 ghost use Rattle.llfree_c.specs.Status.{ok};
 ghost use Rattle.llfree_c.specs.OpenCores.{HasNoCores, IsClosedHandle, OpensCores};
@@ -20,7 +20,7 @@ pub extern "C" fn llfree_open_unchecked(
     ranges: &[FrameRange],
 ) -> u32
     ensures open { result ≡ ok → All IsClosedHandle handles.old
-        × OpensCores frames ranges.now handles.new }
+        × OpensCores false frames ranges.now handles.new }
     ensures refused { result ≢ ok → handles.new ≡ handles.old }
     ensures why { result ≢ ok → HasNoCores frames ranges.now handles.old result }
 {

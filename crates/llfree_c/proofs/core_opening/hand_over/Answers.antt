@@ -1,6 +1,6 @@
 use Rattle.std.proofs.Common.{arith, rules, ◌<◌, ◌≤◌, length}
 use Rattle.std.proofs.lemmas.List.Elements.{AllWithin-more_set}
-use Rattle.llfree_c.specs.OpenCores.{IsCoreBehind}
+use Rattle.llfree_c.specs.OpenCores.{IsCoreBehind, IsUnusedBehind}
 use Rattle.llfree_c.proofs.core_opening.hand_over.Goals as goal
 
 pub loop-handle-preserved : goal.loop-handle-preserved
@@ -12,10 +12,20 @@ loop-handle-preserved c =
           AllWithin-more_set c.loop-handle.handle-items c.loop-handle.handle-index c.set_next.new.handle inside
           (IsCoreBehind s) (c.loop-handle.invariant.done s all)
           (c.set_next.ensures.set s (c.loop-handle.invariant.left s all));
+      unused = λ all.
+          let before = c.loop-handle.invariant.unused all in
+          let next = c.set_next.ensures.unused before.0 in (
+            next.1,
+            AllWithin-more_set c.loop-handle.handle-items c.loop-handle.handle-index c.set_next.new.handle inside
+                IsUnusedBehind before.1 next.0,
+          );
       count = search rules;
     }
 
 pub returns : goal.returns
 returns c =
     let all_done : length c.loop-handle.handle-items ≤ c.loop-handle.handle-index = search rules in
-    λ s all k d less. c.loop-handle.invariant.done s all k d (omega arith) (omega arith)
+    record {
+      shares = λ s all k d less. c.loop-handle.invariant.done s all k d (omega arith) (omega arith);
+      unused = λ all k d less. (c.loop-handle.invariant.unused all).1 k d (omega arith) (omega arith);
+    }

@@ -1,7 +1,7 @@
 use Rattle.std.proofs.Common.{◌≡◌, length, vec_len, ◌+◌}
 use Rattle.std.specs.List.{All, AllWithin}
 use Rattle.frame_places.specs.declared.shared.Shared.{Shared}
-use Rattle.llfree_c.specs.OpenCores.{BoxShares, IsCoreBehind}
+use Rattle.llfree_c.specs.OpenCores.{BoxShares, IsBoxUnused, IsCoreBehind, IsUnusedBehind}
 use Rattle.llfree_c.proofs.core_opening.hand_over.Given as goal
 
 abbrev pub invariant-loop-handle : goal.invariant-loop-handle
@@ -9,5 +9,7 @@ invariant-loop-handle l = record {
   left : (shared : Shared) → All (BoxShares shared) l.fn.cores.items → All (BoxShares shared) l.cores.items;
   done : (shared : Shared) → All (BoxShares shared) l.fn.cores.items
       → AllWithin (IsCoreBehind shared) l.handle-items 0 l.handle-index;
+  unused : All IsBoxUnused l.fn.cores.items
+      → All IsBoxUnused l.cores.items × AllWithin IsUnusedBehind l.handle-items 0 l.handle-index;
   count : vec_len l.cores + l.handle-index ≡ length l.handle-items;
 }
