@@ -1,10 +1,12 @@
 #!/usr/bin/env python3
-"""Writes what has to be believed: docs/DEFINITIONS.md, each definition of the specs in the sentence that
-stands above it, and docs/believe/, for each kind of promise just the definitions that it rests on.
+"""Writes docs/believe/, what has to be believed: for each kind of promise just the definitions that it rests
+on, in the sentences that stand above them, the promise that needs the fewest first.
 
-Run it at the top of the repository. It ends with status 1 where a definition has no sentence or a contract
-that is named here is missing; with `--strict` also where two definitions of the specs have one name.
+Run it at the top of the repository. It ends with status 1 where a definition has no sentence, a contract that is
+named here is missing, or docs/PROOFS.md links to a part that is not there; with `--strict` also where two definitions
+of the specs have one name.
 """
+import re
 import sys
 import textwrap
 from collections import defaultdict
@@ -14,13 +16,6 @@ sys.dont_write_bytecode = True
 from spec_files import TOP, Definition, Specs, contract, said_of  # noqa: E402
 
 MOST_FIELDS = 12
-DEFINITIONS = """# Definitions
-
-What the contracts of this repository are about, word by word. Each definition stands in a file of
-`specs/`, below the sentence that is repeated here; this page is written from those files by
-`tools/definitions.py`. What one promise rests on is told in [`docs/believe/`](believe).
-"""
-
 # Each page: its file, its title, and its promises. A promise is a line and the contracts that carry it, as
 # docs/PROOFS.md names them: a function, `Type::function`, `trait Name` or `struct Name`.
 PAGES = [
@@ -51,7 +46,7 @@ PAGES = [
         ("what words and views that agree say of blocks and counters", ["every_fit_is_safe"]),
         ("what the counters say at the end", ["every_closing_adds_up"]),
         ("whatever happens, words and views agree", ["every_run_fits", "every_run_from_an_opening_fits"]),
-        ("whatever stops, known blocks are held", ["every_stop_is_survived"]),
+        ("whatever stops, known blocks are held", ["every_stop_is_survived", "every_reopening_is_survived"]),
         ("what a move is", ["trait Moves"]),
         ("a table is opened and closed, and who owns a block", [
             "open_table", "open_table_with", "open_table_at", "GroundSeat::part",
@@ -61,22 +56,8 @@ PAGES = [
 
 
 def wrapped(text, first, then):
-    return textwrap.fill(text, 100, initial_indent=first, subsequent_indent=then,
+    return textwrap.fill(text, 118, initial_indent=first, subsequent_indent=then,
                          break_long_words=False, break_on_hyphens=False)
-
-
-def whole_list(specs):
-    """The page of all definitions."""
-    out, last = [DEFINITIONS], None
-    for (crate, name), module in specs.modules.items():
-        if not module.definitions:
-            continue
-        if crate != last:
-            out.append(f"## {crate}\n")
-            last = crate
-        rows = [f"| `{d.name}` | {d.sentence.replace('|', chr(92) + '|')} |" for d in module.definitions]
-        out.append(f"### {name}\n\n{module.head}\n\n| Word | Meaning |\n|---|---|\n" + "\n".join(rows) + "\n")
-    return "\n".join(out)
 
 
 def roots_of(specs, names, missing):
@@ -98,21 +79,22 @@ def lines_of(definitions):
 
 
 def told(d):
-    """The lines of one definition, a record with its fields."""
+    """The lines of one definition, a record with its fields; those that say it themselves share a line."""
     out = [wrapped(f"`{d.name}`: {d.sentence}", "- ", "  ")]
     fields = d.fields()
     if len(fields) <= MOST_FIELDS:
-        out += [wrapped(f"`{name}`: {sentence or '`' + kind + '`'}", "  - ", "    ")
-                for name, sentence, kind in fields]
+        out += [wrapped(f"`{name}`: {sentence}", "  - ", "    ") for name, sentence, _ in fields if sentence]
+        plain = "; ".join(f"`{name}`: `{kind}`" for name, sentence, kind in fields if not sentence)
+        out += [wrapped(plain, "  - ", "    ")] if plain else []
     return out
 
 
 def page(specs, title, promises, missing):
-    """The page of some promises: for each what it needs beside those before it, in an order in which
-    every definition stands behind those that it uses."""
+    """The page of some promises, smallest first: for each what it needs beside those before it, in an order in
+    which every definition stands behind those that it uses."""
     rows, parts, known, others = [], [], [], []
-    for line, contracts in promises:
-        seen, beside = specs.closure(roots_of(specs, contracts, missing))
+    needed = [(line, contracts, *specs.closure(roots_of(specs, contracts, missing))) for line, contracts in promises]
+    for line, contracts, seen, beside in sorted(needed, key=lambda one: len(one[2])):
         new = [d for d in seen if d not in known]
         known += new
         others += beside
@@ -137,11 +119,10 @@ def part(specs, line, definitions):
         here = [d for d in module.definitions if d in definitions]
         if here:
             path = f"../../crates/{module.crate}/specs/{module.name}.antt"
-            out += [f"### [{module.crate}: {module.name}]({path})", ""]
+            out.append(f"### [{module.crate}: {module.name}]({path})")
             for d in here:
                 out += told(d)
-            out.append("")
-    return out
+    return out + [""]
 
 
 def other_words(others):
@@ -171,19 +152,36 @@ def twice(specs):
     return [f"{name}: {', '.join(where)}" for name, where in sorted(places.items()) if len(where) > 1]
 
 
+def anchor(heading):
+    """What a link to a heading ends with."""
+    return re.sub(r"[^a-z0-9 -]", "", heading.lower()).replace(" ", "-")
+
+
+def dead_links(docs):
+    """The links of docs/PROOFS.md into docs/believe/ that lead nowhere."""
+    dead = []
+    for name, _, part_of in re.findall(r"\(believe/([a-z-]+)\.md(#([a-z0-9-]+))?\)", (docs / "PROOFS.md").read_text()):
+        page = docs / "believe" / f"{name}.md"
+        heads = re.findall(r"^#+ (.*)$", page.read_text(), re.M) if page.exists() else []
+        if not heads or (part_of and part_of not in map(anchor, heads)):
+            dead.append(f"{name}.md#{part_of}")
+    return dead
+
+
 def main(words):
     specs, missing = Specs(), []
     docs = TOP / "docs"
     (docs / "believe").mkdir(exist_ok=True)
-    (docs / "DEFINITIONS.md").write_text(whole_list(specs))
     for name, title, promises in PAGES:
         (docs / "believe" / f"{name}.md").write_text(page(specs, title, promises, missing))
     bare = [f"{d.crate}/specs/{d.module}: {d.name}" for d in specs.found.values() if not d.sentence]
     double = twice(specs)
-    for kind, lines in [("no sentence", bare), ("no contract", missing), ("two definitions", double)]:
+    dead = dead_links(docs)
+    for kind, lines in [("no sentence", bare), ("no contract", missing), ("no part of a page", dead),
+                        ("two definitions", double)]:
         for line in lines:
             print(f"{kind}: {line}", file=sys.stderr)
-    return 1 if bare or missing or (double and "--strict" in words) else 0
+    return 1 if bare or missing or dead or (double and "--strict" in words) else 0
 
 
 if __name__ == "__main__":

@@ -1,5 +1,6 @@
 #!/usr/bin/env python3
-"""Tells which files of `src/` and `specs/` their crate's README.md does not name.
+"""Tells which files of `src/` and `specs/` their crate's README.md does not name, and where the first sentence
+of `src/lib.rt` (or `src/main.rt`) is not that of the README.
 
 Run it at the top of the repository. It ends with status 1 where there is one. A file is named in backticks by
 its path from the crate, with or without its ending. The folder `src/tests/` names `src/tests.rt` and all that
@@ -37,8 +38,23 @@ def is_named(path, names):
     return bool({path.as_posix(), bare.as_posix(), *folders} & names)
 
 
+def first_sentence(text):
+    """Up to the first full stop that ends a word."""
+    return re.split(r"(?<=\.)\s", " ".join(text.split()), maxsplit=1)[0]
+
+
+def heads(crate):
+    """The first sentence of the crate's source, and that of its README."""
+    root = next((crate / "src" / name for name in ("lib.rt", "main.rt") if (crate / "src" / name).exists()), None)
+    lines = root.read_text().splitlines() if root else []
+    source = " ".join(line[3:] for line in lines if line.startswith("//!"))
+    readme = crate / "README.md"
+    parts = readme.read_text().split("\n\n") if readme.exists() else []
+    return first_sentence(source), first_sentence(parts[1] if len(parts) > 1 else "")
+
+
 def main():
-    missing = []
+    missing, others = [], []
     for crate in sorted((TOP / "crates").iterdir()):
         readme = crate / "README.md"
         names = names_in(readme.read_text()) if readme.exists() else set()
@@ -46,9 +62,14 @@ def main():
         for path in sorted(file.relative_to(crate) for file in files):
             if path.as_posix() not in ROOTS and not is_named(path, names):
                 missing.append(f"{crate.name}: {path.as_posix()}")
+        source, said = heads(crate)
+        if source != said:
+            others.append(f"{crate.name}: {source!r} in src, {said!r}")
     for line in missing:
         print("not in its README:", line, file=sys.stderr)
-    return 1 if missing else 0
+    for line in others:
+        print("another first sentence than its README:", line, file=sys.stderr)
+    return 1 if missing or others else 0
 
 
 sys.exit(main())

@@ -1,4 +1,5 @@
-//! The frames, the words and the views of a page frame allocator, as plain data.
+//! The memory of a page frame allocator as plain data, and the trait of the atomic steps that takes and
+//! gives are made of.
 #![tactic(auto)]
 
 mod image;
