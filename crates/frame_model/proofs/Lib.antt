@@ -26,6 +26,7 @@ pub mod WrongSteps
 pub mod WrongStates
 pub mod WorkedLaws
 pub mod WorkedStops
+pub mod WorkedReopening
 pub mod CutEnd
 pub mod Stopping
 pub mod WorkedRuns

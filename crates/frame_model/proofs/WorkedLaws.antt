@@ -1,5 +1,5 @@
 -- What the laws say of the worked runs.
-use Rattle.std.proofs.Common.{◌≡◌, ℕ, ◌+◌, ◌<◌, List, [], ◌∷◌, ◌++◌, refl, arith}
+use Rattle.std.proofs.Common.{◌≡◌, ℕ, ◌+◌, ◌*◌, ◌<◌, List, [], ◌∷◌, ◌++◌, refl, arith}
 use Rattle.frame_words.specs.Words.{entry_word, free_in, flag_in, lane_in, lane_put, lane_shift, rest_in}
 use Rattle.frame_model.specs.declared.block.FrameBlock.{FrameBlock}
 use Rattle.frame_model.specs.Seats.{hand_out}
@@ -20,7 +20,7 @@ use Rattle.frame_model.specs.Laws.{parting_share, handing_out, recalling, partin
 use Rattle.frame_model.specs.Laws.{handing_in, keeping_in, loading, losing, losing_at_will}
 use Rattle.frame_model.specs.Openings.{EveryRunFromSealed, EveryRunFromReopening, set_blocks, huge_blocks, opened}
 use Rattle.frame_model.specs.Stops.{Moment, Passes, stays, stops, opening_moment, unsealed, known_at, known_of, flying_of, is_lost}
-use Rattle.frame_model.specs.Stops.{range_blocks, lost_frames, ended_shares, EveryStopIsSurvived, EveryStopIsExact, EveryMomentCanStop}
+use Rattle.frame_model.specs.Stops.{range_blocks, lost_frames, ended_shares, EveryStopIsSurvived, EveryStopLosesLittle, EveryStopIsExact, EveryMomentCanStop}
 use Rattle.frame_model.specs.Stops.{EveryRebuildingExists, EveryRebuildingIsExact}
 use Rattle.frame_model.specs.Without.{without, remains, remainder, is_apart, is_inside}
 use Rattle.frame_model.specs.WorkedRuns.{one_child, words_of_one, full_word, all_free, at_first, claimed_one, claims_second, one_claimed}
@@ -32,6 +32,7 @@ use Rattle.frame_model.proofs.Blocks.{smalls_cons, smalls_none, wholes_cons, who
 use Rattle.frame_model.proofs.ComputedRuns.{seat, reached, AllAllowed, run_of, and_then, ◌⟫◌}
 use Rattle.frame_model.proofs.Sample.Whole.{happening}
 use Rattle.frame_model.proofs.Sets.{ones_full}
+use Rattle.frame_model.proofs.Stopping.Survival.{same_cores}
 use Rattle.frame_model.proofs.Stopping.Sample.{ArePlain, before, allowed, is_key, passes_by}
 use Rattle.frame_model.proofs.WorkedRuns.Lost.{lost_set}
 use Rattle.frame_model.proofs.WorkedRuns.Pieces.{can_pay, can_charge, can_claim, claimed, claimed_are_blocks, two_words, small_covers}
@@ -298,6 +299,9 @@ ended_twice : (shares cores n : ℕ) → cores ≡ 4 → n ≡ 2 → ended_share
 unfolding ended_shares
 ended_twice shares cores n e f = rw (e, f) refl
 
+four_twice : (cores n : ℕ) → cores ≡ 4 → n ≡ 2 → 512 * cores * n ≡ 4096
+four_twice cores n e f = rw (e, f) refl
+
 pub loses_at_most_none : EveryStopIsSurvived → LosesAtMost 64 64 0 0
 loses_at_most_none survived key ws m k o p cores now =
     let few = (survived key ws 64 m k (omega arith) o p).few_lost in omega (arith, few, ended_never 64 m.key.cores m.stops now)
@@ -306,9 +310,15 @@ pub loses_at_most_once : EveryStopIsSurvived → LosesAtMost 1 1 1 512
 loses_at_most_once survived key ws m k o p cores now =
     let few = (survived key ws 1 m k (omega arith) o p).few_lost in omega (arith, few, ended_once 1 m.key.cores m.stops cores now)
 
-pub loses_at_most_twice : EveryStopIsSurvived → LosesAtMost 4 4 2 4096
-loses_at_most_twice survived key ws m k o p cores now =
-    let few = (survived key ws 4 m k (omega arith) o p).few_lost in omega (arith, few, ended_twice 4 m.key.cores m.stops cores now)
+-- four cores with their own shares, by what is said of memories without strangers
+pub loses_at_most_twice : EveryStopLosesLittle → LosesAtMost 4 4 2 4096
+loses_at_most_twice little key ws m k o p cores now =
+    let few = little key ws 4 m k (omega arith) (omega (arith, cores, same_cores (opening_moment key ws 4) m p)) o p in
+    omega (arith, few, four_twice m.key.cores m.stops cores now)
+
+pub loses_at_most_beside_strangers : EveryStopIsSurvived → LosesAtMost 12 4 2 8192
+loses_at_most_beside_strangers survived key ws m k o p cores now =
+    let few = (survived key ws 12 m k (omega arith) o p).few_lost in omega (arith, few, ended_twice 12 m.key.cores m.stops cores now)
 
 -- Forms.
 

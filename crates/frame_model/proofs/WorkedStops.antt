@@ -1,5 +1,5 @@
 -- A stop after a stop, with an adoption between.
-use Rattle.std.proofs.Common.{◌≡◌, ℕ, ◌+◌, ◌/◌, ◌%◌, ◌<◌, ◌≤◌, [], ◌∷◌, ◌++◌, refl, ap, sym, ◌∙◌, arith}
+use Rattle.std.proofs.Common.{◌≡◌, ℕ, ◌+◌, ◌/◌, ◌%◌, ◌<◌, ◌≤◌, List, [], ◌∷◌, ◌++◌, refl, ap, sym, subst, ◌∙◌, arith}
 use Rattle.std.specs.Int.{bit_at}
 use Rattle.std.proofs.lemmas.Bool.Decides.{nat_tests}
 use Rattle.std.proofs.lemmas.List.Elements.{All-cons, All-nil}
@@ -65,7 +65,7 @@ lower_plain = (tt, (tt, (tt, (tt, (tt, (tt, (tt, (tt, (tt, (tt, (tt, (tt, (tt, (
 abbrev ended : State
 ended = reached one_child before hands_out_lower
 
-held_again : IsRebuilt one_child two_held two_held
+pub held_again : IsRebuilt one_child two_held two_held
 held_again =
     rebuilt_by_bits 384 384 0 384 full_word full_word 0 0 0 0 0 0 (omega arith) (omega (arith, ones_zero, ones_full)) all_bits
     all_bits no_bits no_bits no_bits no_bits no_bits no_bits
@@ -80,7 +80,7 @@ rebuilt_first = rebuilt_unsealed one_child _ _ held_again
 abbrev first : Moment
 first = opening_moment one_child all_free 1
 
-abbrev once : Moment
+abbrev pub once : Moment
 once = stop_at 1 ended two_held
 
 known_once : known_at once ≡ block 0 6 ∷ []
@@ -91,7 +91,7 @@ remembered_once : once.remembered ≡ block 0 6 ∷ []
 unfolding known_of range_blocks is_boot_frame is_in_range
 remembered_once = refl
 
-lost_once : lost_frames once ≡ 64
+pub lost_once : lost_frames once ≡ 64
 unfolding is_lost known_of flying_of range_blocks is_boot_frame is_in_range holders covers blocks_with fixed_ground
     boot_blocks set_blocks huge_blocks bit_of huge_of entry_of bit_word_of entry_place bits_place tree_place
     local_place word_count free_in flag_in lane_in lane_put lane_shift entry_word count_in counted more less last_seen
@@ -100,7 +100,7 @@ lost_once = refl
 abbrev between : Moment
 between = record once { state = leads (unsealed one_child) once.state adopts_half; remembered = block 32 5 ∷ [] }
 
-holders_one : (x : ℕ) (b : FrameBlock) → holders x (b ∷ []) ≡ covers b x
+pub holders_one : (x : ℕ) (b : FrameBlock) → holders x (b ∷ []) ≡ covers b x
 unfolding holders
 holders_one x b = omega arith
 
@@ -117,20 +117,18 @@ two_halves x = omega (
   small_covers x (block 32 5) (omega arith),
 )
 
-half_is_forgotten : Forgets (unsealed one_child) once.remembered (block 0 5) (block 32 5 ∷ [])
-half_is_forgotten = record {
+-- the upper half stays
+pub forgets_half : Forgets (unsealed one_child) (block 0 6 ∷ []) (block 0 5) (block 32 5 ∷ [])
+forgets_half = record {
   are_blocks = All-cons (IsBlock (unsealed one_child)) (block 32 5) []
       (record { order = omega arith; aligned = refl; inside = omega arith }) (All-nil (IsBlock (unsealed one_child)));
   here = λ x e. omega (arith, holders_one x (block 32 5), two_halves x, at_most_once x (block 0 6), e);
-  elsewhere = λ x e. omega (
-    arith,
-    holders_one x (block 32 5),
-    holders_one x (block 0 6),
-    two_halves x,
-    e,
-    ap (holders x) remembered_once,
-  );
+  elsewhere = λ x e. omega (arith, holders_one x (block 32 5), holders_one x (block 0 6), two_halves x, e);
 }
+
+half_is_forgotten : Forgets (unsealed one_child) once.remembered (block 0 5) (block 32 5 ∷ [])
+half_is_forgotten =
+    subst (λ (l : List FrameBlock). Forgets (unsealed one_child) l (block 0 5) (block 32 5 ∷ [])) (sym remembered_once) forgets_half
 
 half_is_block : IsBlock (unsealed one_child) (block 0 5)
 half_is_block = record { order = omega arith; aligned = refl; inside = omega arith }
@@ -139,7 +137,7 @@ first_word : bit_word_of (unsealed one_child) two_held 0 ≡ full_word
 unfolding bit_word_of bits_place
 first_word = refl
 
-half_is_adopted : MayBeAdopted two_held (block 0 5)
+pub half_is_adopted : MayBeAdopted two_held (block 0 5)
 half_is_adopted =
     let key : Key = unsealed one_child in
     let set : (x : ℕ) → x < 32 → bit_of key two_held x ≡ 1 =
@@ -175,14 +173,14 @@ known_between = refl
 
 -- After the second.
 
-abbrev twice : Moment
+abbrev pub twice : Moment
 twice = stopped between two_held
 
 known_twice : known_at twice ≡ block 0 5 ∷ block 32 5 ∷ []
 unfolding known_of range_blocks is_boot_frame is_in_range
 known_twice = refl
 
-lost_twice : lost_frames twice ≡ 64
+pub lost_twice : lost_frames twice ≡ 64
 unfolding is_lost known_of flying_of range_blocks is_boot_frame is_in_range holders covers blocks_with fixed_ground
     boot_blocks set_blocks huge_blocks bit_of huge_of entry_of bit_word_of entry_place bits_place tree_place
     local_place word_count free_in flag_in lane_in lane_put lane_shift entry_word count_in counted more less last_seen

@@ -18,6 +18,7 @@ pub mod Stops
 pub mod WorkedRuns
 pub mod WorkedLaws
 pub mod WorkedStops
+pub mod WorkedReopening
 pub mod CutEnd
 pub mod WorkedReports
 pub mod WrongStates

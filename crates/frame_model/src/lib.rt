@@ -19,8 +19,9 @@ pub use laws::{
 pub use place::Place;
 pub use view::{Amount, Eye, Sighting, View};
 pub use worked::{
-    a_worked_closing_adds_up, a_worked_end_stays_held, a_worked_run_is_safe, worked_reports_count,
-    worked_runs_happen, worked_stops_are_survived, worked_stops_happen,
+    a_worked_closing_adds_up, a_worked_end_stays_held, a_worked_reopening_is_survived,
+    a_worked_run_is_safe, worked_reports_count, worked_runs_happen, worked_stops_are_survived,
+    worked_stops_happen,
 };
 pub use wrong::{
     a_missing_form_is_seen, wrong_closings_do_not_add_up, wrong_counters_are_not_exact,

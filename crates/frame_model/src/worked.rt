@@ -3,6 +3,7 @@
 ghost use Rattle.frame_model.specs.CutEnd.{StopWithACutEnd};
 ghost use Rattle.frame_model.specs.WorkedLaws.{SafeRun, ClosesWithOneKept, LosesAClaim};
 ghost use Rattle.frame_model.specs.WorkedLaws.{LosesAClaimBesideAStranger, LosesNoBlock, LosesAtMost, RebuildsToExact};
+ghost use Rattle.frame_model.specs.WorkedReopening.{ReopenAdoptStop};
 ghost use Rattle.frame_model.specs.WorkedStops.{StopAdoptStop};
 ghost use Rattle.frame_model.specs.WorkedReports.{OneIsHeld, EveryOtherIsHeld, TreesDiffer};
 ghost use Rattle.frame_model.specs.WorkedReports.{RebuiltFromBits, RebuiltFromTheFlag};
@@ -12,8 +13,8 @@ ghost use Rattle.frame_model.specs.WorkedRuns.{StopAfterTwoClaims, StopWithHalfF
 ghost use Rattle.frame_model.specs.WorkedRuns.{StopWithTheFlagDropped, SplitOfAHugeFrame};
 
 use super::laws::{
-    every_closing_adds_up, every_fit_is_safe, every_run_fits, every_run_from_an_opening_fits,
-    every_stop_is_survived,
+    every_closing_adds_up, every_fit_is_safe, every_reopening_is_survived, every_run_fits,
+    every_run_from_an_opening_fits, every_stop_is_survived,
 };
 
 /// From the opening of a memory of one child these runs happen, and the words then show these numbers.
@@ -62,6 +63,7 @@ pub fn worked_stops_are_survived()
     ensures no_stop { LosesAtMost 64 64 0 0 }
     ensures one_stop { LosesAtMost 1 1 1 512 }
     ensures two_stops { LosesAtMost 4 4 2 4096 }
+    ensures beside_strangers { LosesAtMost 12 4 2 8192 }
 {
     every_stop_is_survived();
 }
@@ -72,6 +74,15 @@ pub fn a_worked_end_stays_held()
     ensures { StopWithACutEnd }
 {
     every_stop_is_survived();
+}
+
+/// A memory is opened again at words of which 128 frames are held and 64 remembered, half of these are
+/// adopted, and all threads stop: the 64 are known still, and no more are lost than first, by the law
+/// on reopenings.
+pub fn a_worked_reopening_is_survived()
+    ensures { ReopenAdoptStop }
+{
+    every_reopening_is_survived();
 }
 
 /// What reports count of worked words, by tree where two trees differ, and what rebuilding makes.

@@ -38,7 +38,7 @@ passing_carries start m n c (steps x y z event step others) = passing_carries st
 passing_carries start m n c (stops x z words r others) = passing_carries start (stopped x words) z (stop_carries x c words r) others
 
 -- the cores stay as many
-same_cores : (m n : Moment) → Passes m n → n.key.cores ≡ m.key.cores
+pub same_cores : (m n : Moment) → Passes m n → n.key.cores ≡ m.key.cores
 same_cores m n (stays x) = refl
 same_cores m n (steps x y z event step others) = same_cores y z others ∙ ap (λ (key : Key). key.cores) step.key
 same_cores m n (stops x z words r others) = same_cores (stopped x words) z others
