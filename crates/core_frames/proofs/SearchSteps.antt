@@ -13,7 +13,7 @@ use Rattle.frame_words.specs.Words.{rest_in}
 use Rattle.frame_core.specs.Words.{local_place}
 use Rattle.frame_core.specs.Steps.{Kind, place, swap_local}
 use Rattle.frame_core.specs.Moves.{place_of, Changes}
-use Rattle.frame_core.specs.Mover.{Mover, Keeps, Clears, Ticks, Loads, Tries, Makes, Swaps}
+use Rattle.frame_core.specs.Mover.{Mover, LiesInside, Keeps, Clears, Ticks, Loads, Tries, Makes, Swaps}
 use Rattle.low_frames.specs.Takes.{Counts, IsAsBefore, IsSure, StaysSure}
 use Rattle.low_frames.specs.Alone.{FindsOf, WordsTake, NoneIsFree}
 use Rattle.low_frames.specs.Gives.{Gives}
@@ -206,6 +206,7 @@ out_after {T} {H} {block_of} {In} {U} {held} {a} {b} {c} V order keeps kept same
       is_one = one;
       apart = subst (λ l. IsFreeBlock l (block_of held)) kept out.apart;
       no_boot_frame = subst (λ k. HasNoBootFrame k (block_of held)) keeps.same_key out.no_boot_frame;
+      inside = subst (λ k. LiesInside k (block_of held)) keeps.same_key out.inside;
       alone = λ alone.
           keeps_then_taken a.key a.words b.words c.words (block_of held) one.is_block (same alone)
           (subst (λ k. WordsTake k b.words c.words (block_of held)) keeps.same_key (out.alone (keeps.stays_alone alone)));
@@ -222,6 +223,7 @@ out_still {T} {H} {block_of} {In} {exact} {n} {U} {X} {held} {a} {b} {c} V is ke
   is_one = out.is_one;
   apart = out.apart;
   no_boot_frame = out.no_boot_frame;
+  inside = out.inside;
   alone = λ alone.
       taken_then_keeps a.key a.words b.words c.words (block_of held) is (out.alone alone)
       (subst (λ k. KeepsFrames k b.words c.words) keeps.same_key (f.alone (keeps.stays_alone alone)));

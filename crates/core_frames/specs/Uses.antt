@@ -7,6 +7,7 @@ use Rattle.frame_words.specs.declared.fault.TakeFault.TheVariants.{BadOrder, NoB
 use Rattle.frame_model.specs.declared.view.View.{View}
 use Rattle.frame_core.specs.Key.{tree_count}
 use Rattle.frame_core.specs.Holding.{IsFreeBlock}
+use Rattle.frame_core.specs.Mover.{LiesInside}
 use Rattle.low_frames.specs.Outcomes.{HasNoBootFrame}
 use Rattle.frame_table.specs.Seats.{block_in}
 use Rattle.frame_table.specs.declared.block.Block.{Block}
@@ -15,13 +16,14 @@ use Rattle.core_frames.specs.declared.allocator.Core.{Core}
 use Rattle.core_frames.specs.Cores.{memory_of, view_in, kept_by, lent_by, moves_by, losses_by, IsOutOf}
 use Rattle.core_frames.specs.Splits.{AreHalves}
 
--- a block of the order is out, none of whose frames the core keeps or the opening held back, and one
--- block more is lent
+-- a block of the order is out, none of whose frames the core keeps, the opening held back or is past
+-- the end, and one block more is lent
 pub record HasTaken (a : Allocator) (n : ℕ) (b : Block) (c d : Core) : Type 0 where
   pub is_out : IsOutOf a b
   pub order : (block_in b).order ≡ n
   pub apart : IsFreeBlock (kept_by c) (block_in b)
   pub no_boot_frame : HasNoBootFrame (memory_of a) (block_in b)
+  pub inside : LiesInside (memory_of a) (block_in b)
   pub lent : lent_by d ≡ lent_by c +ℤ pos 1
 
 -- at least as many moves were made as the memory has trees, for an order of blocks

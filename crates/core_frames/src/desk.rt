@@ -4,6 +4,7 @@ ghost use Rattle.std.specs.Prelude.{◌≡◌, ◌<◌, ◌≤◌, ◌+◌, ◌*
 ghost use Rattle.std.specs.Prelude.{IfOk, IfErr, Contains};
 ghost use Rattle.frame_core.specs.Block.{block as block_at};
 ghost use Rattle.frame_core.specs.Key.{tree_count};
+ghost use Rattle.frame_core.specs.Mover.{LiesInside};
 ghost use Rattle.frame_table.specs.Keeping.{HasRecalled};
 ghost use Rattle.frame_table.specs.Seats.{block_in};
 ghost use Rattle.held_blocks.specs.Desk.{Lays, MayFail, TakesUnder, GivesOldest, GivesExactly};
@@ -77,6 +78,8 @@ impl Desk {
             result (list_of self.new) }
         ensures no_boot_frame { IfOk result (λ b.
             HasNoBootFrame (memory_of allocator.now) (block_at b.0 b.1)) }
+        ensures inside { IfOk result (λ b.
+            LiesInside (memory_of allocator.now) (block_at b.0 b.1)) }
         ensures lent { lent_by (core_of self.new) ≡ lent_by (core_of self.old) }
         ensures why { IfErr result (IsRefusedAtDesk allocator.now order
             (core_of self.old) (core_of self.new)) }

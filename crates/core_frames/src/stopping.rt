@@ -1,10 +1,10 @@
 //! Stopping an allocator.
 
 ghost use Rattle.std.specs.Prelude.{◌≡◌, IfOk, IfErr};
-ghost use Rattle.core_frames.specs.Cores.{memory_of};
+ghost use Rattle.core_frames.specs.Cores.{memory_of, seat_of, IsCoreOf};
 ghost use Rattle.frame_table.specs.Stopping.{IsRoomFor, IsImageAtStop};
 
-use crate::allocator::Allocator;
+use crate::allocator::{Allocator, Core};
 use frame_core::Image;
 use frame_words::Fault;
 use std::alloc::Global;
@@ -18,14 +18,16 @@ impl Allocator {
         self.table.make_room(alloc)
     }
 
-    /// The words of the memory as they are, without its cores, whatever these are about: they fit some
-    /// views of this memory. That they are those of this allocator, and so hold every block that is
-    /// out or kept, is by the body, which writes none. The counters leave out what cores have
-    /// reserved. Needs no memory.
-    pub fn stop(self, room: Vec<u64>) -> Image
-        requires { IsRoomFor (memory_of self) room }
-        ensures { IsImageAtStop (memory_of self) result }
+    /// The words of the memory as they are, from one of its cores, whatever the others are about: they
+    /// fit some views of this memory, of which one is that of this core, and all that it keeps is
+    /// held. That blocks which are out, or which other cores keep, are held too is by the body, which
+    /// writes none. The counters leave out what cores have reserved. Needs no memory.
+    pub fn stop(self, core: Core, room: Vec<u64>) -> Image
+        requires core { IsCoreOf self core }
+        requires room { IsRoomFor (memory_of self) room }
+        ensures { IsImageAtStop (memory_of self) (seat_of core) result }
     {
-        self.table.stop(room)
+        let Core { seat, .. } = core;
+        self.table.stop(seat, room)
     }
 }

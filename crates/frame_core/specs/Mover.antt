@@ -38,12 +38,17 @@ pub record Mover (T H : Type 0) : Type 1 where
   -- the block was handed out and can be taken in here
   pub is_out : H → Type 0
 
+-- no frame of the block is past the end of the memory
+abbrev pub LiesInside : Key → FrameBlock → Type 0
+LiesInside key b = b.frame + 2 ^ b.order ≤ key.frames
+
 -- no frame lies in two blocks that the view has, in flight or kept, nor in one of them where the
--- opening held it back
+-- opening held it back; and no frame past the end is in flight with a share
 pub record IsApart (key : Key) (v : View) : Type 0 where
   pub disjoint : (x : ℕ) → holders x (v.own ++ v.kept) ≤ 1
   pub no_boot_frame : (x : ℕ) → key.sealed ≡ true → is_boot_frame key x ≡ true
       → holders x (v.own ++ v.kept) ≡ 0
+  pub inside : 0 < v.share → (x : ℕ) → key.frames ≤ x → holders x v.own ≡ 0
 
 -- what no move changes
 pub record Keeps {T H : Type 0} (old new : Mover T H) : Type 0 where

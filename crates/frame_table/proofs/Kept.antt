@@ -67,18 +67,16 @@ covered_below : (b : FrameBlock) (x : ℕ) → covers b x ≡ 1 → x < b.frame 
 unfolding covers
 covered_below b x h = grind (arith, nat_tests)
 
-module _ (key : Key) (seats : List CoreSeat) (ws : List ℕ) (closed : IsClosed key seats ws) where
-  pub kept_held : All (IsBlock key) (kept_through seats) → All (IsHeldIn key ws) (kept_through seats)
-  kept_held all k d h x c =
-      let vs : List View = views_of closed.state in
-      let v : View = closed.eye.view in
-      let at : get_elem? vs closed.id ≡ some v = at_map eye_view closed.state.eyes closed.id closed.eye closed.at in
-      let fit : Fit key key.cores ws vs = subst (λ us. Fit key key.cores us vs) closed.words closed.fits in
-      let b : FrameBlock = get_or (kept_through seats) k d in
+-- blocks that are, frame by frame, those which a view keeps are held in words that fit it
+module _ (key : Key) (ws : List ℕ) (vs : List View) (id : ℕ) (v : View) (fit : Fit key key.cores ws vs) (at : get_elem? vs id ≡ some v) where
+  pub held_with : (blocks : List FrameBlock) → ((x : ℕ) → smalls x v.kept ≡ smalls x blocks)
+      → ((c : ℕ) → wholes c v.kept ≡ wholes c blocks) → All (IsBlock key) blocks → All (IsHeldIn key ws) blocks
+  held_with blocks small whole all k d h x c =
+      let b : FrameBlock = get_or blocks k d in
       let is : IsBlock key b = all k d h in
       let inside : x < frame_count key = omega (arith, covered_below b x c, is.inside) in
-      let set = at-le-total key key.cores ws vs closed.id v fit at (marks x) in
-      let huge = at-le-total key key.cores ws vs closed.id v fit at (whole_in (child_of x)) in
+      let set = at-le-total key key.cores ws vs id v fit at (marks x) in
+      let huge = at-le-total key key.cores ws vs id v fit at (whole_in (child_of x)) in
       omega (
         arith,
         held_max key ws x,
@@ -88,13 +86,22 @@ module _ (key : Key) (seats : List CoreSeat) (ws : List ℕ) (closed : IsClosed 
         huge,
         fit.bits x inside,
         fit.wholes (child_of x) (omega (arith, inside)),
-        smalls_at x (kept_through seats) k d h,
-        wholes_at (child_of x) (kept_through seats) k d h,
-        closed.gathered.smalls x,
-        closed.gathered.wholes (child_of x),
+        smalls_at x blocks k d h,
+        wholes_at (child_of x) blocks k d h,
+        small x,
+        whole (child_of x),
         bit-le key ws x,
         fit.words_in_range.huge (child_of x) (omega (arith, inside)),
       )
+
+module _ (key : Key) (seats : List CoreSeat) (ws : List ℕ) (closed : IsClosed key seats ws) where
+  pub kept_held : All (IsBlock key) (kept_through seats) → All (IsHeldIn key ws) (kept_through seats)
+  kept_held all =
+      let vs : List View = views_of closed.state in
+      let v : View = closed.eye.view in
+      let at : get_elem? vs closed.id ≡ some v = at_map eye_view closed.state.eyes closed.id closed.eye closed.at in
+      let fit : Fit key key.cores ws vs = subst (λ us. Fit key key.cores us vs) closed.words closed.fits in
+      held_with key ws vs closed.id v fit at (kept_through seats) closed.gathered.smalls closed.gathered.wholes all
 
   -- no two blocks that the seats keep share a frame: they are, frame by frame, those of one view
   pub kept_apart : All (IsBlock key) (kept_through seats) → IsHolding key (kept_through seats)

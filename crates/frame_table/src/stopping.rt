@@ -1,10 +1,11 @@
 //! Stopping a table.
 
 ghost use Rattle.std.specs.Prelude.{◌≡◌, IfOk, IfErr};
-ghost use Rattle.frame_table.specs.Seats.{key_at};
+ghost use Rattle.frame_table.specs.Seats.{key_at, Sits};
 ghost use Rattle.frame_table.specs.Stopping.{IsRoomFor, IsImageAtStop};
 
 use crate::closing::read_words;
+use crate::seats::CoreSeat;
 use crate::table::FrameTable;
 use frame_core::Image;
 use frame_words::Fault;
@@ -22,15 +23,18 @@ impl FrameTable {
         Ok(room)
     }
 
-    /// The words as they are, without a seat, whatever the seats have in flight: they fit some views of
-    /// this memory. That they are those of this table, and so hold every block that is out or kept, is
-    /// by the body, which writes none. Needs no memory.
-    pub fn stop(self, room: Vec<u64>) -> Image
-        requires { IsRoomFor (key_at self) room }
-        ensures { IsImageAtStop (key_at self) result }
+    /// The words as they are, with one seat, whatever the others have in flight: they fit some views
+    /// of this memory, of which one is that of this seat, and all that it keeps is held. That blocks
+    /// which are out, or which other seats keep, are held too is by the body, which writes none.
+    /// Needs no memory.
+    pub fn stop(self, seat: CoreSeat, room: Vec<u64>) -> Image
+        requires seat { Sits self seat }
+        requires room { IsRoomFor (key_at self) room }
+        ensures { IsImageAtStop (key_at self) seat result }
     {
         let FrameTable { grid, geometry, .. } = self;
-        let words = read_words(grid.close(), room);
+        let CoreSeat { seat: last } = seat;
+        let words = read_words(grid.close_with(last), room);
         Image::of_words(&geometry, words)
     }
 }

@@ -13,7 +13,7 @@ use crate::{lookups, removals};
 use std::alloc::{AllocError, Global};
 use std::marker::Model;
 
-/// Blocks, each under a label, oldest first. No two of them begin at one frame.
+/// Blocks, each under a label, oldest first. `add` asks that no block begins where one of them does.
 /// Each call but `at` takes O(log n) steps for n blocks, on the average over all calls, whatever
 /// the labels and the frames.
 #[derive(Drop)]

@@ -1,6 +1,6 @@
 -- What a take does to the view, step by step.
-use Rattle.std.proofs.Common.{◌≡◌, ⊎_elim, ℕ, ◌+◌, ◌*◌, ◌/◌, ◌^◌, ◌<◌, ◌≤◌, List, [], ◌∷◌, ◌++◌, Option, None, refl, ap, sym, subst}
-use Rattle.std.proofs.Common.{◌∙◌, arith}
+use Rattle.std.proofs.Common.{◌≡◌, ⊎_elim, ℕ, ◌+◌, ◌-◌, ◌*◌, ◌/◌, ◌^◌, ◌<◌, ◌≤◌, List, [], ◌∷◌, ◌++◌, Option, None, refl, ap, sym}
+use Rattle.std.proofs.Common.{◌∙◌, arith, subst}
 use Rattle.std.specs.Prelude.{pos, ◌+ℤ◌}
 use Rattle.std.proofs.lemmas.Bool.{cases_lt}
 use Rattle.std.proofs.lemmas.Bool.Decides.{nat_tests}
@@ -19,7 +19,7 @@ use Rattle.frame_core.specs.Seats.{CanHandOut}
 use Rattle.std.specs.List.{sum_by}
 use Rattle.std.proofs.lemmas.List.Sums.{sum_by-cons, sum_by-append}
 use Rattle.frame_core.specs.Holding.{holders, IsFreeBlock}
-use Rattle.frame_core.specs.Mover.{IsApart}
+use Rattle.frame_core.specs.Mover.{IsApart, LiesInside}
 use Rattle.frame_core.specs.Steps.{refund}
 use Rattle.frame_core.specs.Seats.{left_by}
 use Rattle.frame_core.specs.Moves.{after, hand_out_block}
@@ -221,6 +221,19 @@ module _ {key : Key} {w : View} (d : FrameBlock) (own : (x : ℕ) → covers d x
         both_holders x w.own w.kept,
       )))
       (cases_lt (covers d x) 1)
+
+  -- nor is it past the end, where the view has a share
+  pub flight_inside : 0 < w.share → LiesInside key d
+  flight_inside share =
+      let last : ℕ = d.frame + 2 ^ d.order - 1 in
+      ⊎_elim
+      (λ (past : key.frames < d.frame + 2 ^ d.order). absurd (omega (
+        arith,
+        own last (is_covered d last (omega (arith, pow_pos d.order)) (omega (arith, pow_pos d.order))),
+        apart.inside share last (omega (arith, past)),
+      )))
+      (λ here. here)
+      (cases_lt key.frames (d.frame + 2 ^ d.order))
 
 -- the frames of a block that was put to those in flight are held
 pub own_covers : (v w : View) (b d : FrameBlock) → d ≡ b → w.own ≡ b ∷ v.own → (x : ℕ) → covers d x ≡ 1

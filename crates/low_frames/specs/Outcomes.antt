@@ -7,7 +7,7 @@ use Rattle.frame_core.specs.Key.{tree_count, tree_of_child, is_boot_frame}
 use Rattle.frame_core.specs.Block.{covers}
 use Rattle.frame_core.specs.View.{paid_on}
 use Rattle.frame_core.specs.Holding.{IsFreeBlock}
-use Rattle.frame_core.specs.Mover.{Mover, Keeps}
+use Rattle.frame_core.specs.Mover.{Mover, LiesInside, Keeps}
 use Rattle.low_frames.specs.Takes.{Counts, IsAsBefore, StaysSure}
 use Rattle.low_frames.specs.Alone.{FindsOf, WordsTake, NoneIsFree}
 
@@ -38,7 +38,7 @@ pub record MayTakeOf {T H : Type 0} (t n : ℕ) (m : Mover T H) : Type 0 where
 abbrev pub HasNoBootFrame : Key → FrameBlock → Type 0
 HasNoBootFrame key b = (x : ℕ) → key.sealed ≡ true → is_boot_frame key x ≡ true → covers b x ≡ 0
 
--- one of these blocks is out, and the view turned so; no frame of it was kept or held back
+-- one of these blocks is out, and the view turned so; no frame of it was kept, held back or past the end
 pub record TakesOut {T H : Type 0} (block_of : H → FrameBlock) (In : FrameBlock → Type 0)
     (V : View → View → Type 0) (held : H) (old new : Mover T H) : Type 0 where
   pub view : V old.view new.view
@@ -46,6 +46,7 @@ pub record TakesOut {T H : Type 0} (block_of : H → FrameBlock) (In : FrameBloc
   pub is_one : In (block_of held)
   pub apart : IsFreeBlock old.view.kept (block_of held)
   pub no_boot_frame : HasNoBootFrame old.key (block_of held)
+  pub inside : LiesInside old.key (block_of held)
   pub alone : old.is_alone → WordsTake old.key old.words new.words (block_of held)
 
 -- all is as before, and where nobody else steps none of these blocks is free

@@ -35,7 +35,7 @@ untold_both a b c s t = record {
 }
 
 -- no move of the caller was made
-same_at : (a b : ScriptMoves) → IsStill a.plain b.plain → IsUntold a b → at_by b ≡ at_by a
+pub same_at : (a b : ScriptMoves) → IsStill a.plain b.plain → IsUntold a b → at_by b ≡ at_by a
 same_at a b still untold = omega (arith, ap (λ (v : View). v.moves) still.view, untold.begun)
 
 -- What stays.
@@ -166,7 +166,7 @@ stops_or_not Lose = inr (λ e. absurd (cc))
 stops_or_not (Stranger who act) = inr (λ e. absurd (cc))
 stops_or_not Stop = inl refl
 
-one_cue : (cues : List Cue) (i : ℕ) (a b : Cue) → slice_get cues i ≡ Some a → slice_get cues i ≡ Some b → b ≡ a
+pub one_cue : (cues : List Cue) (i : ℕ) (a b : Cue) → slice_get cues i ≡ Some a → slice_get cues i ≡ Some b → b ≡ a
 one_cue cues i a b p q = sym (get_or_from_slice_get cues i b a q) ∙ get_or_from_slice_get cues i a a p
 
 -- the words that were copied at this cue are shown

@@ -11,3 +11,4 @@ pub mod PlainCompany
 pub mod Checks
 pub mod Cues
 pub mod Scripts
+pub mod Worked

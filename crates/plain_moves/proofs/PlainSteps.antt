@@ -211,6 +211,8 @@ apart_known {them = them} key words bytes v agrees = record {
       (v ∷ a.others) 0 v a.fit refl).disjoint x);
   no_boot_frame = λ x s b. ∥∥₁_elim agrees (ℕ_set _ _) (λ (a : Agrees key them words bytes v). (apart_of key a.shares words
       (v ∷ a.others) 0 v a.fit refl).no_boot_frame x s b);
+  inside = λ share x p. ∥∥₁_elim agrees (ℕ_set _ _) (λ (a : Agrees key them words bytes v). (apart_of key a.shares words
+      (v ∷ a.others) 0 v a.fit refl).inside share x p);
 }
 
 -- the blocks that are out, and all else but words and view, are as before

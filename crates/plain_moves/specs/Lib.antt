@@ -8,3 +8,4 @@ pub mod Script
 pub mod ScriptState
 pub mod Plays
 pub mod ScriptLaws
+pub mod Worked

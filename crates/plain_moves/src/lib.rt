@@ -7,6 +7,6 @@ mod plain;
 mod script;
 
 pub use act::Act;
-pub use laws::scripts_are_honest;
+pub use laws::{a_script_is_followed, scripts_are_honest};
 pub use plain::PlainMoves;
 pub use script::{Cue, ScriptMoves, What};

@@ -1,9 +1,9 @@
-use Rattle.std.proofs.Common.{refl, arith, rules, ap}
+use Rattle.std.proofs.Common.{◌<◌, ℕ, refl, arith, rules, ap, sym, subst}
 use Rattle.frame_model.specs.declared.view.View.{View}
 use Rattle.low_frames.proofs.TakeLemmas.{keeps_both}
 use Rattle.low_frames.proofs.Counts.{at_most, both_counts, out_counts}
 use Rattle.low_frames.proofs.Sure.{sure_both, sure_out}
-use Rattle.low_frames.proofs.ViewLemmas.{can_hand_out_huge, handed_out_huge, own_covers, flight_apart, flight_not_boot}
+use Rattle.low_frames.proofs.ViewLemmas.{can_hand_out_huge, handed_out_huge, own_covers, flight_apart, flight_not_boot, flight_inside}
 use Rattle.low_frames.proofs.AloneTakes.{part_none, huge_taken_known}
 use Rattle.low_frames.proofs.huge.take_huge.Goals as goal
 
@@ -54,6 +54,8 @@ returns g c =
         is_one = search rules;
         apart = flight_apart d covers (tried.apart refl) (ap (λ (v : View). v.kept) tried.view);
         no_boot_frame = flight_not_boot d covers (tried.apart refl);
+        inside = flight_inside d covers (tried.apart refl)
+            (subst (λ (n : ℕ). 0 < n) (sym (ap (λ (v : View). v.share) tried.view)) c.requires.share);
         alone = λ alone.
             huge_taken_known m.is_alone m.key m.words m.view (g.met.M.Moves.fits c.args.m.now) alone c.args.child c.requires.child
             c.requires.charged d l.words (M.at c.hand_out.new.self).words out.is_block

@@ -1,11 +1,11 @@
-use Rattle.std.proofs.Common.{◌∙◌, ◌∷◌, ap, arith, rules}
+use Rattle.std.proofs.Common.{◌<◌, ◌∙◌, ◌∷◌, ℕ, ap, sym, subst, arith, rules}
 use Rattle.frame_model.specs.declared.view.View.{View}
 use Rattle.frame_core.specs.Block.{block}
 use Rattle.low_frames.proofs.TakeLemmas.{keeps_both, apart_as}
 use Rattle.low_frames.proofs.Counts.{at_most, both_counts, out_counts, make_counts}
 use Rattle.low_frames.proofs.Sure.{sure_both, sure_out, sure_make}
 use Rattle.low_frames.proofs.ViewLemmas.{charged_of, can_hand_out_claimed, can_refund, refunded, handed_out}
-use Rattle.low_frames.proofs.ViewLemmas.{own_covers, flight_apart, flight_not_boot}
+use Rattle.low_frames.proofs.ViewLemmas.{own_covers, flight_apart, flight_not_boot, flight_inside}
 use Rattle.low_frames.proofs.AloneTakes.{few_none, small_taken_known, small_none_known}
 use Rattle.low_frames.proofs.small.take_small.Goals as goal
 
@@ -94,6 +94,8 @@ returns-in-Some g c =
         is_one = search rules;
         apart = flight_apart d covers apart (ap (λ (v : View). v.kept) claimed.some.1 ∙ ap (λ (v : View). v.kept) tried.view);
         no_boot_frame = flight_not_boot d covers apart;
+        inside = flight_inside d covers apart (subst (λ (n : ℕ). 0 < n) (sym (ap (λ (v : View). v.share) claimed.some.1
+            ∙ ap (λ (v : View). v.share) tried.view)) c.requires.share);
         alone = λ alone.
             let mid = tried.keeps.stays_alone alone in
             small_taken_known m.is_alone m.key m.words m.view (g.met.M.Moves.fits c.args.m.now) alone c.args.child c.requires.child

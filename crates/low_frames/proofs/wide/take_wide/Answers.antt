@@ -6,7 +6,7 @@ use Rattle.low_frames.proofs.TakeLemmas.{keeps_both, apart_as}
 use Rattle.low_frames.proofs.Counts.{at_most, both_counts, out_counts, make_counts}
 use Rattle.low_frames.proofs.Sure.{sure_both, sure_out, sure_make}
 use Rattle.low_frames.proofs.GiveLemmas.{size_in_words}
-use Rattle.low_frames.proofs.ViewLemmas.{charged_of, can_refund, refunded, flight_apart, flight_not_boot}
+use Rattle.low_frames.proofs.ViewLemmas.{charged_of, can_refund, refunded, flight_apart, flight_not_boot, flight_inside}
 use Rattle.low_frames.proofs.WordsLemmas.{words_cover}
 use Rattle.low_frames.proofs.WideLemmas.{can_hand_out_words, handed_out_words}
 use Rattle.low_frames.proofs.AloneTakes.{few_none}
@@ -108,6 +108,8 @@ returns-in-Some g c =
         is_one = search rules;
         apart = flight_apart d covers apart (ap (λ (v : View). v.kept) claimed.some.2 ∙ ap (λ (v : View). v.kept) tried.view);
         no_boot_frame = flight_not_boot d covers apart;
+        inside = flight_inside d covers apart (subst (λ (n : ℕ). 0 < n) (sym (ap (λ (v : View). v.share) claimed.some.2
+            ∙ ap (λ (v : View). v.share) tried.view)) c.requires.share);
         alone = λ alone.
             let mid = tried.keeps.stays_alone alone in
             wide_taken m.key charged.key m.view m.is_alone c.args.child c.frames_of-n.result b d m.words charged.words l.words
