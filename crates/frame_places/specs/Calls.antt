@@ -1,12 +1,12 @@
 -- What takes, gives and splits by numbers leave.
-use Rattle.std.specs.Prelude.{◌≡◌, ℕ, Option, Some, option_map}
+use Rattle.std.specs.Prelude.{◌≡◌, ◌⊎◌, ℕ, Option, Some, option_map}
 use Rattle.std.specs.Arc.{arc_value}
 use Rattle.frame_words.specs.declared.fault.TakeFault.{TakeFault}
 use Rattle.frame_core.specs.Block.{block}
 use Rattle.frame_model.specs.declared.block.FrameBlock.{FrameBlock}
 use Rattle.core_frames.specs.Cores.{memory_of}
 use Rattle.core_frames.specs.declared.allocator.Allocator.{Allocator}
-use Rattle.frame_places.specs.Places.{TakesAt, GivesAt, SplitsAt, FindsNothing, LendsAsBefore, IsRefusedTake}
+use Rattle.frame_places.specs.Places.{TakesAt, GivesAt, SplitsAt, FindsNothing, FindsNoPlace, LosesAt, LendsAsBefore, IsRefusedBlock, IsRefusedTake, one_more}
 use Rattle.frame_places.specs.declared.resting.Receipt.{Receipt}
 use Rattle.frame_places.specs.declared.core_state.CoreState.{CoreState}
 
@@ -55,6 +55,30 @@ KeepsCore s t = t.core ≡ s.core
 abbrev pub LendsNoMore : CoreState → CoreState → Type 0
 LendsNoMore s t = LendsAsBefore s.core t.core
 
+-- the core found no block of the order, and an exchange was lost to other cores
+abbrev pub LosesFor : ℕ → CoreState → CoreState → Type 0
+LosesFor order s t = LosesAt (allocator_of s) order s.core t.core
+
+-- the core has counted as many blocks that found no place as before
+abbrev pub CountsNone : CoreState → CoreState → Type 0
+CountsNone s t = t.unplaced ≡ s.unplaced
+
+-- the core has counted one block more that found no place
+abbrev pub CountsOne : CoreState → CoreState → Type 0
+CountsOne s t = t.unplaced ≡ one_more s.unplaced
+
+-- the core found no block of the order, and an exchange was lost to other cores; or the block that it
+-- took found no place, which alone is counted
+abbrev pub IsContendedFor : ℕ → CoreState → CoreState → Type 0
+IsContendedFor order s t =
+    (LosesFor order s t × CountsNone s t)
+    ⊎ FindsNoPlace order s.core t.core s.unplaced t.unplaced
+
 -- why a take of the order through the core was refused
 abbrev pub RefusesTake : ℕ → CoreState → CoreState → TakeFault → Type 0
-RefusesTake n s t fault = IsRefusedTake (allocator_of s) n s.core t.core fault
+RefusesTake n s t fault =
+    IsRefusedTake (allocator_of s) n s.core t.core s.unplaced t.unplaced fault
+
+-- why a take of a block of the order through the core was refused, which needs no place
+abbrev pub RefusesBlock : ℕ → CoreState → CoreState → TakeFault → Type 0
+RefusesBlock n s t fault = IsRefusedBlock (allocator_of s) n s.core t.core fault

@@ -3,8 +3,8 @@
 ghost use Rattle.std.specs.Prelude.{◌≡◌, IfOk, IfErr};
 ghost use Rattle.core_frames.specs.Cores.{IsCoreOf, IsOutOf};
 ghost use Rattle.frame_places.specs.Blocks.{HasTakenBlock, HasSplitBlock, TakesBlockFor, SplitsBlockFor, IsOutFor};
-ghost use Rattle.frame_places.specs.Calls.{SharesOne, GivesFor, KeepsCore, RefusesTake};
-ghost use Rattle.frame_places.specs.Places.{GivesAt, IsRefusedTake};
+ghost use Rattle.frame_places.specs.Calls.{SharesOne, GivesFor, KeepsCore, RefusesBlock};
+ghost use Rattle.frame_places.specs.Places.{GivesAt, IsRefusedBlock};
 
 use crate::core_state::CoreState;
 use crate::shared::Shared;
@@ -17,7 +17,7 @@ impl CoreState {
     pub fn take_block(&mut self, order: u8) -> Result<Block, TakeFault>
         ensures shared { SharesOne self.old self.new }
         ensures taken { IfOk result (TakesBlockFor order self.old self.new) }
-        ensures refused { IfErr result (RefusesTake order self.old self.new) }
+        ensures refused { IfErr result (RefusesBlock order self.old self.new) }
     {
         take_from(&self.shared, &mut self.core, order)
     }
@@ -48,7 +48,7 @@ fn take_from(shared: &Shared, core: &mut Core, order: u8) -> Result<Block, TakeF
     requires { IsCoreOf shared.now.allocator core.old }
     ensures core { IsCoreOf shared.now.allocator core.new }
     ensures taken { IfOk result (HasTakenBlock shared.now.allocator order core.old core.new) }
-    ensures refused { IfErr result (IsRefusedTake shared.now.allocator order core.old core.new) }
+    ensures refused { IfErr result (IsRefusedBlock shared.now.allocator order core.old core.new) }
 {
     shared.allocator.take(core, order)
 }

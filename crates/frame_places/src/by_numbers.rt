@@ -18,16 +18,20 @@ use frame_words::TakeFault;
 pub(crate) fn take_at_place(
     shared: &Shared,
     core: &mut Core,
+    unplaced: &mut u64,
     order: u8,
 ) -> Result<Receipt, TakeFault>
     requires { IsCoreOf shared.now.allocator core.old }
     ensures core { IsCoreOf shared.now.allocator core.new }
     ensures taken { IfOk result (λ r. TakesAt shared.now.allocator order r.frame core.old core.new) }
     ensures order { IfOk result (λ r. r.order ≡ order) }
-    ensures refused { IfErr result (IsRefusedTake shared.now.allocator order core.old core.new) }
+    ensures counted { IfOk result (λ _. unplaced.new ≡ unplaced.old) }
+    ensures refused { IfErr result (IsRefusedTake shared.now.allocator order core.old core.new
+        unplaced.old unplaced.new) }
 {
     let held = shared.allocator.take(core, order)?;
     let Some(receipt) = lay_down(shared, core, held) else {
+        *unplaced = unplaced.wrapping_add(1);
         return Err(TakeFault::Contended);
     };
     Ok(receipt)
@@ -57,6 +61,7 @@ pub(crate) fn give_from_place(
 pub(crate) fn split_at_place(
     shared: &Shared,
     core: &mut Core,
+    unplaced: &mut u64,
     frame: u32,
     order: u8,
 ) -> Result<(), Refusal>
@@ -64,7 +69,8 @@ pub(crate) fn split_at_place(
     ensures core { IsCoreOf shared.now.allocator core.new }
     ensures split { IfOk result (λ _. SplitsAt shared.now.allocator order frame core.old core.new) }
     ensures same { IfErr result (λ e. e ≢ Refusal.NoPlace → core.new ≡ core.old) }
-    ensures refused { IfErr result (IsRefusedSplit order) }
+    ensures counted { IfOk result (λ _. unplaced.new ≡ unplaced.old) }
+    ensures refused { IfErr result (IsRefusedSplit order unplaced.old unplaced.new) }
 {
     if order == 0 {
         return Err(Refusal::NoHalves);
@@ -79,11 +85,13 @@ pub(crate) fn split_at_place(
             if lower_rests.is_some() && upper_rests.is_some() {
                 Ok(())
             } else {
+                *unplaced = unplaced.wrapping_add(1);
                 Err(Refusal::NoPlace)
             }
         }
         Err(held) => {
             lay_down(shared, core, held);
+            *unplaced = unplaced.wrapping_add(1);
             Err(Refusal::NoPlace)
         }
     }

@@ -1,8 +1,8 @@
 //! What a core is asked for by frame and order.
 
 ghost use Rattle.std.specs.Prelude.{◌≡◌, ◌≢◌, IfOk, IfErr};
-ghost use Rattle.frame_places.specs.Calls.{frames_by, SharesOne, TakesFor, GivesFor, SplitsFor, KeepsCore, RefusesTake};
-ghost use Rattle.frame_places.specs.Refusals.{IsRefusedSplit};
+ghost use Rattle.frame_places.specs.Calls.{frames_by, SharesOne, TakesFor, GivesFor, SplitsFor, CountsNone, KeepsCore, RefusesTake};
+ghost use Rattle.frame_places.specs.Refusals.{RefusesSplit};
 
 use crate::by_numbers::{give_from_place, split_at_place, take_at_place};
 use crate::core_state::CoreState;
@@ -22,9 +22,10 @@ impl CoreState {
     pub fn take(&mut self, order: u8) -> Result<u32, TakeFault>
         ensures shared { SharesOne self.old self.new }
         ensures taken { IfOk result (λ frame. TakesFor order frame self.old self.new) }
+        ensures counted { IfOk result (λ _. CountsNone self.old self.new) }
         ensures refused { IfErr result (RefusesTake order self.old self.new) }
     {
-        let receipt = take_at_place(&self.shared, &mut self.core, order)?;
+        let receipt = take_at_place(&self.shared, &mut self.core, &mut self.unplaced, order)?;
         let frame = receipt.frame();
         self.last = Some(receipt);
         Ok(frame)
@@ -47,8 +48,15 @@ impl CoreState {
         ensures shared { SharesOne self.old self.new }
         ensures split { IfOk result (λ _. SplitsFor order frame self.old self.new) }
         ensures same { IfErr result (λ e. e ≢ Refusal.NoPlace → KeepsCore self.old self.new) }
-        ensures refused { IfErr result (IsRefusedSplit order) }
+        ensures counted { IfOk result (λ _. CountsNone self.old self.new) }
+        ensures refused { IfErr result (RefusesSplit order self.old self.new) }
     {
-        split_at_place(&self.shared, &mut self.core, frame, order)
+        split_at_place(
+            &self.shared,
+            &mut self.core,
+            &mut self.unplaced,
+            frame,
+            order,
+        )
     }
 }

@@ -14,9 +14,11 @@ use std::sync::Arc;
 pub struct CoreState {
     pub(crate) shared: Arc<Shared, Global>,
     pub(crate) core: Core,
+    // How often a block that was taken or split found no place; it wraps.
+    pub(crate) unplaced: u64,
     // Of the block that its last take laid down.
     pub(crate) last: Option<Receipt>,
     // No two cores share a cache line.
-    pub(crate) apart: [u64; 14],
+    pub(crate) apart: [u64; 13],
     pub ghost is_core: { IsCoreOf (arc_value shared).allocator core },
 }

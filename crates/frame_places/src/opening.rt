@@ -120,8 +120,9 @@ pub(crate) fn cores_over(
         let state = CoreState {
             shared,
             core,
+            unplaced: 0,
             last: None,
-            apart: [0; 14],
+            apart: [0; 13],
         };
         let Ok(()) = states.push(state) else {
             return Err(Fault::NoMemory);

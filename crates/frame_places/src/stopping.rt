@@ -1,7 +1,7 @@
 //! The last core of an allocator stops it.
 
 ghost use Rattle.std.specs.Prelude.{◌≡◌, ◌⊎◌, IfOk, IfErr};
-ghost use Rattle.core_frames.specs.Cores.{memory_of};
+ghost use Rattle.core_frames.specs.Cores.{memory_of, seat_of};
 ghost use Rattle.frame_places.specs.Calls.{allocator_of};
 ghost use Rattle.frame_table.specs.Stopping.{IsImageAtStop};
 
@@ -20,10 +20,11 @@ pub struct StopFault {
 }
 
 impl CoreState {
-    /// The words of the memory, from the one core that is left. Blocks that rest at their places are
-    /// held. Refused as `MissingCores` where other cores are open, else for want of memory.
+    /// The words of the memory, from the one core that is left, whose own view is among those that they
+    /// fit, and all of whose kept blocks are held. That blocks which rest at their places are held
+    /// too is by the body, which writes no word. Refused as `MissingCores` where other cores are open, else for want of memory.
     pub fn stop(self, alloc: Global) -> Result<Image, StopFault>
-        ensures image { IfOk result (IsImageAtStop (memory_of (allocator_of self))) }
+        ensures image { IfOk result (IsImageAtStop (memory_of (allocator_of self)) (seat_of self.core)) }
         ensures same { IfErr result (λ e. e.core ≡ self) }
         ensures refused { IfErr result (λ e.
             (e.fault ≡ Fault.MissingCores) ⊎ (e.fault ≡ Fault.NoMemory)) }
@@ -37,16 +38,18 @@ impl CoreState {
         let CoreState {
             shared,
             core,
+            unplaced,
             last,
             apart,
         } = self;
         match Arc::try_unwrap(shared) {
-            Ok(shared) => Ok(shared.allocator.stop(room)),
+            Ok(shared) => Ok(shared.allocator.stop(core, room)),
             Err(shared) => Err(StopFault {
                 fault: Fault::MissingCores,
                 core: CoreState {
                     shared,
                     core,
+                    unplaced,
                     last,
                     apart,
                 },

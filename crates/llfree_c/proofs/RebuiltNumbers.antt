@@ -1,20 +1,31 @@
 -- Numbers that say of words what these will once they are rebuilt.
-use Rattle.std.proofs.Common.{◌≡◌, ⊎_elim, ℕ, ◌+◌, ◌*◌, ◌<◌, ◌≤◌, max, List, [], true, refl, ap, sym, subst, ◌∙◌, arith}
+use Rattle.std.proofs.Common.{◌≡◌, ⊎_elim, ℕ, ◌+◌, ◌*◌, ◌<◌, ◌≤◌, max, List, [], true, get_or, refl, ap, sym, subst, ◌∙◌, arith}
 use Rattle.std.proofs.lemmas.Bool.{cases_lt, cases_eq}
 use Rattle.std.specs.Prelude.{slice_index}
+use Rattle.std.specs.List.{All}
+use mathlib.Core.Option.{some}
+use lib.ListN.{get_elem?}
+use Rattle.atomic_table.proofs.Lists.{at_map}
 use Rattle.frame_words.specs.Words.{entry_word}
+use Rattle.frame_model.specs.declared.block.FrameBlock.{FrameBlock}
 use Rattle.frame_model.specs.declared.key.Key.{Key}
+use Rattle.frame_model.specs.declared.view.View.{View}
+use Rattle.frame_core.specs.Block.{IsBlock}
 use Rattle.frame_core.specs.Image.{Contents, key_in}
 use Rattle.frame_core.specs.Key.{key_of, frame_count, child_of}
 use Rattle.frame_core.specs.Moves.{HasSizes}
 use Rattle.frame_core.specs.Rebuilt.{rebuilt_free, rebuilt_bits, IsRebuilt}
 use Rattle.frame_core.specs.Report.{held_at}
 use Rattle.frame_core.specs.Words.{free_of, huge_of, bit_of, bit_word_of, bits_place, set_of, word_count, AreInRange}
-use Rattle.frame_model.proofs.Steps.Shared.{bit-le}
+use Rattle.frame_model.proofs.Steps.Shared.{bit-le, view_of as view_at}
 use Rattle.frame_model.proofs.Stopping.Existing.{every_rebuilding_exists}
 use Rattle.frame_model.proofs.Stopping.Rebuilding.{kept_bit, cleared_bit, every_rebuilding_is_exact}
+use Rattle.low_frames.proofs.ViewLemmas.{covered_from}
+use Rattle.frame_table.specs.Rule.{eye_view}
+use Rattle.frame_table.specs.Seats.{view_of}
 use Rattle.frame_table.specs.Stopping.{IsImageAtStop}
-use Rattle.llfree_c.specs.CoreImages.{SaysOfRebuilt, SaysRebuilt, LeavesStop}
+use Rattle.frame_table.specs.declared.seats.CoreSeat.{CoreSeat}
+use Rattle.llfree_c.specs.CoreImages.{SaysOfRebuilt, SaysRebuilt, LeavesStop, LeavesStopWith}
 use Rattle.llfree_c.specs.Images.{SaysAll}
 use Rattle.frame_core.specs.Events.{State, Fits, views_of}
 use Rattle.frame_words.specs.declared.geometry.Geometry.{Geometry}
@@ -105,22 +116,38 @@ module _ (key : Key) (old new : List ℕ) (r : IsRebuilt key old new) where
       ))
       (cases_eq (huge_of old (child_of x)) 0)
 
-pub leaves_stop : (key : Key) (image : Contents) (numbers : List ℕ) → IsImageAtStop key image
-    → SaysRebuilt (key_in image) image.words numbers → LeavesStop key numbers
-leaves_stop key image numbers stop says =
+pub leaves_stop : (key : Key) (last : CoreSeat) (image : Contents) (numbers : List ℕ) → IsImageAtStop key last image
+    → SaysRebuilt (key_in image) image.words numbers → LeavesStopWith key last numbers
+leaves_stop key last image numbers stop says =
     let old = image.words in
     let was : AreInRange key old = subst (AreInRange key) stop.words stop.fits.words_in_range in
     let again = every_rebuilding_exists key old was in
     let r : IsRebuilt key old again.0 = again.1 in
+    let vs : List View = views_of stop.state in
+    let v : View = stop.eye.view in
+    let at : get_elem? vs stop.id ≡ some v = at_map eye_view stop.state.eyes stop.id stop.eye stop.at in
+    let kept : All (IsBlock key) (view_of last).kept = subst (λ (w : View). All (IsBlock key) w.kept) stop.seat
+    (view_at key key.cores stop.state.words vs stop.id v stop.fits at).kept in
     record {
-      state = stop.state;
-      fits = stop.fits;
-      words = again.0;
-      rebuilt = subst (λ us. IsRebuilt key us again.0) (sym stop.words) r;
-      says = says_of_words key old again.0 r numbers (says_of_memory key image numbers stop.sizes says);
-      exact = every_rebuilding_is_exact key old again.0 was r;
-      held = λ x h. rebuilt_held key old again.0 r was x h ∙ stop.held x h;
-      boot = λ sealed x h named. rebuilt_held key old again.0 r was x h ∙ stop.boot sealed x h named;
+      stop = record {
+        state = stop.state;
+        fits = stop.fits;
+        words = again.0;
+        rebuilt = subst (λ us. IsRebuilt key us again.0) (sym stop.words) r;
+        says = says_of_words key old again.0 r numbers (says_of_memory key image numbers stop.sizes says);
+        exact = every_rebuilding_is_exact key old again.0 was r;
+        held = λ x h. rebuilt_held key old again.0 r was x h ∙ stop.held x h;
+        boot = λ sealed x h named. rebuilt_held key old again.0 r was x h ∙ stop.boot sealed x h named;
+      };
+      id = stop.id;
+      eye = stop.eye;
+      at = stop.at;
+      seat = stop.seat;
+      kept_held = λ k d h x c.
+          let b : FrameBlock = get_or (view_of last).kept k d in
+          let is : IsBlock key b = kept k d h in
+          rebuilt_held key old again.0 r was x (omega (arith, (covered_from b x c).1, is.inside))
+          ∙ stop.kept_held k d h x c;
     }
 
 -- words that fit are those of a stop

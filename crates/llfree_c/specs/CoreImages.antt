@@ -1,14 +1,19 @@
 -- The image that the last core of an allocator leaves.
 use Rattle.std.specs.Prelude.{◌≡◌, ◌⊎◌, ℕ, ◌+◌, ◌*◌, ◌<◌, List, Option, Some, None, true, slice_index}
+use Rattle.std.specs.List.{All}
 use Rattle.frame_words.specs.Words.{entry_word}
 use Rattle.frame_model.specs.declared.key.Key.{Key}
-use Rattle.frame_core.specs.Events.{State, views_of, Fits}
+use Rattle.frame_model.specs.declared.view.Eye.{Eye}
+use Rattle.frame_core.specs.Events.{State, views_of, Has, Fits}
 use Rattle.frame_core.specs.Laws.{holding_of}
 use Rattle.frame_core.specs.Rebuilt.{rebuilt_free, rebuilt_bits, IsRebuilt}
 use Rattle.frame_core.specs.Stops.{IsExact}
 use Rattle.frame_core.specs.Words.{huge_of}
+use Rattle.frame_table.specs.Closing.{IsHeldIn}
+use Rattle.frame_table.specs.Seats.{view_of}
 use Rattle.frame_table.specs.Stopping.{HoldsFramesOf, HoldsBootFrames}
-use Rattle.core_frames.specs.Cores.{memory_of}
+use Rattle.frame_table.specs.declared.seats.CoreSeat.{CoreSeat}
+use Rattle.core_frames.specs.Cores.{memory_of, seat_of}
 use Rattle.frame_places.specs.Calls.{allocator_of, frames_by}
 use Rattle.frame_places.specs.declared.core_state.CoreState.{CoreState}
 use Rattle.llfree_c.specs.Images.{image_words, SaysAll}
@@ -36,9 +41,19 @@ pub record LeavesStop (key : Key) (numbers : List ℕ) : Type 0 where
   pub held : HoldsFramesOf key words (holding_of key (views_of state))
   pub boot : key.sealed ≡ true → HoldsBootFrames key words
 
--- these are the numbers of an image of the core's memory
+-- the same at a stop with this seat: one of the views that the words fit is the seat's own, and what it
+-- keeps is held
+pub record LeavesStopWith (key : Key) (last : CoreSeat) (numbers : List ℕ) : Type 0 where
+  pub stop : LeavesStop key numbers
+  pub id : ℕ
+  pub eye : Eye
+  pub at : Has stop.state id eye
+  pub seat : eye.view ≡ view_of last
+  pub kept_held : All (IsHeldIn key stop.words) (view_of last).kept
+
+-- these are the numbers of an image of the core's memory, at a stop with the core's own seat
 abbrev pub StopsCore : CoreState → List ℕ → Type 0
-StopsCore s numbers = LeavesStop (memory_of (allocator_of s)) numbers
+StopsCore s numbers = LeavesStopWith (memory_of (allocator_of s)) (seat_of s.core) numbers
 
 -- why a core left no image in so much room: it has more numbers, memory was wanting, or other cores
 -- were open

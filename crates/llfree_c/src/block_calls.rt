@@ -1,7 +1,7 @@
 //! What C calls of an allocator for several threads by blocks that it carries itself.
 
 ghost use Rattle.std.specs.Prelude.{◌≡◌, ◌≢◌, ◌⊎◌, ◌<◌, ◌≤◌, true, false};
-ghost use Rattle.frame_places.specs.Calls.{SharesOne, GivesFor, FindsNoneFor, LendsNoMore, KeepsCore};
+ghost use Rattle.frame_places.specs.Calls.{SharesOne, GivesFor, FindsNoneFor, LosesFor, LendsNoMore, KeepsCore};
 ghost use Rattle.llfree_c.specs.Blocks.{IsOfTheAllocator, TakesHeld, SplitsHeld};
 ghost use Rattle.llfree_c.specs.Status.{ok, no_block, bad_order, not_held, closed, not_closed, contended};
 ghost use Rattle.llfree_c.specs.SeenCores.{OnCores};
@@ -25,6 +25,8 @@ pub extern "C" fn llfree_take_block(
         × OnCores (TakesHeld order held.new) handle.old.state.value handle.new.state.value }
     ensures none { result ≡ no_block
         → OnCores (FindsNoneFor order) handle.old.state.value handle.new.state.value }
+    ensures contended { result ≡ contended
+        → OnCores (LosesFor order) handle.old.state.value handle.new.state.value }
     ensures why { (result ≡ bad_order → 9 < order) × (result ≡ not_closed → held.old.live ≡ true) }
     ensures lends { result ≢ ok → result ≢ closed
         → OnCores LendsNoMore handle.old.state.value handle.new.state.value }

@@ -3,7 +3,7 @@
 ghost use Rattle.std.specs.Prelude.{◌≡◌, ◌≢◌, ◌⊎◌, ◌<◌, ◌≤◌, true, false};
 ghost use Rattle.llfree_c.specs.Status.{ok, no_block, bad_order, not_held, not_closed, contended};
 ghost use Rattle.llfree_c.specs.Blocks.{IsEmptyOrOut, TakesHeld, SplitsHeld};
-ghost use Rattle.frame_places.specs.Calls.{SharesOne, GivesFor, FindsNoneFor, LendsNoMore, KeepsCore};
+ghost use Rattle.frame_places.specs.Calls.{SharesOne, GivesFor, FindsNoneFor, LosesFor, LendsNoMore, KeepsCore};
 
 use crate::block_handle::BlockHandle;
 use crate::statuses::{BAD_ORDER, CONTENDED, NO_BLOCK, NOT_CLOSED, NOT_HELD, OK};
@@ -14,6 +14,7 @@ pub(crate) fn take_block(state: &mut CoreState, order: u8, held: &mut BlockHandl
     ensures shared { SharesOne state.old state.new }
     ensures taken { result ≡ ok → TakesHeld order held.new state.old state.new }
     ensures none { result ≡ no_block → FindsNoneFor order state.old state.new }
+    ensures contended { result ≡ contended → LosesFor order state.old state.new }
     ensures order { result ≡ bad_order → 9 < order }
     ensures full { (result ≡ not_closed → held.old.live ≡ true)
         × (result ≡ ok → held.old.live ≡ false) }

@@ -2,7 +2,7 @@
 
 ghost use Rattle.std.specs.Prelude.{◌≡◌, ◌≢◌, ◌⊎◌, ◌<◌, ◌≤◌, true, false, length};
 ghost use Rattle.std.specs.List.{All};
-ghost use Rattle.frame_places.specs.Calls.{SharesOne, TakesFor, GivesFor, SplitsFor, FindsNoneFor, LendsNoMore, KeepsCore};
+ghost use Rattle.frame_places.specs.Calls.{SharesOne, TakesFor, GivesFor, SplitsFor, FindsNoneFor, IsContendedFor, LendsNoMore, CountsOne, KeepsCore};
 ghost use Rattle.llfree_c.specs.CoreImages.{LeavesCoreImage, LeavesNoCoreImage};
 ghost use Rattle.llfree_c.specs.Images.{image_words, StaysBehind};
 ghost use Rattle.llfree_c.specs.Status.{ok, no_block, bad_order, not_held, closed, contended};
@@ -52,6 +52,8 @@ pub extern "C" fn llfree_take(
         → OnCores (TakesFor order frame.new) handle.old.state.value handle.new.state.value }
     ensures none { result ≡ no_block
         → OnCores (FindsNoneFor order) handle.old.state.value handle.new.state.value }
+    ensures contended { result ≡ contended
+        → OnCores (IsContendedFor order) handle.old.state.value handle.new.state.value }
     ensures order { result ≡ bad_order → 9 < order }
     ensures lends { result ≢ ok → result ≢ closed
         → OnCores LendsNoMore handle.old.state.value handle.new.state.value }
@@ -97,6 +99,9 @@ pub extern "C" fn llfree_split(handle: &mut CoreHandle, heap: Global, frame: u32
     ensures same { (result ≡ not_held) ⊎ (result ≡ bad_order)
         → OnCores KeepsCore handle.old.state.value handle.new.state.value }
     ensures whole { result ≡ bad_order → order ≡ 0 }
+    ensures halves { (result ≡ not_held) ⊎ (result ≡ contended) → 0 < order }
+    ensures counted { result ≡ contended
+        → OnCores CountsOne handle.old.state.value handle.new.state.value }
     ensures shared { result ≢ closed
         → OnCores SharesOne handle.old.state.value handle.new.state.value }
     ensures closed { result ≡ closed → (handle.old.live ≡ false) × (handle.new ≡ handle.old) }

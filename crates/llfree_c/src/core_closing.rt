@@ -1,7 +1,7 @@
 //! The last core leaves an image of the memory.
 
-ghost use Rattle.std.specs.Prelude.{◌≡◌, ◌≢◌, length, IfOk, IfErr};
-ghost use Rattle.llfree_c.specs.Status.{ok, no_memory};
+ghost use Rattle.std.specs.Prelude.{◌≡◌, ◌≢◌, ◌⊎◌, ◌↔◌, length, IfOk, IfErr};
+ghost use Rattle.llfree_c.specs.Status.{ok, no_memory, cores_open};
 ghost use Rattle.frame_places.specs.Calls.{frames_by};
 ghost use Rattle.llfree_c.specs.CoreImages.{StopsCore, HasNoStop};
 ghost use Rattle.llfree_c.specs.Images.{image_words, StaysBehind};
@@ -39,12 +39,20 @@ pub(crate) fn leave_core_image(state: &mut CoreState, heap: Global, numbers: &mu
         }
         Err(StopFault { fault, core }) => {
             *state = core;
-            if fault == Fault::MissingCores {
-                CORES_OPEN
-            } else {
-                NO_MEMORY
-            }
+            stop_status(fault)
         }
+    }
+}
+
+// Other cores are open just where the fault says so.
+fn stop_status(fault: Fault) -> u32
+    ensures open { (result ≡ cores_open) ↔ (fault ≡ Fault.MissingCores) }
+    ensures known { (result ≡ cores_open) ⊎ (result ≡ no_memory) }
+{
+    if fault == Fault::MissingCores {
+        CORES_OPEN
+    } else {
+        NO_MEMORY
     }
 }
 

@@ -2,7 +2,7 @@
 
 ghost use Rattle.std.specs.Prelude.{◌≡◌, ◌≢◌, ◌⊎◌, ◌<◌, ◌≤◌};
 ghost use Rattle.llfree_c.specs.Status.{ok, no_block, bad_order, not_held, contended};
-ghost use Rattle.frame_places.specs.Calls.{SharesOne, TakesFor, GivesFor, SplitsFor, FindsNoneFor, LendsNoMore, KeepsCore};
+ghost use Rattle.frame_places.specs.Calls.{SharesOne, TakesFor, GivesFor, SplitsFor, FindsNoneFor, IsContendedFor, LendsNoMore, CountsOne, KeepsCore};
 
 use crate::statuses::{BAD_ORDER, CONTENDED, NO_BLOCK, NOT_HELD, OK};
 use frame_places::{CoreState, Refusal};
@@ -12,6 +12,7 @@ pub(crate) fn take(state: &mut CoreState, order: u8, frame: &mut u32) -> u32
     ensures shared { SharesOne state.old state.new }
     ensures taken { result ≡ ok → TakesFor order frame.new state.old state.new }
     ensures none { result ≡ no_block → FindsNoneFor order state.old state.new }
+    ensures contended { result ≡ contended → IsContendedFor order state.old state.new }
     ensures order { result ≡ bad_order → 9 < order }
     ensures lends { result ≢ ok → LendsNoMore state.old state.new }
     ensures known { (result ≤ bad_order) ⊎ (result ≡ contended) }
@@ -45,6 +46,8 @@ pub(crate) fn split(state: &mut CoreState, frame: u32, order: u8) -> u32
     ensures split { result ≡ ok → SplitsFor order frame state.old state.new }
     ensures whole { result ≡ bad_order → (order ≡ 0) × KeepsCore state.old state.new }
     ensures same { result ≡ not_held → KeepsCore state.old state.new }
+    ensures halves { (result ≡ not_held) ⊎ (result ≡ contended) → 0 < order }
+    ensures counted { result ≡ contended → CountsOne state.old state.new }
     ensures known { (result ≡ ok) ⊎ (result ≡ bad_order) ⊎ (result ≡ not_held)
         ⊎ (result ≡ contended) }
 {

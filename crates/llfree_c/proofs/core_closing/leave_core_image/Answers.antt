@@ -1,5 +1,5 @@
 use Rattle.std.proofs.Common.{List, ℕ, subst}
-use Rattle.core_frames.specs.Cores.{memory_of}
+use Rattle.core_frames.specs.Cores.{memory_of, seat_of}
 use Rattle.frame_core.specs.Key.{key_of}
 use Rattle.frame_places.specs.Calls.{allocator_of}
 use Rattle.frame_places.specs.declared.core_state.CoreState.{CoreState}
@@ -18,4 +18,4 @@ returns-in-Ok-stop-clause-left c =
     let says : SaysRebuilt (key_of image.geometry) image.words numbers =
     subst (λ (g : Geometry). SaysRebuilt (key_of g) image.words numbers) c.geometry.ensures.value read in
     λ _. subst (λ (s : CoreState). StopsCore s numbers) c.replace.ensures.value
-    (leaves_stop (memory_of (allocator_of c.replace.result)) image numbers c.in-Ok-stop.ensures.image says)
+    (leaves_stop (memory_of (allocator_of c.replace.result)) (seat_of c.replace.result.core) image numbers c.in-Ok-stop.ensures.image says)
