@@ -31,11 +31,30 @@
 #include <stddef.h>
 #include <stdint.h>
 
+/* The answer of a call that is marked so has to be looked at, and a compiler says where it is not. That of
+ * a give may be left alone. */
+#if defined __cplusplus && __cplusplus >= 201703L
+#define LLFREE_NODISCARD [[nodiscard]]
+#elif defined __STDC_VERSION__ && __STDC_VERSION__ >= 202311L
+#define LLFREE_NODISCARD [[nodiscard]]
+#elif defined __GNUC__
+#define LLFREE_NODISCARD __attribute__((warn_unused_result))
+#else
+#define LLFREE_NODISCARD
+#endif
+
+/* An answer is passed as a uint32_t is: C++ is told so, and of C it is checked below. */
+#if defined __cplusplus && __cplusplus >= 201103L
+#define LLFREE_STATUS_TYPE : uint32_t
+#else
+#define LLFREE_STATUS_TYPE
+#endif
+
 #ifdef __cplusplus
 extern "C" {
 #endif
 
-enum llfree_status {
+enum llfree_status LLFREE_STATUS_TYPE {
     LLFREE_OK = 0,
     LLFREE_NO_BLOCK = 1,      /* no block of the order was found: for one thread none is free, for several
                                  one may be, as llfree_take says */
@@ -46,13 +65,19 @@ enum llfree_status {
     LLFREE_NO_MEMORY = 5,
     LLFREE_BAD_GEOMETRY = 6,  /* a memory has 1 to 2097152 frames and 1 to 64 cores */
     LLFREE_OPEN_HANDLE = 7,   /* something is behind the handle already, or the struct holds a block */
-    LLFREE_CONTENDED = 8,     /* no block was had, since other cores were in the way */
+    LLFREE_CONTENDED = 8,     /* no block was had, since other cores were in the way, or it could not be
+                                 laid down in the library's list */
     LLFREE_BAD_RANGE = 9,     /* more than 1024 ranges, or one is empty, ends past the end of memory, or
                                  begins before the end of the one before it */
     LLFREE_NO_ROOM = 10,      /* the image has more numbers than the buffer */
     LLFREE_CORES_OPEN = 11,   /* other cores of the allocator are open */
     LLFREE_BAD_IMAGE = 12     /* the numbers are those of no image of so many frames */
 };
+
+#if defined __STDC_VERSION__ && __STDC_VERSION__ >= 201112L
+_Static_assert(sizeof(enum llfree_status) == sizeof(uint32_t) && (enum llfree_status)-1 > 0,
+               "an answer is passed as a uint32_t is");
+#endif
 
 #define LLFREE_VERSION "1.0.0"
 
@@ -86,8 +111,9 @@ typedef struct llfree_core {
  * the next power of two is, that is 32 to 64 bytes a frame. The list grows while it opens, and a heap
  * that does not use its blocks again at once has to have more: 57 to 77 bytes a frame were measured. On
  * OPEN_HANDLE (of any handle), BAD_GEOMETRY, BAD_RANGE and NO_MEMORY the handles are as they were. */
-uint32_t llfree_open(llfree_core *handles, size_t cores, uint32_t frames, const llfree_range *ranges,
-                     size_t count);
+LLFREE_NODISCARD
+enum llfree_status llfree_open(llfree_core *handles, size_t cores, uint32_t frames,
+                               const llfree_range *ranges, size_t count);
 
 /* The block of this order from this frame on, which a program holds from before an opening. */
 typedef struct llfree_claim {
@@ -104,27 +130,32 @@ typedef struct llfree_claim {
  * last child is cut and one block of order 9, or a bit past the end is clear), BAD_ORDER, NOT_HELD (a
  * claimed block is not held by itself, one of order 9 as such, or two share a frame), NO_MEMORY and
  * CONTENDED (a claimed block was not reached; no run ever showed this) the handles are as they were. */
-uint32_t llfree_reopen(llfree_core *handles, size_t cores, uint32_t frames, const uint64_t *words,
-                       size_t count, const llfree_claim *claims, size_t claimed);
+LLFREE_NODISCARD
+enum llfree_status llfree_reopen(llfree_core *handles, size_t cores, uint32_t frames,
+                                 const uint64_t *words, size_t count, const llfree_claim *claims,
+                                 size_t claimed);
 
 /* Takes a block of the order, and writes its first frame. NO_BLOCK after at least as many steps as there
- * are trees, of 4096 frames each, and no exchange that another core won; CONTENDED; BAD_ORDER;
- * CLOSED_HANDLE: then *frame is as it was, and nothing more is held. It needs no memory, and neither
- * locks nor waits.
+ * are trees, of 4096 frames each, and no exchange that another core won; CONTENDED after as many and one
+ * that another core won, or where the block that it took could not be laid down in the library's list and
+ * is free again (of cores that llfree_open opened no run ever showed this); BAD_ORDER; CLOSED_HANDLE: then
+ * *frame is as it was, and nothing more is held. It needs no memory, and neither locks nor waits.
  *
  * Neither NO_BLOCK nor CONTENDED says that no block of the order is free: a core that searches a tree has
  * all the free frames of that tree in hand until it is done, and others pass the tree by. Four threads
  * that held at most one frame each of 4096, one tree, were refused 49 % of their takes; with as many
  * trees as cores none ever was. So let a memory have 4096 frames or more for each core, and where it has
  * fewer, or few of them are free, make a refused take again, as llfree_take_retry does. */
-uint32_t llfree_take(llfree_core *handle, uint8_t order, uint32_t *frame);
+LLFREE_NODISCARD
+enum llfree_status llfree_take(llfree_core *handle, uint8_t order, uint32_t *frame);
 
 /* llfree_take, up to so many times where it answers NO_BLOCK or CONTENDED; the last answer. It takes once
  * where tries is 0. */
-static inline uint32_t llfree_take_retry(llfree_core *handle, uint8_t order, uint32_t *frame,
-                                         uint32_t tries)
+LLFREE_NODISCARD
+static inline enum llfree_status llfree_take_retry(llfree_core *handle, uint8_t order, uint32_t *frame,
+                                                   uint32_t tries)
 {
-    uint32_t status = llfree_take(handle, order, frame);
+    enum llfree_status status = llfree_take(handle, order, frame);
     for (; tries > 1 && (status == LLFREE_NO_BLOCK || status == LLFREE_CONTENDED); tries--)
         status = llfree_take(handle, order, frame);
     return status;
@@ -133,14 +164,15 @@ static inline uint32_t llfree_take_retry(llfree_core *handle, uint8_t order, uin
 /* Gives exactly this block back, whichever core took it. NOT_HELD, CLOSED_HANDLE: then nothing
  * changes. Of several gives of one block at the same time one succeeds. It needs no memory, and
  * neither locks nor waits. */
-uint32_t llfree_give(llfree_core *handle, uint32_t frame, uint8_t order);
+enum llfree_status llfree_give(llfree_core *handle, uint32_t frame, uint8_t order);
 
 /* Splits exactly this block into its halves, whichever core took it; each is given or split by itself
  * from then on: (frame, order - 1) and (frame + 2^(order - 1), order - 1). NOT_HELD, BAD_ORDER where
  * the order is 0 (held or not), CLOSED_HANDLE: then nothing changes. A half that could not be laid
  * down in the library's list is free again, and the answer is CONTENDED; no run ever showed this. It
  * needs no memory, and neither locks nor waits. */
-uint32_t llfree_split(llfree_core *handle, uint32_t frame, uint8_t order);
+LLFREE_NODISCARD
+enum llfree_status llfree_split(llfree_core *handle, uint32_t frame, uint8_t order);
 
 /* The frames of the memory behind the handle, those of the ranges too; 0 of a closed one. */
 uint32_t llfree_frames(llfree_core *handle);
@@ -153,7 +185,8 @@ void llfree_close(llfree_core *handle);
  * blocks that are held and the ranges are held (tested, not proved); then as llfree_close of the last
  * handle of an allocator. What lies behind the numbers stays. NO_ROOM where the buffer has fewer,
  * CORES_OPEN where it is not the last, NO_MEMORY, CLOSED_HANDLE: then nothing changes. */
-uint32_t llfree_close_image(llfree_core *handle, uint64_t *words, size_t count);
+LLFREE_NODISCARD
+enum llfree_status llfree_close_image(llfree_core *handle, uint64_t *words, size_t count);
 
 /* How many words an allocator for several threads has, of so many frames and cores: an opening asks its
  * heap for them as one block of 8 * llfree_words(frames, cores) bytes, aligned to 8. 0 where there is no
@@ -165,8 +198,9 @@ size_t llfree_words(uint32_t frames, uint32_t cores);
  * that holds just what was held there (docs/C.md, "After a kill"). Words that a call may still change say
  * nothing. BAD_GEOMETRY, BAD_IMAGE (count is not llfree_words), NO_ROOM: then the numbers are as they were.
  * It needs no memory. */
-uint32_t llfree_image_of_words(uint32_t frames, uint32_t cores, const uint64_t *words, size_t count,
-                               uint64_t *numbers, size_t room);
+LLFREE_NODISCARD
+enum llfree_status llfree_image_of_words(uint32_t frames, uint32_t cores, const uint64_t *words,
+                                         size_t count, uint64_t *numbers, size_t room);
 
 /* The same for callers who trust themselves: a take hands out the right to its block in a struct, so no
  * list of what is out is kept or looked up. An empty struct is refused; beside the duties above a caller
@@ -189,22 +223,26 @@ typedef struct llfree_block {
 /* As llfree_open, but no list is made: the allocator has its words alone, and only the three functions
  * below take, give and split. Of its cores llfree_take answers CONTENDED where it would answer a block,
  * and llfree_give and llfree_split NOT_HELD. */
-uint32_t llfree_open_unchecked(llfree_core *handles, size_t cores, uint32_t frames,
-                               const llfree_range *ranges, size_t count);
+LLFREE_NODISCARD
+enum llfree_status llfree_open_unchecked(llfree_core *handles, size_t cores, uint32_t frames,
+                                         const llfree_range *ranges, size_t count);
 
-/* Takes a block of the order into an empty struct. NO_BLOCK, CONTENDED, BAD_ORDER and CLOSED_HANDLE as
- * llfree_take, OPEN_HANDLE where the struct holds a block: then the struct is as it was, and nothing more
- * is held. It works through cores that llfree_open opened, too: such a block is not on their list. */
-uint32_t llfree_take_block(llfree_core *handle, uint8_t order, llfree_block *block);
+/* Takes a block of the order into an empty struct. NO_BLOCK, BAD_ORDER and CLOSED_HANDLE as
+ * llfree_take, CONTENDED only after an exchange that another core won, for no list is looked up, OPEN_HANDLE
+ * where the struct holds a block: then the struct is as it was, and nothing more is held. It works through
+ * cores that llfree_open opened, too: such a block is not on their list. */
+LLFREE_NODISCARD
+enum llfree_status llfree_take_block(llfree_core *handle, uint8_t order, llfree_block *block);
 
 /* Gives the block back that the struct holds, whichever core took it; the struct is empty then. NOT_HELD
  * where it is empty, CLOSED_HANDLE: then nothing changes. It needs no memory, and neither locks nor waits. */
-uint32_t llfree_give_block(llfree_core *handle, llfree_block *block);
+enum llfree_status llfree_give_block(llfree_core *handle, llfree_block *block);
 
 /* Splits the block that the struct holds, whichever core took it: the struct holds the lower half then,
  * and the empty upper the other one. NOT_HELD where the struct is empty, OPEN_HANDLE where upper holds a
  * block, BAD_ORDER where the order is 0, CLOSED_HANDLE: then nothing changes. */
-uint32_t llfree_split_block(llfree_core *handle, llfree_block *block, llfree_block *upper);
+LLFREE_NODISCARD
+enum llfree_status llfree_split_block(llfree_core *handle, llfree_block *block, llfree_block *upper);
 
 /* An allocator for one thread: as above, but a take is refused only where no block of the order is
  * free, and it has one byte a frame beside its words. */
@@ -215,25 +253,29 @@ typedef struct llfree_plain {
 
 /* Opens an allocator of so many frames behind a closed handle. All are free but those of the ranges,
  * as above. On OPEN_HANDLE, BAD_GEOMETRY, BAD_RANGE and NO_MEMORY the handle is as it was. */
-uint32_t llfree_plain_open(llfree_plain *handle, uint32_t frames, const llfree_range *ranges,
-                           size_t count);
+LLFREE_NODISCARD
+enum llfree_status llfree_plain_open(llfree_plain *handle, uint32_t frames, const llfree_range *ranges,
+                                     size_t count);
 
 /* Opens an allocator of so many frames behind a closed handle at the numbers of an image, as
  * llfree_reopen does, with the same refusals. */
-uint32_t llfree_plain_reopen(llfree_plain *handle, uint32_t frames, const uint64_t *words, size_t count,
-                             const llfree_claim *claims, size_t claimed);
+LLFREE_NODISCARD
+enum llfree_status llfree_plain_reopen(llfree_plain *handle, uint32_t frames, const uint64_t *words,
+                                       size_t count, const llfree_claim *claims, size_t claimed);
 
 /* Takes a block of the order, and writes its first frame. NO_BLOCK exactly where none of the order is
  * free, BAD_ORDER, CLOSED_HANDLE: then *frame is as it was. Needs no memory. */
-uint32_t llfree_plain_take(llfree_plain *handle, uint8_t order, uint32_t *frame);
+LLFREE_NODISCARD
+enum llfree_status llfree_plain_take(llfree_plain *handle, uint8_t order, uint32_t *frame);
 
 /* Gives exactly this block back. NOT_HELD, CLOSED_HANDLE: then nothing changes. Needs no memory. */
-uint32_t llfree_plain_give(llfree_plain *handle, uint32_t frame, uint8_t order);
+enum llfree_status llfree_plain_give(llfree_plain *handle, uint32_t frame, uint8_t order);
 
 /* Splits exactly this block into its halves, of which each is given or split by itself from then on:
  * (frame, order - 1) and (frame + 2^(order - 1), order - 1). NOT_HELD, BAD_ORDER where the order is 0
  * (and the block is held), CLOSED_HANDLE: then nothing changes. Needs no memory. */
-uint32_t llfree_plain_split(llfree_plain *handle, uint32_t frame, uint8_t order);
+LLFREE_NODISCARD
+enum llfree_status llfree_plain_split(llfree_plain *handle, uint32_t frame, uint8_t order);
 
 /* The frames of the memory behind the handle, those of the ranges too; 0 of a closed one. */
 uint32_t llfree_plain_frames(llfree_plain *handle);
@@ -241,7 +283,8 @@ uint32_t llfree_plain_frames(llfree_plain *handle);
 /* Writes the numbers of the memory's image, as many as llfree_image_words says, in which just the
  * blocks that are out and the ranges are held; then as llfree_plain_close. What lies behind the numbers
  * stays. NO_ROOM where the buffer has fewer, NO_MEMORY, CLOSED_HANDLE: then nothing changes. */
-uint32_t llfree_plain_close_image(llfree_plain *handle, uint64_t *words, size_t count);
+LLFREE_NODISCARD
+enum llfree_status llfree_plain_close_image(llfree_plain *handle, uint64_t *words, size_t count);
 
 /* Frees what is behind the handle, blocks that are held and all, and closes it. It does nothing to a
  * closed handle. */

@@ -21,7 +21,7 @@ TAIL = r""".SH SEE ALSO
 """
 ITEM = re.compile(r' {1,4}(\d+\.|-) +(.*)')
 FUNCTION = re.compile(r'\b(llfree_\w+)\(')
-TYPE = re.compile(r'^(?:typedef struct|enum) (llfree_\w+)')
+TYPE = re.compile(r'^(?:typedef struct|enum) (llfree_\w+) \{')
 
 
 def blocks_of(header):
@@ -29,10 +29,12 @@ def blocks_of(header):
     for block in re.split(r'\n\s*\n', header):
         match = re.match(r'\s*/\*(.*?)\*/', block, re.DOTALL)
         comment, rest = (match[1], block[match.end():]) if match else ('', block)
-        # of a function that is written out, what a caller sees
-        code = re.sub(r'\n\{.*', ';', rest.strip('\n'), flags=re.DOTALL)
+        # what a compiler is told, and of a function that is written out all but what a caller sees, is left out
+        code = re.sub(r'LLFREE_NODISCARD\n| LLFREE_STATUS_TYPE\b', '', rest.strip('\n'))
+        code = re.sub(r'\n\{.*', ';', code, flags=re.DOTALL)
         is_code = 'llfree_' in code or 'LLFREE_CLOSED' in code or 'LLFREE_EMPTY' in code
-        yield lines_of(comment), code if is_code else ''
+        if not code.startswith('#if ') and not code.startswith('#ifdef '):
+            yield lines_of(comment), code if is_code else ''
 
 
 def lines_of(comment):

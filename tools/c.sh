@@ -2,7 +2,8 @@
 # Tries the library for C, which it builds where it has to: the header names what the library exports, as
 # C and as C++; the library asks for nothing but a heap; and the programs of examples/c and tools/c run,
 # plainly and under what the compiler has to watch over memory, or just with the flags that are named. One
-# is in C++, one built with what pkg-config answers, and one is in Rust. What the machine lacks is said and left out.
+# is in C++, one in Rust, one is run under valgrind, and one is built from what is installed: by hand, by pkg-config
+# and by CMake. What the machine lacks is said and left out.
 # The last line counts what was tried.
 set -eu
 root=$(cd "$(dirname "$0")/.." && pwd)
@@ -43,12 +44,30 @@ passes 'what the library asks for'
 is_here() {
     echo 'int main(void) { return 0; }' | "$cc" -x "$1" -o "$folder/empty" - 2>/dev/null
 }
+# compiles LANGUAGE [FLAG..]: the program on standard input, without a warning
+compiles() {
+    "$cc" -x "$@" -Wall -Wextra -Werror -I"$root/include" -c -o "$folder/header.o" - >"$folder/log" 2>&1
+}
 for language in c c++; do
-    name="the header in $language"
-    is_here "$language" || { echo "$name: not here"; continue; }
-    printf '#include "llfree.h"\nint main(void) { llfree_plain h = LLFREE_CLOSED; llfree_plain_close(&h);
-        llfree_core c = LLFREE_CLOSED; llfree_close(&c); }\n' |
-        "$cc" -x "$language" -Wall -Wextra -Werror -I"$root/include" -c -o "$folder/header.o" - || fails "$name: not compiled"
+    is_here "$language" || { echo "the headers in $language: not here"; continue; }
+    for header in "$root"/include/*.h; do
+        name="$(basename "$header") in $language"
+        printf '#include "%s"\nint main(void) { llfree_plain h = LLFREE_CLOSED; llfree_plain_close(&h);
+            llfree_core c = LLFREE_CLOSED; llfree_close(&c); }\n' "$(basename "$header")" | compiles "$language" ||
+            fails "$name: not compiled"
+        passes "$name"
+    done
+done
+# an answer that nobody looks at is refused, but for that of a give
+for words in c 'c -std=c2x' c++ 'c++ -std=c++17'; do
+    name="answers that are looked at, in $words"
+    start='#include "llfree.h"\nint main(void) { llfree_core c = LLFREE_CLOSED; uint32_t f = 0;'
+    echo 'int main(void) { return 0; }' | compiles $words || { echo "$name: not here"; continue; }
+    printf '%b' "$start return (int)llfree_take(&c, 0, &f) + (int)llfree_give(&c, f, 0); }" | compiles $words ||
+        fails "$name: not compiled"
+    printf '%b' "$start llfree_give(&c, f, 0); }" | compiles $words || fails "$name: a give is refused"
+    ! printf '%b' "$start llfree_take(&c, 0, &f); }" | compiles $words || fails "$name: nothing is said of a take"
+    grep -qE 'unused|nodiscard' "$folder/log" || fails "$name: something else is said"
     passes "$name"
 done
 
@@ -73,6 +92,53 @@ for source in "$root"/examples/c/*.c "$root"/tools/c/*.c; do
     done
 done
 
+# of programs that write the memory of their frames ThreadSanitizer and valgrind say races where nobody tells them who has
+# which frame, and where a frame is used behind its give
+source=$root/tools/c/told.c
+# told FLAG..: two programs of it, told and untold
+told() {
+    "$cc" "$@" -O1 -g -Wall -Wextra -Werror -I"$root/include" -o "$folder/told" "$source" "$library" "$heap" -lpthread &&
+        "$cc" "$@" -DUNTOLD -O1 -g -I"$root/include" -o "$folder/untold" "$source" "$library" "$heap" -lpthread ||
+        fails 'told.c: not built'
+}
+# says NAME PATTERN COMMAND..: it ends as where something was found, and says what
+says() {
+    local name=$1 pattern=$2
+    shift 2
+    ! "$@" >"$folder/log" 2>&1 || fails "$name: nothing is said"
+    grep -q "$pattern" "$folder/log" || fails "$name: something else is said"
+    passes "$name"
+}
+# is_clean NAME COMMAND..
+is_clean() {
+    local name=$1
+    shift
+    "$@" >"$folder/log" 2>&1 || { tail -n 20 "$folder/log" >&2; fails "$name: something is said"; }
+    passes "$name"
+}
+name='told.c: ThreadSanitizer'
+if { echo 'int main(void) { return 0; }' | "$cc" -x c -fsanitize=thread -o "$folder/empty" - && "$folder/empty"; } >/dev/null 2>&1; then
+    told -fsanitize=thread
+    is_clean "$name: told" "$folder/told" 5000
+    says "$name: untold" 'data race' "$folder/untold" 5000
+    says "$name: behind the give" 'data race' "$folder/told" 5000 late
+else
+    echo "$name: not here"
+fi
+if command -v valgrind >/dev/null && [ -e /usr/include/valgrind/helgrind.h ]; then
+    told
+    for tool in helgrind drd memcheck; do
+        name="told.c: $tool"
+        under=(valgrind -q --tool="$tool" --error-exitcode=9)
+        is_clean "$name: told" "${under[@]}" "$folder/told" 300
+        # memcheck knows no threads
+        [ "$tool" = memcheck ] || says "$name: untold" 'race\|Conflicting' "${under[@]}" "$folder/untold" 300
+        says "$name: behind the give" 'race\|Conflicting\|Invalid' "${under[@]}" "$folder/told" 300 late
+    done
+else
+    echo 'told.c: valgrind: not here'
+fi
+
 for source in "$root"/tools/c/*.cpp; do
     name=$(basename "$source")
     is_here c++ || { echo "$name: not here"; continue; }
@@ -92,23 +158,66 @@ else
     echo "$name: not here"
 fi
 
-# as it is installed: one archive, and a shared library of which only llfree_* is seen
+# as it is installed: one archive, a shared library of which only llfree_* is seen, and what finds them
 name='installed'
 if command -v make >/dev/null; then
-    make -s -C "$root/examples/c" install PREFIX=/usr DESTDIR="$folder/to" >/dev/null || fails "$name: not installed"
-    to=$folder/to/usr
+    make -s -C "$root/examples/c" install PREFIX="$folder/at" >/dev/null || fails "$name: not installed"
+    # CMake has to find it where it was moved to
+    at=$folder/at
     source=$root/examples/c/first.c
-    "$cc" -I"$to/include" -o "$folder/program" "$source" "$to/lib/libllfree.a" || fails "$name: no archive"
+    "$cc" -I"$at/include" -o "$folder/program" "$source" "$at/lib/libllfree.a" || fails "$name: no archive"
     runs "$name: the archive" "$source"
-    "$cc" -I"$to/include" -o "$folder/program" "$source" -L"$to/lib" -lllfree -Wl,-rpath,"$to/lib" ||
+    "$cc" -I"$at/include" -o "$folder/program" "$source" -L"$at/lib" -lllfree -Wl,-rpath,"$at/lib" ||
         fails "$name: no shared library"
+    readelf -d "$folder/program" | grep -q 'libllfree\.so\.1\]' || fails "$name: the shared library is not asked for"
     runs "$name: the shared library" "$source"
-    nm -D --defined-only "$to/lib/libllfree.so.1" | awk '$2 != "A" { sub(/@.*/, "", $3); print $3 }' | sort |
+    nm -D --defined-only "$at/lib/libllfree.so.1" | awk '$2 != "A" { sub(/@.*/, "", $3); print $3 }' | sort |
         diff - "$folder/exported" || fails "$name: other names in the shared library"
     passes "$name: the names of the shared library"
+    if command -v pkg-config >/dev/null; then
+        export PKG_CONFIG_PATH=$at/lib/pkgconfig
+        [ "$(pkg-config --modversion llfree)" = "$(cat "$root/VERSION")" ] || fails "$name: another version for pkg-config"
+        read -ra with < <(pkg-config --cflags --libs llfree)
+        "$cc" -o "$folder/program" "$source" "${with[@]}" -Wl,-rpath,"$at/lib" || fails "$name: not built by pkg-config"
+        runs "$name: by pkg-config" "$source"
+        unset PKG_CONFIG_PATH
+    else
+        echo "$name: by pkg-config: not here"
+    fi
     source=$root/examples/c/own_heap.c
-    "$cc" -I"$to/include" -o "$folder/program" "$source" "$to/lib/libllfree.a" || fails "$name: no heap of its own"
+    "$cc" -I"$at/include" -o "$folder/program" "$source" "$at/lib/libllfree.a" || fails "$name: no heap of its own"
     runs "$name: a program's own heap" "$source"
+    if command -v cmake >/dev/null; then
+        source=$root/examples/c/first.c
+        mv "$at" "$folder/moved"
+        with=(-DCMAKE_PREFIX_PATH="$folder/moved" -DCMAKE_C_COMPILER="$cc")
+        { cmake -S "$root/examples/c" -B "$folder/cmake" "${with[@]}" && cmake --build "$folder/cmake"; } >"$folder/log" 2>&1 ||
+            { tail -n 20 "$folder/log" >&2; fails "$name: not built by CMake"; }
+        for kind in first first-static; do
+            cp "$folder/cmake/$kind" "$folder/program"
+            runs "$name: by CMake: $kind" "$source"
+        done
+        # asks VERSION..: whether CMake gives what asks for this version
+        asks() {
+            printf 'cmake_minimum_required(VERSION 3.10)\nproject(asks C)\nfind_package(llfree %s CONFIG REQUIRED)\n' "$*" \
+                >"$folder/asks/CMakeLists.txt"
+            cmake -S "$folder/asks" -B "$folder/asks/build" "${with[@]}" >"$folder/log" 2>&1
+        }
+        mkdir "$folder/asks"
+        IFS=. read -r major minor patch <"$root/VERSION"
+        for version in '' "$major" "$major.$minor.$patch EXACT"; do
+            asks $version || fails "$name: CMake does not find version $version"
+        done
+        for version in "$((major + 1))" "$major.$((minor + 1))" "$major.$minor.$((patch + 1)) EXACT"; do
+            ! asks $version || fails "$name: CMake finds version $version"
+        done
+        passes "$name: by CMake: versions"
+    else
+        echo "$name: by CMake: not here"
+    fi
+    make -s -C "$root/examples/c" install PREFIX=/usr DESTDIR="$folder/to" >/dev/null || fails "$name: not under DESTDIR"
+    [ "$(find "$folder/to" -name '*.h' | wc -l)" = "$(find "$root/include" -name '*.h' | wc -l)" ] ||
+        fails "$name: a header is not installed"
     make -s -C "$root/examples/c" uninstall PREFIX=/usr DESTDIR="$folder/to" >/dev/null || fails "$name: not removed"
     [ -z "$(find "$folder/to" ! -type d)" ] || fails "$name: something is left"
     passes "$name: nothing is left"

@@ -1,0 +1,125 @@
+/* For programs whose threads use the memory of their frames, under ThreadSanitizer or valgrind: takes and gives
+ * that tell these tools what the library orders. The library is built without them, so of themselves they see no
+ * order between a give and the take that has the frame next, and report races where there are none.
+ *
+ * The address is that of frame 0; frame f lies LLFREE_FRAME_BYTES * f behind it. Where neither tool is at work the
+ * calls do what those of llfree.h do, with the same answers.
+ *  - ThreadSanitizer, helgrind, DRD: what a thread does before it gives a frame happens before what the next one
+ *    that takes it does, frame by frame and no more: a use behind the give is still a race.
+ *  - memcheck: memory that is given may not be touched until it is taken, and is undefined then. Before its first
+ *    give it is what the program made of it.
+ * A give is told before it is made, since afterwards the next one may have the frames; so what a give that is
+ * refused was told stays told. A split needs no telling, nor does llfree_plain, whose calls are in an order. */
+#ifndef LLFREE_TSAN_H
+#define LLFREE_TSAN_H
+
+#include "llfree.h"
+
+#if defined __SANITIZE_THREAD__
+#define LLFREE_TELLS_TSAN 1
+#elif defined __has_feature
+#if __has_feature(thread_sanitizer)
+#define LLFREE_TELLS_TSAN 1
+#endif
+#endif
+#ifdef LLFREE_TELLS_TSAN
+#include <sanitizer/tsan_interface.h>
+#endif
+
+/* Outside of valgrind its requests cost some instructions; with NVALGRIND, which is its own name, none are made. */
+#if defined __has_include && !defined NVALGRIND
+#if __has_include(<valgrind/helgrind.h>) && __has_include(<valgrind/drd.h>) && __has_include(<valgrind/memcheck.h>)
+#define LLFREE_TELLS_VALGRIND 1
+#include <valgrind/helgrind.h>
+#include <valgrind/drd.h>
+#include <valgrind/memcheck.h>
+#endif
+#endif
+
+#ifdef __cplusplus
+extern "C" {
+#endif
+
+#define LLFREE_FRAME_BYTES 4096
+
+/* Tells that this block was just taken, or is about to be given; nothing of what is no block of the memory. */
+static inline void llfree_tell(llfree_core *handle, void *address, uint32_t frame, uint8_t order, bool is_taken)
+{
+    uint32_t frames = llfree_frames(handle), count = order < 10 ? (uint32_t)1 << order : 0;
+
+    if (frame >= frames || count > frames - frame)
+        return;
+#ifdef LLFREE_TELLS_TSAN
+    for (uint32_t i = 0; i < count; i++) {
+        void *at = (char *)address + (size_t)LLFREE_FRAME_BYTES * (frame + i);
+        if (is_taken)
+            __tsan_acquire(at);
+        else
+            __tsan_release(at);
+    }
+#endif
+#ifdef LLFREE_TELLS_VALGRIND
+    if (RUNNING_ON_VALGRIND) {
+        char *from = (char *)address + (size_t)LLFREE_FRAME_BYTES * frame;
+        size_t bytes = (size_t)LLFREE_FRAME_BYTES * count;
+        int helgrind = is_taken ? _VG_USERREQ__HG_USERSO_RECV_POST : _VG_USERREQ__HG_USERSO_SEND_PRE;
+        int drd = is_taken ? VG_USERREQ__DRD_ANNOTATE_HAPPENS_AFTER : VG_USERREQ__DRD_ANNOTATE_HAPPENS_BEFORE;
+        if (!is_taken)
+            (void)VALGRIND_MAKE_MEM_NOACCESS(from, bytes);
+        for (char *at = from; at < from + bytes; at += LLFREE_FRAME_BYTES) {
+            VALGRIND_DO_CLIENT_REQUEST_STMT(helgrind, at, 0, 0, 0, 0);
+            VALGRIND_DO_CLIENT_REQUEST_STMT(drd, at, 0, 0, 0, 0);
+        }
+        if (is_taken)
+            (void)VALGRIND_MAKE_MEM_UNDEFINED(from, bytes);
+    }
+#endif
+    (void)address;
+    (void)is_taken;
+}
+
+/* llfree_take. */
+LLFREE_NODISCARD
+static inline enum llfree_status llfree_take_told(llfree_core *handle, void *address, uint8_t order,
+                                                  uint32_t *frame)
+{
+    enum llfree_status status = llfree_take(handle, order, frame);
+
+    if (status == LLFREE_OK)
+        llfree_tell(handle, address, *frame, order, true);
+    return status;
+}
+
+/* llfree_give. */
+static inline enum llfree_status llfree_give_told(llfree_core *handle, void *address, uint32_t frame,
+                                                  uint8_t order)
+{
+    llfree_tell(handle, address, frame, order, false);
+    return llfree_give(handle, frame, order);
+}
+
+/* llfree_take_block. */
+LLFREE_NODISCARD
+static inline enum llfree_status llfree_take_block_told(llfree_core *handle, void *address, uint8_t order,
+                                                        llfree_block *block)
+{
+    enum llfree_status status = llfree_take_block(handle, order, block);
+
+    if (status == LLFREE_OK)
+        llfree_tell(handle, address, block->frame, block->order, true);
+    return status;
+}
+
+/* llfree_give_block. */
+static inline enum llfree_status llfree_give_block_told(llfree_core *handle, void *address, llfree_block *block)
+{
+    if (block->live)
+        llfree_tell(handle, address, block->frame, block->order, false);
+    return llfree_give_block(handle, block);
+}
+
+#ifdef __cplusplus
+}
+#endif
+
+#endif
