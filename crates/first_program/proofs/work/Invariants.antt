@@ -1,5 +1,5 @@
-use Rattle.core_frames.specs.Cores.{IsCoreOf}
+use Rattle.core_frames.specs.Cores.{IsNewCore}
 use Rattle.first_program.proofs.work.Given as goal
 
 abbrev pub invariant-loop-i : goal.invariant-loop-i
-invariant-loop-i l = IsCoreOf l.allocator l.core
+invariant-loop-i l = IsNewCore l.allocator l.core
