@@ -1,0 +1,153 @@
+-- Zones are opened, one after another.
+use Rattle.std.proofs.Common.{◌≡◌, ℕ, ◌+◌, ◌<◌, ◌≤◌, List, [], ◌∷◌, ◌++◌, length, slice_index_or, refl, sym, ◌∙◌, ap, subst, arith, inl, inr, ◌%◌}
+use Rattle.std.specs.List.{All}
+use Rattle.frame_model.specs.declared.key.Key.{Key}
+use Rattle.std.proofs.lemmas.Bool.{cases_lt}
+use Rattle.std.proofs.lemmas.List.{get_or_append_left, get_or_push, length_push, get_or_default}
+use Rattle.core_frames.specs.declared.allocator.Allocator.{Allocator}
+use Rattle.core_frames.specs.declared.allocator.Core.{Core}
+use Rattle.core_frames.specs.Cores.{memory_of, IsNewCore, IsOpened}
+use Rattle.frame_zones.specs.Sizes.{AreLaidOut}
+use Rattle.frame_zones.specs.Spans.{end_of, memory_of_span, MayComeAfter, MayBeZones, HoldsLawful}
+use Rattle.frame_zones.specs.Openings.{AreNewCoresIn, IsLonger, IsAt, AreAt, AreDealt, IsBegun, IsNewIn, AreOpened}
+use Rattle.frame_zones.specs.Zones.{zone_count}
+use Rattle.frame_zones.specs.declared.spans.Span.{Span}
+use Rattle.frame_zones.specs.declared.zones.Zones.{Zones}
+use Rattle.frame_zones.specs.declared.zones.ZoneCore.{ZoneCore}
+use Rattle.frame_zones.proofs.Lying.{one_at, ascending}
+
+some_of : {X : Type 0} (xs : List X) → 0 < length xs → X
+some_of [] within = absurd (omega (arith, within))
+some_of (x ∷ xs) within = x
+
+-- so many zones were opened, the first ones of the spans
+pub record IsOpening (total cores : ℕ) (spans : List Span) (zones : List Allocator) (firsts : List ℕ)
+    (all : List ZoneCore) : Type 0 where
+  pub are_at : AreAt spans firsts zones
+  pub count : length firsts ≡ length zones
+  pub as_many : length all ≡ cores
+  pub homes : (k : ℕ) (c : ZoneCore) → k < length all → (slice_index_or all k c).home < total
+  pub each : (k : ℕ) (c : ZoneCore) → k < length all → AreNewCoresIn zones (slice_index_or all k c)
+
+pub opening_none : (total cores : ℕ) (spans : List Span) (all : List ZoneCore) → length all ≡ cores
+    → All (IsBegun total) all → IsOpening total cores spans [] [] all
+opening_none total cores spans all count begun = record {
+  are_at = λ z s a within. absurd (omega (arith, within));
+  count = omega arith;
+  as_many = count;
+  homes = λ k c within. (begun k c within).1;
+  each = λ k c within. record {
+    count = ap length (begun k c within).0;
+    each = λ z a x none. absurd (omega (arith, none));
+  };
+}
+
+-- an item of a list with one more at its end
+more_at : {A B : Type 0} (P : A → B → Type 0) (xs : List A) (ys : List B) (x : A) (y : B) → length ys ≡ length xs
+    → ((z : ℕ) (d : A) (e : B) → z < length xs → P (slice_index_or xs z d) (slice_index_or ys z e)) → P x y
+    → (z : ℕ) (d : A) (e : B) → z < length (xs ++ x ∷ [])
+    → P (slice_index_or (xs ++ x ∷ []) z d) (slice_index_or (ys ++ y ∷ []) z e)
+more_at {A} {B} P xs ys x y same before last z d e within =
+    elim (cases_lt z (length xs)) as (λ _. P (slice_index_or (xs ++ x ∷ []) z d) (slice_index_or (ys ++ y ∷ []) z e)) [
+      | inl below ↦
+          subst (λ (u : A). P u (slice_index_or (ys ++ y ∷ []) z e)) (sym (get_or_append_left xs (x ∷ []) d z below))
+          (subst (λ (v : B). P (slice_index_or xs z d) v)
+          (sym (get_or_append_left ys (y ∷ []) e z (subst (λ n. z < n) (sym same) below))) (before z d e below))
+      | inr past ↦
+          let at : length xs ≡ z = omega (arith, past, within, length_push xs x) in
+          subst (λ (u : A). P u (slice_index_or (ys ++ y ∷ []) z e)) (sym (get_or_push xs x d z at))
+          (subst (λ (v : B). P x v) (sym (get_or_push ys y e z (same ∙ at))) last)
+    ]
+
+pub opening_one : (total cores : ℕ) (spans : List Span) (zones : List Allocator) (firsts : List ℕ)
+    (all new : List ZoneCore) (s : Span) (a : Allocator) (parts : List Core)
+    → IsOpening total cores spans zones firsts all
+    → IsOpened (memory_of_span s) a parts → HoldsLawful s → s ≡ slice_index_or spans (length zones) s
+    → length zones < length spans → length parts ≡ length all → AreDealt all parts new
+    → IsOpening total cores spans (zones ++ a ∷ []) (firsts ++ s.first ∷ []) new
+opening_one total cores spans zones firsts all new s a parts was opened lawful is fewer same dealt = record {
+  are_at = λ z t b within.
+      elim (cases_lt z (length zones)) as (λ _. IsAt (slice_index_or spans z t) (slice_index_or (firsts ++ s.first ∷ []) z 0) (slice_index_or (zones ++ a ∷ []) z b)) [
+        | inl below ↦
+            subst (λ n. IsAt (slice_index_or spans z t) n (slice_index_or (zones ++ a ∷ []) z b))
+            (sym (get_or_append_left firsts (s.first ∷ []) 0 z (subst (λ n. z < n) (sym was.count) below)))
+            (subst (λ (e : Allocator). IsAt (slice_index_or spans z t) (slice_index_or firsts z 0) e)
+            (sym (get_or_append_left zones (a ∷ []) b z below)) (was.are_at z t b below))
+        | inr past ↦
+            let at : length zones ≡ z = omega (arith, past, within, length_push zones a) in
+            let here : s ≡ slice_index_or spans z t =
+            is ∙ get_or_default spans (length zones) s t fewer ∙ ap (λ i. slice_index_or spans i t) at in
+            subst (λ n. IsAt (slice_index_or spans z t) n (slice_index_or (zones ++ a ∷ []) z b))
+            (sym (get_or_push firsts s.first 0 z (was.count ∙ at)))
+            (subst (λ (e : Allocator). IsAt (slice_index_or spans z t) s.first e) (sym (get_or_push zones a b z at))
+            (subst (λ (u : Span). IsAt u s.first a) here
+            (record { first_frame = refl; memory = opened.memory; is_key = opened.is_key; ranges = lawful })))
+      ];
+  count = length_push firsts s.first ∙ ap (λ n. n + 1) was.count ∙ sym (length_push zones a);
+  as_many = dealt.count ∙ was.as_many;
+  homes = λ k c within.
+      let here = subst (λ n. k < n) dealt.count within in
+      subst (λ h. h < total) (sym (dealt.each k c (some_of parts (omega (arith, here, same))) here).home) (was.homes k c here);
+  each = λ k c within.
+      let here = subst (λ n. k < n) dealt.count within in
+      let old : ZoneCore = slice_index_or all k c in
+      let part : Core = slice_index_or parts k (some_of parts (omega (arith, here, same))) in
+      let longer : IsLonger old part (slice_index_or new k c) = dealt.each k c (some_of parts (omega (arith, here, same))) here in
+      let before : AreNewCoresIn zones old = was.each k c here in
+      record {
+        count = ap length longer.items ∙ length_push old.cores.items part ∙ ap (λ n. n + 1) before.count ∙ sym (length_push zones a);
+        each = λ z b x z-within. subst (λ (l : List Core). IsNewCore (slice_index_or (zones ++ a ∷ []) z b) (slice_index_or l z x))
+            (sym longer.items)
+            (more_at IsNewCore zones old.cores.items a part before.count before.each
+            (opened.each k (some_of parts (omega (arith, here, same))) (subst (λ n. k < n) (sym same) here))
+            z b x z-within);
+      };
+}
+
+-- all zones lie as the spans do
+pub laid_out : (total cores : ℕ) (spans : List Span) (zones : List Allocator) (firsts : List ℕ)
+    (all : List ZoneCore) → MayBeZones cores spans → IsOpening total cores spans zones firsts all
+    → length zones ≡ length spans → AreLaidOut zones firsts
+laid_out total cores spans zones firsts all may was whole =
+    let d : Span = some_of spans (omega (arith, may.some)) in
+    let follows : (i : ℕ) → i < length zones → MayComeAfter cores 0 (slice_index_or spans i d) =
+    λ i within. one_at cores 0 spans i d (subst (λ n. i < n) whole within) may.apart in
+    record {
+      few = omega (arith, whole, may.few);
+      count = was.count;
+      aligned = λ i within.
+          let a : Allocator = some_of zones (omega (arith, within)) in
+          subst (λ n. n % 512 ≡ 0) (sym (was.are_at i d a within).first_frame) (follows i within).aligned;
+      inside = λ i a within.
+          let at = was.are_at i d a within in
+          omega (arith, at.first_frame, ap (λ (k : Key). k.children) at.memory, (follows i within).inside);
+      ascend = λ i j a less within.
+          let at = was.are_at i d a (omega (arith, less, within)) in
+          omega (
+            arith,
+            at.first_frame,
+            ap (λ (k : Key). k.children) at.memory,
+            (was.are_at j d a within).first_frame,
+            ascending cores 0 spans i j d d less (subst (λ n. j < n) whole within) may.apart,
+          );
+    }
+
+pub opening_all : (zs : Zones) (cores : ℕ) (spans : List Span) (all : List ZoneCore)
+    → MayBeZones cores spans → IsOpening (length spans) cores spans zs.zones.items zs.firsts.items all
+    → zone_count zs ≡ length spans → AreOpened cores spans zs all
+opening_all zs cores spans all may was count = record {
+  lawful = may;
+  zones = count;
+  are_at = was.are_at;
+  count = was.as_many;
+  each = λ k c within.
+      let new : AreNewCoresIn zs.zones.items (slice_index_or all k c) = was.each k c within in
+      record {
+        are_cores = record {
+          count = new.count;
+          home = subst (λ n. (slice_index_or all k c).home < n) (sym count) (was.homes k c within);
+          each = λ z a x z-within. (new.each z a x z-within).is_core;
+        };
+        each = λ z a x z-within. new.each z a x z-within;
+      };
+}

@@ -1,0 +1,15 @@
+use Rattle.std.proofs.Common.{◌≡◌, length, sym, ap, ◌∙◌}
+use Rattle.frame_zones.proofs.Parted.{parts_off, laid_less, keeps_firsts}
+use Rattle.frame_zones.proofs.zones.Zones.part_last.Goals as goal
+
+pub returns-clause-parted : goal.returns-clause-parted
+returns-clause-parted c =
+    parts_off c.args.self.zones.items c.in-Some.zone c.pop.new.self.items c.args.cores.now.items
+    c.gather-parts.result.items c.gather-parts.new.cores.items c.in-Some.ensures.items c.requires.cores
+    c.gather-parts.ensures.dealt c.gather-parts.ensures.count
+
+pub invariant_of-result : goal.invariant_of-result
+invariant_of-result c = record {
+  laid_out = laid_less c.args.self.zones.items c.pop.new.self.items c.args.self.firsts.items c.pop-2.new.self.items
+      c.in-Some.zone c.in-Some-pop._first c.in-Some.ensures.items c.in-Some-pop.ensures.items c.args.self.laid_out;
+}

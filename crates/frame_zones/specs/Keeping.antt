@@ -1,0 +1,24 @@
+-- What a core of all zones keeps.
+use Rattle.std.specs.Prelude.{◌≡◌, ℕ, Contains}
+use Rattle.frame_model.specs.declared.block.FrameBlock.{FrameBlock}
+use Rattle.frame_table.specs.Keeping.{HasKept, HasRecalled}
+use Rattle.core_frames.specs.declared.allocator.Core.{Core}
+use Rattle.core_frames.specs.Cores.{view_in, kept_by}
+use Rattle.frame_zones.specs.Zones.{core_at}
+use Rattle.frame_zones.specs.Uses.{OthersStay}
+use Rattle.frame_zones.specs.declared.zones.Zones.{Zones}
+use Rattle.frame_zones.specs.declared.zones.ZoneCore.{ZoneCore}
+
+-- the core keeps the block in this zone
+abbrev pub IsKeptIn : ℕ → FrameBlock → ZoneCore → Type 0
+IsKeptIn z b c = (x : Core) → Contains (kept_by (core_at c z x)) b
+
+-- by one move the core keeps the block in this zone, and in the others all is as before
+pub record KeepsIn (zs : Zones) (z : ℕ) (b : FrameBlock) (c d : ZoneCore) : Type 0 where
+  pub here : (x : Core) → HasKept b (view_in (core_at c z x)) (view_in (core_at d z x))
+  pub others : OthersStay zs z c d
+
+-- by one move it keeps this block of the zone once less, and in the others all is as before
+pub record RecallsIn (zs : Zones) (z : ℕ) (b : FrameBlock) (c d : ZoneCore) : Type 0 where
+  pub here : (x : Core) → HasRecalled b (view_in (core_at c z x)) (view_in (core_at d z x))
+  pub others : OthersStay zs z c d

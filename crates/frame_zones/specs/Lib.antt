@@ -1,0 +1,10 @@
+pub mod Spans
+pub mod Sizes
+pub mod Zones
+pub mod Uses
+pub mod Faults
+pub mod Laws
+pub mod Splits
+pub mod Openings
+pub mod Parting
+pub mod Keeping

@@ -1,0 +1,67 @@
+-- What an opening of zones gives.
+use Rattle.std.specs.Prelude.{◌≡◌, ◌⊎◌, ℕ, ◌<◌, ◌++◌, ◌∷◌, List, [], length, slice_index_or}
+use Rattle.std.specs.List.{All}
+use Rattle.frame_words.specs.declared.fault.Fault.{Fault}
+use Rattle.frame_words.specs.declared.fault.Fault.TheVariants.{BadRange, NoMemory}
+use Rattle.frame_core.specs.Key.{IsKey}
+use Rattle.core_frames.specs.declared.allocator.Allocator.{Allocator}
+use Rattle.core_frames.specs.declared.allocator.Core.{Core}
+use Rattle.core_frames.specs.Cores.{memory_of, IsNewCore}
+use Rattle.frame_zones.specs.Spans.{memory_of_span, MayBeZones, HoldsLawful}
+use Rattle.frame_zones.specs.Zones.{zone_count, first_frame_of, zone_at, AreCoresOf, InEach}
+use Rattle.frame_zones.specs.declared.spans.Span.{Span}
+use Rattle.frame_zones.specs.declared.zones.Zones.{Zones}
+use Rattle.frame_zones.specs.declared.zones.ZoneCore.{ZoneCore}
+
+-- a core of each of these allocators, in order and as an opening gives it
+pub record AreNewCoresIn (zones : List Allocator) (c : ZoneCore) : Type 0 where
+  pub count : length c.cores.items ≡ length zones
+  pub each : (z : ℕ) (a : Allocator) (x : Core) → z < length zones
+      → IsNewCore (slice_index_or zones z a) (slice_index_or c.cores.items z x)
+
+-- the core got one part more
+pub record IsLonger (c : ZoneCore) (part : Core) (d : ZoneCore) : Type 0 where
+  pub items : d.cores.items ≡ c.cores.items ++ part ∷ []
+  pub home : d.home ≡ c.home
+
+-- each core got its part
+pub record AreDealt (old : List ZoneCore) (parts : List Core) (new : List ZoneCore) : Type 0 where
+  pub count : length new ≡ length old
+  pub each : (k : ℕ) (c : ZoneCore) (x : Core) → k < length old
+      → IsLonger (slice_index_or old k c) (slice_index_or parts k x) (slice_index_or new k c)
+
+-- no part yet, and a home among so many zones
+abbrev pub IsBegun : ℕ → ZoneCore → Type 0
+IsBegun zones c = (c.cores.items ≡ []) × (c.home < zones)
+
+-- the allocator, at its first frame, is of the memory of the span, which is lawful
+pub record IsAt (s : Span) (first : ℕ) (a : Allocator) : Type 0 where
+  pub first_frame : first ≡ s.first
+  pub memory : memory_of a ≡ memory_of_span s
+  pub is_key : IsKey (memory_of_span s)
+  pub ranges : HoldsLawful s
+
+-- the allocators, at their first frames, are of the memories of the spans
+abbrev pub AreAt : List Span → List ℕ → List Allocator → Type 0
+AreAt spans firsts zones = (z : ℕ) (s : Span) (a : Allocator) → z < length zones
+    → IsAt (slice_index_or spans z s) (slice_index_or firsts z 0) (slice_index_or zones z a)
+
+-- a core of all zones as an opening gives it: with nothing lent and nothing kept in any of them
+pub record IsNewIn (zs : Zones) (c : ZoneCore) : Type 0 where
+  pub are_cores : AreCoresOf zs c
+  pub each : InEach zs (λ a x _. IsNewCore a x) c c
+
+-- the zones are of these spans, and these are their cores
+pub record AreOpened (cores : ℕ) (spans : List Span) (zs : Zones) (cs : List ZoneCore) : Type 0 where
+  pub lawful : MayBeZones cores spans
+  pub zones : zone_count zs ≡ length spans
+  pub are_at : AreAt spans zs.firsts.items zs.zones.items
+  pub count : length cs ≡ cores
+  pub each : All (IsNewIn zs) cs
+
+-- why an opening was refused: zones may not lie so, or one may not hold back what it is to; or there
+-- is not enough memory
+abbrev pub AreUnopenedFor : ℕ → List Span → Fault → Type 0
+AreUnopenedFor cores spans fault =
+    ((fault ≡ BadRange) × ¬ (MayBeZones cores spans × All HoldsLawful spans))
+    ⊎ ((fault ≡ NoMemory) × MayBeZones cores spans)

@@ -1,0 +1,90 @@
+-- What takes and gives through cores of all zones leave.
+use Rattle.std.specs.Prelude.{◌≡◌, ℕ, ◌+◌, ◌*◌, ◌<◌, ◌≤◌, Result, IfOk, IfErr}
+use Rattle.frame_words.specs.declared.fault.TakeFault.{TakeFault}
+use Rattle.frame_words.specs.declared.fault.TakeFault.TheVariants.{BadOrder, NoBlock, Contended}
+use Rattle.core_frames.specs.declared.allocator.Allocator.{Allocator}
+use Rattle.core_frames.specs.declared.allocator.Core.{Core}
+use Rattle.frame_core.specs.Key.{tree_count}
+use Rattle.core_frames.specs.Cores.{memory_of, kept_by, lent_by, moves_by, losses_by}
+use Rattle.core_frames.specs.Uses.{HasTaken, HasMovedForEach, IsRefusedFor, HasGiven}
+use Rattle.frame_zones.specs.Zones.{zone_count, zone_at, core_at, InEach, IsOutIn}
+use Rattle.frame_zones.specs.declared.zones.Zones.{Zones}
+use Rattle.frame_zones.specs.declared.zones.ZoneCore.{ZoneCore}
+use Rattle.frame_zones.specs.declared.block.ZoneBlock.{ZoneBlock}
+
+-- the core of every other zone is as before
+abbrev pub OthersStay : Zones → ℕ → ZoneCore → ZoneCore → Type 0
+OthersStay zs z c d = (k : ℕ) (x : Core) → k < zone_count zs → ¬ (k ≡ z)
+    → core_at d k x ≡ core_at c k x
+
+-- a block of the zone was given
+pub record GivesIn (zs : Zones) (z : ℕ) (c d : ZoneCore) : Type 0 where
+  pub here : (x : Core) → HasGiven (core_at c z x) (core_at d z x)
+  pub others : OthersStay zs z c d
+
+-- what the core keeps is as before
+abbrev pub KeepsAll : Allocator → Core → Core → Type 0
+KeepsAll _ x y = kept_by y ≡ kept_by x
+
+-- as many blocks are lent through the core as before
+abbrev pub LendsAsMany : Allocator → Core → Core → Type 0
+LendsAsMany _ x y = lent_by y ≡ lent_by x
+
+-- the most moves of a take in this zone
+abbrev pub most_moves_in : Allocator → ℕ
+most_moves_in a = 2200 * tree_count (memory_of a) + 3 * (memory_of a).cores + 800
+
+-- at most so many moves were made
+abbrev pub MovesWithin : Allocator → Core → Core → Type 0
+MovesWithin a x y = moves_by y ≤ moves_by x + most_moves_in a
+
+-- at most so many moves were made in this zone
+abbrev pub MovesAtMost : ℕ → ℕ → ZoneCore → ZoneCore → Type 0
+MovesAtMost n z c d = (x : Core) → moves_by (core_at d z x) ≤ moves_by (core_at c z x) + n
+
+-- no exchange was lost
+abbrev pub LosesNone : Allocator → Core → Core → Type 0
+LosesNone _ x y = losses_by y ≡ losses_by x
+
+-- an exchange was lost in this zone
+abbrev pub LosesIn : ZoneCore → ZoneCore → ℕ → Type 0
+LosesIn c d z = (x : Core) → losses_by (core_at c z x) < losses_by (core_at d z x)
+
+-- a take in this zone alone
+pub record TakesIn (zs : Zones) (z n : ℕ) (answer : Result ZoneBlock TakeFault) (c d : ZoneCore)
+    : Type 0 where
+  pub kept : (x : Core) → kept_by (core_at d z x) ≡ kept_by (core_at c z x)
+  pub others : OthersStay zs z c d
+  pub moves : (a : Allocator) (x : Core) → MovesWithin (zone_at zs z a) (core_at c z x) (core_at d z x)
+  pub ok : IfOk answer (λ b. (b.zone ≡ z) × ((a : Allocator) (x : Core)
+      → HasTaken (zone_at zs z a) n b.block (core_at c z x) (core_at d z x)))
+  pub err : IfErr answer (λ fault. (a : Allocator) (x : Core)
+      → IsRefusedFor (zone_at zs z a) n (core_at c z x) (core_at d z x) fault
+      × (lent_by (core_at d z x) ≡ lent_by (core_at c z x)))
+
+-- a block of the order is out in the zone that it names, and one block more is lent there and in no
+-- other zone
+pub record HasTakenIn (zs : Zones) (n : ℕ) (b : ZoneBlock) (c d : ZoneCore) : Type 0 where
+  pub is_out : IsOutIn zs b
+  pub here : (a : Allocator) (x : Core)
+      → HasTaken (zone_at zs b.zone a) n b.block (core_at c b.zone x) (core_at d b.zone x)
+  pub others : (k : ℕ) (x : Core) → k < zone_count zs → ¬ (k ≡ b.zone)
+      → lent_by (core_at d k x) ≡ lent_by (core_at c k x)
+
+-- why a take of an order was refused: there is none of that order, and no move was made; or each
+-- tree of each zone was looked at, and no exchange was lost in this call, or one was
+abbrev pub AreRefusedFor : Zones → ℕ → ZoneCore → ZoneCore → TakeFault → Type 0
+AreRefusedFor zs n c d BadOrder = (9 < n) × (d ≡ c)
+AreRefusedFor zs n c d NoBlock =
+    InEach zs (λ a. HasMovedForEach a n) c d × InEach zs LosesNone c d
+AreRefusedFor zs n c d Contended =
+    InEach zs (λ a. HasMovedForEach a n) c d × ((z : ℕ) × (z < zone_count zs) × LosesIn c d z)
+
+-- a take of a block of the order: one is out and lent, or it is refused and nothing is; what the
+-- cores keep is as before
+pub record TakesAmong (zs : Zones) (n : ℕ) (answer : Result ZoneBlock TakeFault) (c d : ZoneCore)
+    : Type 0 where
+  pub kept : InEach zs KeepsAll c d
+  pub moves : InEach zs MovesWithin c d
+  pub ok : IfOk answer (λ b. HasTakenIn zs n b c d)
+  pub err : IfErr answer (λ fault. AreRefusedFor zs n c d fault × InEach zs LendsAsMany c d)

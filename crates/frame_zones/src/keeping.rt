@@ -1,0 +1,43 @@
+//! Blocks of zones that a core keeps.
+
+ghost use Rattle.std.specs.Prelude.{◌≡◌, ◌<◌};
+ghost use Rattle.frame_core.specs.Block.{block as block_at};
+ghost use Rattle.frame_table.specs.Seats.{block_in};
+ghost use Rattle.frame_zones.specs.Keeping.{IsKeptIn, KeepsIn, RecallsIn};
+ghost use Rattle.frame_zones.specs.Zones.{zone_count, AreCoresOf, StayCoresOf, IsOutIn};
+
+use crate::block::ZoneBlock;
+use crate::zones::{ZoneCore, Zones};
+
+impl Zones {
+    /// The core keeps the block. The answer is its zone, its first frame counted from the zone's, and
+    /// its order.
+    pub fn keep(&self, core: &mut ZoneCore, block: ZoneBlock) -> (u32, u32, u8)
+        requires core { AreCoresOf self.now core.old }
+        requires block { IsOutIn self.now block }
+        ensures core { StayCoresOf self.now core.old core.new }
+        ensures keeps { KeepsIn self.now block.zone (block_in block.block) core.old core.new }
+        ensures zone { result.0 ≡ block.zone }
+        ensures answer { block_at result.1 result.2 ≡ block_in block.block }
+    {
+        let ZoneBlock { zone, block } = block;
+        let place = zone as usize;
+        let (frame, order) = self.zones[place].keep(&mut core.cores[place], block);
+        (zone, frame, order)
+    }
+
+    /// The block that the core keeps in this zone, which it keeps no more.
+    pub fn recall(&self, core: &mut ZoneCore, zone: u32, frame: u32, order: u8) -> ZoneBlock
+        requires core { AreCoresOf self.now core.old }
+        requires zone { zone < zone_count self.now }
+        requires kept { IsKeptIn zone (block_at frame order) core.old }
+        ensures core { StayCoresOf self.now core.old core.new }
+        ensures recalls { RecallsIn self.now zone (block_at frame order) core.old core.new }
+        ensures block { (result.zone ≡ zone) × (block_in result.block ≡ block_at frame order) }
+        ensures out { IsOutIn self.now result }
+    {
+        let place = zone as usize;
+        let block = self.zones[place].recall(&mut core.cores[place], frame, order);
+        ZoneBlock { zone, block }
+    }
+}

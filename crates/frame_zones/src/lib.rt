@@ -1,0 +1,19 @@
+//! One memory made of several allocators, its zones, and used as one.
+#![tactic(auto)]
+
+mod block;
+mod giving;
+mod keeping;
+mod laws;
+mod numbers;
+mod opening;
+mod parting;
+mod spans;
+mod splitting;
+mod taking;
+mod zones;
+
+pub use block::ZoneBlock;
+pub use laws::blocks_lie_in_zones;
+pub use spans::Span;
+pub use zones::{ZoneCore, Zones};

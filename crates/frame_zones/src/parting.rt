@@ -1,0 +1,77 @@
+//! Parting zones off, the last first, so that each is closed with its own cores.
+
+ghost use Rattle.std.specs.Prelude.{◌≡◌, ◌<◌, ◌≤◌, [], IfOk, IfErr, OnErr, vec_len, vec_capacity, length};
+ghost use Rattle.std.specs.List.{All};
+ghost use Rattle.frame_zones.specs.Openings.{IsLonger, AreDealt};
+ghost use Rattle.frame_zones.specs.Parting.{HasPart, HasCoresIn, PartsOff, KeepsFirsts};
+ghost use Rattle.frame_zones.specs.Zones.{zone_count};
+
+use crate::zones::{ZoneCore, Zones};
+use core_frames::{Allocator, Core};
+use std::alloc::Global;
+
+impl Zones {
+    /// How many zones there are.
+    pub fn count(&self) -> usize
+        ensures { result ≡ zone_count self.now }
+    {
+        self.zones.len()
+    }
+
+    /// Parts the last zone off: its allocator and its cores, in order, which close it. For want of
+    /// memory the zones are handed back, and nothing changes.
+    pub fn part_last(
+        self,
+        alloc: Global,
+        cores: &mut Vec<ZoneCore>,
+    ) -> Result<(Zones, Allocator, Vec<Core>), Zones>
+        requires some { 0 < zone_count self }
+        requires cores { All (HasCoresIn self.zones.items) cores.old.items }
+        ensures parted { IfOk result (λ r. PartsOff self.zones.items r.1 r.0.zones.items
+            cores.old.items r.2.items cores.new.items) }
+        ensures firsts { IfOk result (λ r. KeepsFirsts self.firsts.items r.0.firsts.items) }
+        ensures same { IfErr result (λ zones. zones ≡ self) }
+        ensures same_cores { OnErr result (cores.new ≡ cores.old) }
+    {
+        let Ok(parts) = Vec::with_capacity(alloc, cores.len()) else {
+            return Err(self);
+        };
+        let Zones {
+            mut zones,
+            mut firsts,
+            ..
+        } = self;
+        let Some(zone) = zones.pop() else {
+            unreachable!()
+        };
+        let Some(_first) = firsts.pop() else {
+            unreachable!()
+        };
+        let parts = gather(cores, parts);
+        Ok((Zones { zones, firsts }, zone, parts))
+    }
+}
+
+// The last part of each core, in order.
+fn gather(cores: &mut Vec<ZoneCore>, mut parts: Vec<Core>) -> Vec<Core>
+    requires empty { parts.items ≡ [] }
+    requires room { vec_len cores.old ≤ vec_capacity parts }
+    requires some { All HasPart cores.old.items }
+    ensures dealt { AreDealt cores.new.items result.items cores.old.items }
+    ensures count { length result.items ≡ length cores.new.items }
+{
+    for number in 0..cores.len() {
+        parts.push_reserved(shorten(&mut cores[number]));
+    }
+    parts
+}
+
+fn shorten(core: &mut ZoneCore) -> Core
+    requires { HasPart core.old }
+    ensures { IsLonger core.new result core.old }
+{
+    let Some(part) = core.cores.pop() else {
+        unreachable!()
+    };
+    part
+}

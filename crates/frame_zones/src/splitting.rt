@@ -1,0 +1,36 @@
+//! Splits of blocks of zones.
+
+ghost use Rattle.frame_zones.specs.Zones.{AreCoresOf, StayCoresOf, IsOutIn};
+ghost use Rattle.frame_zones.specs.Splits.{SplitsIn};
+ghost use Rattle.frame_zones.specs.Uses.{MovesAtMost};
+
+use crate::block::ZoneBlock;
+use crate::zones::{ZoneCore, Zones};
+
+impl Zones {
+    /// The halves of the block, the lower first. A block of order 0 has none, and is handed back.
+    pub fn split(
+        &self,
+        core: &mut ZoneCore,
+        block: ZoneBlock,
+    ) -> Result<(ZoneBlock, ZoneBlock), ZoneBlock>
+        requires core { AreCoresOf self.now core.old }
+        requires block { IsOutIn self.now block }
+        ensures core { StayCoresOf self.now core.old core.new }
+        ensures splits { SplitsIn self.now block result core.old core.new }
+        ensures moves { MovesAtMost 12 block.zone core.old core.new }
+    {
+        let ZoneBlock { zone, block } = block;
+        let place = zone as usize;
+        match self.zones[place].split(&mut core.cores[place], block) {
+            Ok((first, second)) => Ok((
+                ZoneBlock { zone, block: first },
+                ZoneBlock {
+                    zone,
+                    block: second,
+                },
+            )),
+            Err(block) => Err(ZoneBlock { zone, block }),
+        }
+    }
+}

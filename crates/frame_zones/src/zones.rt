@@ -1,0 +1,22 @@
+//! The zones of a memory, and a core of all of them.
+
+ghost use Rattle.frame_zones.specs.Sizes.{AreLaidOut};
+
+use core_frames::{Allocator, Core};
+
+/// Gives out blocks of one memory, which may have more frames than one allocator, and holes.
+#[derive(Drop)]
+pub struct Zones {
+    pub(crate) zones: Vec<Allocator>,
+    // The first frame of each.
+    pub(crate) firsts: Vec<u64>,
+    pub(crate) ghost laid_out: { AreLaidOut zones.items firsts.items },
+}
+
+/// What one thread takes and gives through: a core of each zone.
+#[derive(Drop)]
+pub struct ZoneCore {
+    pub(crate) cores: Vec<Core>,
+    // The zone where takes begin.
+    pub(crate) home: u32,
+}
