@@ -1,7 +1,7 @@
 -- What takes and gives find and leave where nobody else steps.
 use Rattle.std.specs.Prelude.{◌≡◌, ◌≢◌, ◌⊎◌, ℕ, ◌+◌, ◌/◌, ◌%◌, ◌<◌, ◌≤◌, List, Option, Some, IfSome, Bool, MatchBool, slice_index}
 use Rattle.frame_words.specs.Geometry.{child_frames}
-use Rattle.frame_words.specs.Runs.{IsClearRun, HasNoClearRun}
+use Rattle.frame_words.specs.Runs.{word_bits, IsClearRun, HasNoClearRun}
 use Rattle.frame_model.specs.declared.block.FrameBlock.{FrameBlock}
 use Rattle.frame_model.specs.declared.key.Key.{Key}
 use Rattle.frame_model.specs.Steps.{words_after}
@@ -10,7 +10,7 @@ use Rattle.frame_core.specs.Block.{covers, small_at, whole_at}
 use Rattle.frame_core.specs.Words.{entry_place, entry_of, free_of, huge_of, bit_of, bit_word_of}
 use Rattle.frame_core.specs.Report.{held_at}
 use Rattle.frame_core.specs.Steps.{charge, claim, take_huge}
-use Rattle.low_frames.specs.Takes.{IsBlockIn, IsBlockOfTree}
+use Rattle.low_frames.specs.Takes.{child_of_word, IsBlockIn, IsBlockOfTree}
 
 -- no frame of the block is held
 abbrev pub IsFreeIn : Key → List ℕ → FrameBlock → Type 0
@@ -73,7 +73,7 @@ pub record IsClaimed (key : Key) (word bit order : ℕ) (old new : List ℕ) : T
 
 -- a run of 2 ^ order bits, clear before, is set from the bit of this frame on
 abbrev pub IsClaimedIn : Key → ℕ → ℕ → List ℕ → List ℕ → Type 0
-IsClaimedIn key frame order old new = IsClaimed key (frame / 64) (frame % 64) order old new
+IsClaimedIn key frame order old new = IsClaimed key (frame / word_bits) (frame % word_bits) order old new
 
 -- no run of 2 ^ order bits of the bit word is clear
 abbrev pub HasNoRun : Key → ℕ → ℕ → List ℕ → Type 0
@@ -81,7 +81,7 @@ HasNoRun key word order words = HasNoClearRun (bit_word_of key words word) order
 
 -- no run of 2 ^ order bits of any bit word of the child is clear
 abbrev pub HasNoRunIn : Key → ℕ → ℕ → List ℕ → Type 0
-HasNoRunIn key child order words = (word : ℕ) → word / 8 ≡ child → HasNoRun key word order words
+HasNoRunIn key child order words = (word : ℕ) → child_of_word word ≡ child → HasNoRun key word order words
 
 -- the entry of the child, which showed it free as a whole, shows a huge frame
 pub record IsTakenHuge (key : Key) (child : ℕ) (old new : List ℕ) : Type 0 where

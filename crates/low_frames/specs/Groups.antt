@@ -1,6 +1,7 @@
 -- Blocks that are whole bit words together.
 use Rattle.std.specs.Prelude.{◌≡◌, ℕ, ◌+◌, ◌*◌, ◌<◌, ◌≤◌, ◌⊎◌, List, Option, Some, IfSome, slice_index}
 use Rattle.std.specs.List.{All}
+use Rattle.frame_words.specs.Runs.{word_bits, child_words}
 use Rattle.frame_model.specs.declared.block.FrameBlock.{FrameBlock}
 use Rattle.frame_model.specs.declared.key.Key.{Key}
 use Rattle.frame_model.specs.declared.view.View.{View}
@@ -14,9 +15,9 @@ use Rattle.low_frames.specs.Alone.{Turns}
 -- the blocks hold each frame of so many bit words once, and no other frame
 pub record HoldsWords (key : Key) (blocks : List FrameBlock) (first count : ℕ) : Type 0 where
   pub are_blocks : All (IsBlock key) blocks
-  pub below : (x : ℕ) → x < 64 * first → smalls x blocks ≡ 0
-  pub inside : (x : ℕ) → 64 * first ≤ x → x < 64 * (first + count) → smalls x blocks ≡ 1
-  pub above : (x : ℕ) → 64 * (first + count) ≤ x → smalls x blocks ≡ 0
+  pub below : (x : ℕ) → x < word_bits * first → smalls x blocks ≡ 0
+  pub inside : (x : ℕ) → word_bits * first ≤ x → x < word_bits * (first + count) → smalls x blocks ≡ 1
+  pub above : (x : ℕ) → word_bits * (first + count) ≤ x → smalls x blocks ≡ 0
   pub no_wholes : (c : ℕ) → wholes c blocks ≡ 0
 
 -- so many bit words, from this one on, were clear when they were last read
@@ -43,14 +44,14 @@ HasClaimedWords child n v w = w ≡ record v {
 -- no frame of so many bit words is held
 abbrev pub AreFree : Key → List ℕ → ℕ → ℕ → Type 0
 AreFree key words first count =
-    (x : ℕ) → 64 * first ≤ x → x < 64 * (first + count) → held_at key words x ≡ 0
+    (x : ℕ) → word_bits * first ≤ x → x < word_bits * (first + count) → held_at key words x ≡ 0
 
 -- the frames of so many bit words were free, and their bits are set; every other bit and every flag
 -- is as it was
 pub record HoldsMoreWords (key : Key) (old new : List ℕ) (first count : ℕ) : Type 0 where
   pub were_free : AreFree key old first count
-  pub are_set : (x : ℕ) → 64 * first ≤ x → x < 64 * (first + count) → bit_of key new x ≡ 1
-  pub others : (x : ℕ) → x < frame_count key → (x < 64 * first) ⊎ (64 * (first + count) ≤ x)
+  pub are_set : (x : ℕ) → word_bits * first ≤ x → x < word_bits * (first + count) → bit_of key new x ≡ 1
+  pub others : (x : ℕ) → x < frame_count key → (x < word_bits * first) ⊎ (word_bits * (first + count) ≤ x)
       → bit_of key new x ≡ bit_of key old x
   pub flags : (c : ℕ) → c < key.children → huge_of new c ≡ huge_of old c
 
@@ -71,4 +72,4 @@ WhereFree key words first count P = IfSome words (λ ws. AreFree key ws first co
 -- the list has the bit words of the child
 abbrev pub AreWordsOf : Key → ℕ → List ℕ → List ℕ → Type 0
 AreWordsOf key child list words =
-    (i : ℕ) → i < 8 → slice_index list i ≡ bit_word_of key words (8 * child + i)
+    (i : ℕ) → i < child_words → slice_index list i ≡ bit_word_of key words (child_words * child + i)

@@ -1,3 +1,4 @@
+pub mod Bounds
 pub mod Takes
 pub mod Gives
 pub mod Groups

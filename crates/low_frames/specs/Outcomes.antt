@@ -1,5 +1,6 @@
 -- What takes ask, and how they may end.
 use Rattle.std.specs.Prelude.{◌≡◌, ℕ, ◌^◌, ◌<◌, ◌≤◌, [], Option, None, IfSome, IfNone, true}
+use Rattle.frame_words.specs.Geometry.{huge_order}
 use Rattle.frame_model.specs.declared.block.FrameBlock.{FrameBlock}
 use Rattle.frame_model.specs.declared.key.Key.{Key}
 use Rattle.frame_model.specs.declared.view.View.{View}
@@ -26,7 +27,7 @@ pub record MayTakeIn {T H : Type 0} (low high c n : ℕ) (m : Mover T H) : Type 
 -- nothing is in flight but what is paid: enough for a block of this order in the tree
 pub record MayTakeOf {T H : Type 0} (t n : ℕ) (m : Mover T H) : Type 0 where
   pub tree : t < tree_count m.key
-  pub order : n ≤ 9
+  pub order : n ≤ huge_order
   pub share : 0 < m.view.share
   pub charged : m.view.charged ≡ None
   pub own : m.view.own ≡ []

@@ -1,5 +1,7 @@
 -- What a take leaves of the view of the one who takes.
 use Rattle.std.specs.Prelude.{◌≡◌, ℕ, pos, ◌+◌, ◌*◌, ◌/◌, ◌^◌, ◌+ℤ◌, ◌≤◌, ◌∷◌, ◌||◌, nat_lt, List, Some}
+use Rattle.frame_words.specs.Geometry.{child_frames, huge_order, tree_children}
+use Rattle.frame_words.specs.Runs.{child_words, word_bits}
 use Rattle.frame_model.specs.declared.block.FrameBlock.{FrameBlock}
 use Rattle.frame_model.specs.declared.key.Key.{Key}
 use Rattle.frame_model.specs.declared.view.View.{View}
@@ -27,12 +29,20 @@ HasClaimedIn child frame order v w = w ≡ record v {
   lost = w.lost;
 }
 
+-- the child that a bit word belongs to
+abbrev pub child_of_word : ℕ → ℕ
+child_of_word word = word / child_words
+
+-- the tree that a bit word belongs to
+abbrev pub tree_of_word : ℕ → ℕ
+tree_of_word word = word / (tree_children * child_words)
+
 -- and the frames of a run in the bit word, charged and paid before, are in flight
 abbrev pub HasClaimed : ℕ → ℕ → ℕ → View → View → Type 0
 HasClaimed word bit order v w = w ≡ record v {
-  charged = less (word / 8) (2 ^ order) v.charged;
-  paid = less (word / 64) (2 ^ order) v.paid;
-  own = block (64 * word + bit) order ∷ v.own;
+  charged = less (child_of_word word) (2 ^ order) v.charged;
+  paid = less (tree_of_word word) (2 ^ order) v.paid;
+  own = block (word_bits * word + bit) order ∷ v.own;
   moves = w.moves;
   lost = w.lost;
 }
@@ -40,8 +50,8 @@ HasClaimed word bit order v w = w ≡ record v {
 -- and the whole child, whose frames were paid, is in flight
 abbrev pub HasTakenHuge : ℕ → View → View → Type 0
 HasTakenHuge child v w = w ≡ record v {
-  paid = less (tree_of_child child) 512 v.paid;
-  own = block (512 * child) 9 ∷ v.own;
+  paid = less (tree_of_child child) child_frames v.paid;
+  own = block (child_frames * child) huge_order ∷ v.own;
   moves = w.moves;
   lost = w.lost;
 }

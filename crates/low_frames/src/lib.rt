@@ -8,6 +8,7 @@ mod in_tree;
 mod small;
 mod wide;
 
+pub use attempts::TRIES;
 pub use gives::give_low;
 pub use huge::take_huge;
 pub use in_tree::take_in_tree;

@@ -1,5 +1,6 @@
 use Rattle.std.proofs.Common.{◌*◌}
 use Rattle.frame_core.specs.Mover.{Keeps}
+use Rattle.low_frames.specs.Bounds.{most_in_child}
 use Rattle.low_frames.specs.Takes.{Counts, IsAsBefore, StaysSure}
 use Rattle.low_frames.specs.Alone.{FindsOf}
 use Rattle.low_frames.proofs.AloneTakes.{HasNoneBelow}
@@ -11,7 +12,7 @@ invariant-loop-i g l =
     record {
       keeps : Keeps (M.at l.fn.m) (M.at l.m);
       view : IsAsBefore (M.at l.fn.m).view (M.at l.m).view;
-      counts : Counts M.is_exact (81 * l.i) (M.at l.fn.m) (M.at l.m);
+      counts : Counts M.is_exact (most_in_child * l.i) (M.at l.fn.m) (M.at l.m);
       sure : StaysSure (M.at l.fn.m) (M.at l.m);
       none : (M.at l.fn.m).is_alone → FindsOf (HasNoneBelow (M.at l.fn.m).key (8 * l.fn.tree) l.i l.fn.order)
           (M.at l.fn.m).words (M.at l.m).words;

@@ -1,5 +1,7 @@
 use Rattle.std.proofs.Common.{◌≡◌, ◌+◌, ◌*◌, length}
+use Rattle.frame_words.specs.Runs.{child_words}
 use Rattle.frame_core.specs.Mover.{Keeps}
+use Rattle.low_frames.specs.Bounds.{attempt}
 use Rattle.low_frames.specs.Takes.{Counts, IsAsBefore, StaysSure}
 use Rattle.low_frames.proofs.WideLemmas.{ReadClearGroups}
 use Rattle.low_frames.proofs.WideAlone.{IsFirstLook}
@@ -15,7 +17,7 @@ invariant-loop-i g l =
       view : IsAsBefore m.view now.view;
       seen : ReadClearGroups m.key now.read l.words l.order l.child l.count;
       size : length l.words ≡ 8;
-      counts : Counts M.is_exact (8 + 8 * (l.count * l._i)) m now;
+      counts : Counts M.is_exact (child_words + attempt * (l.count * l._i)) m now;
       look : m.is_alone → IsFirstLook m.key l.child l._i l.words m.words now.words;
       sure : l._i ≡ 0 → StaysSure m now;
     }
