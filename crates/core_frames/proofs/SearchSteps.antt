@@ -14,6 +14,7 @@ use Rattle.frame_core.specs.Words.{local_place}
 use Rattle.frame_core.specs.Steps.{Kind, place, swap_local}
 use Rattle.frame_core.specs.Moves.{place_of, Changes}
 use Rattle.frame_core.specs.Mover.{Mover, LiesInside, Keeps, Clears, Ticks, Loads, Tries, Makes, Swaps}
+use Rattle.low_frames.specs.Bounds.{attempt}
 use Rattle.low_frames.specs.Takes.{Counts, IsAsBefore, IsSure, StaysSure}
 use Rattle.low_frames.specs.Alone.{FindsOf, WordsTake, NoneIsFree}
 use Rattle.low_frames.specs.Gives.{Gives}
@@ -21,6 +22,7 @@ use Rattle.low_frames.specs.Outcomes.{TakesOut, TakesNothing, MayTakeOf, HasNoBo
 use Rattle.low_frames.proofs.TakeLemmas.{counts_none, counts_one, load_then, try_then, make_then, then_counts, wider, keeps_none}
 use Rattle.low_frames.proofs.TakeLemmas.{keeps_both, others_both, still_as_before}
 use Rattle.low_frames.proofs.Sure.{sure_none, sure_both, sure_load, sure_make}
+use Rattle.core_frames.specs.Bounds.{most_to_drain, most_in_pass}
 use Rattle.core_frames.specs.Alone.{SameFrames, KeepsFrames, IsPassedBy, IsDrained}
 use Rattle.core_frames.specs.Search.{IsBlockOf, HasLentOne, HasReserved}
 use Rattle.core_frames.specs.Searches.{GivesBy, IsKnown, HasMade, Brings, Misses, Searches, TriesTree, cleared, MayRefund, MaySearch}
@@ -273,16 +275,16 @@ module _ {T H : Type 0} {t : ℕ → ℕ} {exact : ℕ → Type 0} (ticks : Tick
 
   -- a pass over all trees that found nothing
   pub pass_brings : {a b c : Mover T H} {block_of : H → FrameBlock} {least order : ℕ} {P : List ℕ → Type 0} (n k : ℕ)
-      → n + 710 * tree_count a.key ≤ k → Brings exact n IsAsBefore (SameFrames a.key) a b
-      → Searches block_of exact least (710 * tree_count b.key) order (FindsOf P) None b c → Brings exact k IsAsBefore (SameFrames a.key) a c
+      → n + most_in_pass a.key ≤ k → Brings exact n IsAsBefore (SameFrames a.key) a b
+      → Searches block_of exact least (most_in_pass b.key) order (FindsOf P) None b c → Brings exact k IsAsBefore (SameFrames a.key) a c
   pass_brings {a} {b} {c} {P = P} n k h f s =
-      brings_both ticks IsAsBefore n (710 * tree_count b.key) k (omega (arith, h, ap tree_count f.keeps.same_key)) f
-      (missed_brings (710 * tree_count b.key) (710 * tree_count b.key) (omega arith) s (keeps_found b.key P b.words c.words))
+      brings_both ticks IsAsBefore n (most_in_pass b.key) k (omega (arith, h, ap tree_count f.keeps.same_key)) f
+      (missed_brings (most_in_pass b.key) (most_in_pass b.key) (omega arith) s (keeps_found b.key P b.words c.words))
       (before_twice a.view b.view c.view f.view s.none.view)
 
   -- a reserved tree, and one that was passed by
   pub got_brings : {a b : Mover T H} {tree least most free : ℕ} → tree < tree_count a.key → TriesTree exact tree least most (Some free) a b
-      → Brings exact 8 (HasReserved tree free) (SameFrames a.key) a b
+      → Brings exact attempt (HasReserved tree free) (SameFrames a.key) a b
   got_brings {a} {b} {tree} {least} {most} {free} inside f = record {
     keeps = f.gets.keeps;
     counts = f.gets.counts;
@@ -291,22 +293,22 @@ module _ {T H : Type 0} {t : ℕ → ℕ} {exact : ℕ → Type 0} (ticks : Tick
     alone = λ alone. reserved_keeps a.key tree free a.words b.words inside (f.gets.alone_some alone);
   }
 
-  pub passed_brings : {a b : Mover T H} {tree least most : ℕ} (k : ℕ) → 8 ≤ k → TriesTree exact tree least most None a b
+  pub passed_brings : {a b : Mover T H} {tree least most : ℕ} (k : ℕ) → attempt ≤ k → TriesTree exact tree least most None a b
       → Brings exact k IsAsBefore (SameFrames a.key) a b
   passed_brings {a} {b} {tree} {least} {most} k h f = record {
     keeps = f.gets.keeps;
-    counts = wider t exact ticks 8 k h f.gets.counts;
+    counts = wider t exact ticks attempt k h f.gets.counts;
     sure = f.gets.sure;
     view = f.gets.none;
     alone = λ alone. keeps_found a.key (IsPassedBy a.key tree least most) a.words b.words (f.gets.alone_none alone);
   }
 
   -- the drain leaves the frames as they were
-  pub drained_brings : {a b c : Mover T H} (n k : ℕ) → n + 3 * a.key.cores ≤ k → Brings exact n IsAsBefore (SameFrames a.key) a b
-      → Brings exact (3 * b.key.cores) IsAsBefore (IsDrained b.key) b c → Brings exact k IsAsBefore (SameFrames a.key) a c
+  pub drained_brings : {a b c : Mover T H} (n k : ℕ) → n + most_to_drain * a.key.cores ≤ k → Brings exact n IsAsBefore (SameFrames a.key) a b
+      → Brings exact (most_to_drain * b.key.cores) IsAsBefore (IsDrained b.key) b c → Brings exact k IsAsBefore (SameFrames a.key) a c
   drained_brings {a} {b} {c} n k h f d = record {
     keeps = keeps_both f.keeps d.keeps;
-    counts = then_counts t exact ticks n (3 * b.key.cores) k
+    counts = then_counts t exact ticks n (most_to_drain * b.key.cores) k
         (omega (arith, h, ap (λ (i : Key). i.cores) f.keeps.same_key)) f.counts d.counts;
     sure = sure_both f.sure d.sure;
     view = before_twice a.view b.view c.view f.view d.view;
@@ -317,13 +319,13 @@ module _ {T H : Type 0} {t : ℕ → ℕ} {exact : ℕ → Type 0} (ticks : Tick
 
   -- a pass over all trees that found a block
   pub pass_out : {a b c : Mover T H} {block_of : H → FrameBlock} {held : H} {order : ℕ} {R : Option (List ℕ) → Option (List ℕ) → Type 0}
-      {least : ℕ} (more : ℕ) (Q : Option (List ℕ) → Option (List ℕ) → Type 0) (n k : ℕ) → n + 710 * tree_count a.key ≤ k
+      {least : ℕ} (more : ℕ) (Q : Option (List ℕ) → Option (List ℕ) → Type 0) (n k : ℕ) → n + most_in_pass a.key ≤ k
       → Brings exact n IsAsBefore (SameFrames a.key) a b
-      → Searches block_of exact least (710 * tree_count b.key) order R (Some held) b c
+      → Searches block_of exact least (most_in_pass b.key) order R (Some held) b c
       → Searches block_of exact more k order Q (Some held) a c
   pass_out {a} {b} {c} more Q n k h f s = record {
     keeps = keeps_both f.keeps s.keeps;
-    counts = then_counts t exact ticks n (710 * tree_count b.key) k (omega (arith, h, ap tree_count f.keeps.same_key)) f.counts s.counts;
+    counts = then_counts t exact ticks n (most_in_pass b.key) k (omega (arith, h, ap tree_count f.keeps.same_key)) f.counts s.counts;
     sure = sure_both f.sure s.sure;
     some = out_then f.keeps f.view f.alone s.some;
     none = tt;

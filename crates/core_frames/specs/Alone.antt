@@ -1,5 +1,6 @@
 -- What takes and gives over all trees find and leave where nobody else steps.
 use Rattle.std.specs.Prelude.{◌≡◌, ◌≢◌, ◌⊎◌, ℕ, ◌^◌, ◌<◌, ◌≤◌, List, Option, None}
+use Rattle.frame_words.specs.Geometry.{tree_frames}
 use Rattle.frame_model.specs.declared.key.Key.{Key}
 use Rattle.frame_model.specs.Steps.{words_after}
 use Rattle.frame_core.specs.Key.{frame_count}
@@ -38,7 +39,7 @@ WasTried key order least most tree words =
 -- block of the order
 abbrev pub WereTried : Key → ℕ → ℕ → ℕ → List ℕ → Type 0
 WereTried key order from to words =
-    (tree : ℕ) → from ≤ tree → tree < to → WasTried key order (2 ^ order) 4096 tree words
+    (tree : ℕ) → from ≤ tree → tree < to → WasTried key order (2 ^ order) tree_frames tree words
 
 -- no core has a reservation
 abbrev pub NothingRests : Key → List ℕ → Type 0

@@ -1,5 +1,6 @@
 -- What is left of a memory that was in use before its opening.
 use Rattle.std.specs.Prelude.{◌≡◌, ◌⊎◌, ◌<◌, ◌≤◌, List, Result, IfOk, IfErr}
+use Rattle.frame_words.specs.Geometry.{huge_order}
 use Rattle.frame_words.specs.declared.fault.Fault.{Fault}
 use Rattle.frame_words.specs.declared.fault.Fault.TheVariants.{BadOrder, NotHeld}
 use Rattle.frame_model.specs.declared.block.FrameBlock.{FrameBlock}
@@ -33,8 +34,8 @@ pub record IsAdopted (a : Allocator) (b : FrameBlock) (held : Block) (left : Lis
 -- why a block cannot be adopted: there are none of its order, or it is not left
 abbrev pub IsUnadoptedFor : Allocator → FrameBlock → List FrameBlock → Fault → Type 0
 IsUnadoptedFor a b left fault =
-    ((fault ≡ BadOrder) × (9 < b.order))
-    ⊎ ((fault ≡ NotHeld) × (b.order ≤ 9) × ¬ IsLeft (memory_of a) left b)
+    ((fault ≡ BadOrder) × (huge_order < b.order))
+    ⊎ ((fault ≡ NotHeld) × (b.order ≤ huge_order) × ¬ IsLeft (memory_of a) left b)
 
 -- the block is adopted and leaves what is left; or it is refused, and nothing leaves
 pub record Adopts (a : Allocator) (b : FrameBlock) (answer : Result Block Fault)

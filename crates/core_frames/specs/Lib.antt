@@ -1,3 +1,4 @@
+pub mod Bounds
 pub mod PlainBytes
 pub mod PlainAgree
 pub mod PlainState

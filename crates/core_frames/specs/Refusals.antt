@@ -1,5 +1,6 @@
 -- Refusals that would be wrong, and numbers of cores that would be.
 use Rattle.std.specs.Prelude.{◌≢◌, ℕ, ◌+◌, ◌<◌, ◌≤◌, List, length, slice_index_or}
+use Rattle.frame_words.specs.Geometry.{huge_order}
 use Rattle.frame_words.specs.declared.fault.Fault.TheVariants as fault
 use Rattle.frame_words.specs.declared.fault.TakeFault.TheVariants.{BadOrder, NoBlock, Contended}
 use Rattle.frame_model.specs.declared.block.FrameBlock.{FrameBlock}
@@ -15,12 +16,12 @@ use Rattle.core_frames.specs.Uses.{IsRefusedFor, IsRefusedAtDesk}
 -- no take of an order up to 9 is refused for its order, and none that steps
 abbrev pub OrderIsLawful : Type 0
 OrderIsLawful = (a : Allocator) (n : ℕ) (c d : Core)
-    → (n ≤ 9 → ¬ IsRefusedFor a n c d BadOrder)
+    → (n ≤ huge_order → ¬ IsRefusedFor a n c d BadOrder)
     × (view_in d ≢ view_in c → ¬ IsRefusedFor a n c d BadOrder)
 
 -- no take of an order above 9 is refused for want of a block
 abbrev pub OrderIsUnlawful : Type 0
-OrderIsUnlawful = (a : Allocator) (n : ℕ) (c d : Core) → 9 < n
+OrderIsUnlawful = (a : Allocator) (n : ℕ) (c d : Core) → huge_order < n
     → (¬ IsRefusedFor a n c d NoBlock) × (¬ IsRefusedFor a n c d Contended)
 
 -- none is refused for want of a block in fewer moves than there are trees
@@ -47,7 +48,7 @@ DeskIsRefused = (a : Allocator) (n : ℕ) (c d : Core)
 abbrev pub LeftIsRefused : Type 0
 LeftIsRefused = (a : Allocator) (b : FrameBlock) (left : List FrameBlock)
     → (IsLeft (memory_of a) left b → ¬ IsUnadoptedFor a b left fault.NotHeld)
-    × (b.order ≤ 9 → ¬ IsUnadoptedFor a b left fault.BadOrder)
+    × (b.order ≤ huge_order → ¬ IsUnadoptedFor a b left fault.BadOrder)
 
 -- no closing says that a seat is missing where none is, or that memory is where a seat is
 abbrev pub ClosingIsRefused : Type 0

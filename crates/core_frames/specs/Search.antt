@@ -1,5 +1,6 @@
 -- What the search for a block, and a give, leave of the own view step by step.
-use Rattle.std.specs.Prelude.{◌≡◌, ℕ, pos, ◌+◌, ◌*◌, ◌+ℤ◌, ◌-ℤ◌, ◌<◌, ◌≤◌, Some, None, Option, Bool, MatchBool}
+use Rattle.std.specs.Prelude.{◌≡◌, ℕ, pos, ◌+ℤ◌, ◌-ℤ◌, ◌<◌, ◌≤◌, Some, None, Option, Bool, MatchBool}
+use Rattle.frame_words.specs.Geometry.{tree_frames}
 use Rattle.frame_model.specs.declared.block.FrameBlock.{FrameBlock}
 use Rattle.frame_model.specs.declared.key.Key.{Key}
 use Rattle.frame_model.specs.declared.view.View.{View}
@@ -35,7 +36,7 @@ HasReserved tree n v w = w ≡ record v {
 pub record HasReservedSome (tree least most n : ℕ) (v w : View) : Type 0 where
   pub enough : least ≤ n
   pub not_more : n ≤ most
-  pub few : n ≤ 4096
+  pub few : n ≤ tree_frames
   pub view : HasReserved tree n v w
 
 -- the view is as before, but for its counts, and nothing is paid
@@ -68,8 +69,4 @@ pub record Reserves (tree n : ℕ) (v : View) : Type 0 where
   pub share : 0 < v.share
   pub paid : v.paid ≡ counted tree n
   pub reserving : v.reserving ≡ Some tree
-  pub few : n ≤ 4096
-
--- the moves that a take makes at most
-abbrev pub most_moves : Key → ℕ
-most_moves key = 2200 * tree_count key + 3 * key.cores + 800
+  pub few : n ≤ tree_frames

@@ -1,6 +1,7 @@
 -- What the search, the give and their parts ask, and how they may end.
 use Rattle.std.specs.Prelude.{◌≡◌, ℕ, ◌+◌, ◌^◌, ◌<◌, ◌≤◌, List, Option, Some}
 use Rattle.std.specs.Prelude.{IfSome, IfNone, Result, IfOk, IfErr, Bool, true, false, nat_lt, slice_index}
+use Rattle.frame_words.specs.Geometry.{huge_order}
 use Rattle.frame_words.specs.declared.fault.TakeFault.{TakeFault}
 use Rattle.frame_words.specs.declared.fault.TakeFault.TheVariants.{BadOrder, NoBlock, Contended}
 use Rattle.frame_words.specs.Words.{rest_in}
@@ -10,11 +11,13 @@ use Rattle.frame_core.specs.Key.{tree_count}
 use Rattle.frame_core.specs.Words.{local_place, IsRest}
 use Rattle.frame_core.specs.View.{counted, IsIdle}
 use Rattle.frame_core.specs.Mover.{Mover, Keeps, KeepsOthers}
+use Rattle.low_frames.specs.Bounds.{attempt}
 use Rattle.low_frames.specs.Takes.{Counts, IsAsBefore, IsSure, StaysSure}
 use Rattle.low_frames.specs.Alone.{Turns, WordsGive}
 use Rattle.low_frames.specs.Outcomes.{TakesOut}
 use Rattle.low_frames.specs.Parts.{Gets}
-use Rattle.core_frames.specs.Search.{HasReservedSome, HasLentOne, IsBlockOf, Reserves, most_moves}
+use Rattle.core_frames.specs.Bounds.{most_to_load, most_moves}
+use Rattle.core_frames.specs.Search.{HasReservedSome, HasLentOne, IsBlockOf, Reserves}
 use Rattle.core_frames.specs.Alone.{SameFrames, IsPassedBy, IsReserved, FindsNoBlock}
 
 -- What they ask.
@@ -27,7 +30,7 @@ pub record MayBegin {T H : Type 0} (k : ℕ) (m : Mover T H) : Type 0 where
 -- and the order is one of blocks
 pub record MaySearch {T H : Type 0} (k n : ℕ) (m : Mover T H) : Type 0 where
   pub core : k < m.key.cores
-  pub order : n ≤ 9
+  pub order : n ≤ huge_order
   pub idle : IsIdle m.view
 
 -- the memory has the tree, and nothing is in flight
@@ -45,14 +48,14 @@ pub record MayVisitFor {T H : Type 0} (k t : ℕ) (m : Mover T H) : Type 0 where
 pub record MaySearchTree {T H : Type 0} (k t n least : ℕ) (m : Mover T H) : Type 0 where
   pub core : k < m.key.cores
   pub tree : t < tree_count m.key
-  pub order : n ≤ 9
+  pub order : n ≤ huge_order
   pub enough : 2 ^ n ≤ least
   pub idle : IsIdle m.view
 
 -- and the trees from one on, up to another, are trees of the memory
 pub record MaySearchTrees {T H : Type 0} (k n from to : ℕ) (m : Mover T H) : Type 0 where
   pub core : k < m.key.cores
-  pub order : n ≤ 9
+  pub order : n ≤ huge_order
   pub begins : from ≤ to
   pub ends : to ≤ tree_count m.key
   pub idle : IsIdle m.view
@@ -99,7 +102,7 @@ IsKnown place word m = (ws : List ℕ) × ((m.words ≡ Some ws) × (slice_index
 -- all is as before, each frame is held or free as before, and the local word of the core is this one
 pub record LoadsOwn {T H : Type 0} (exact : ℕ → Type 0) (k word : ℕ) (old new : Mover T H)
     : Type 0 where
-  pub brings : Brings exact 19 IsAsBefore (SameFrames old.key) old new
+  pub brings : Brings exact most_to_load IsAsBefore (SameFrames old.key) old new
   pub seen : new.read (local_place new.key k) ≡ Some word
   pub known : IsSure old → IsKnown (local_place new.key k) word new
   pub rest : IsRest old.key (rest_in word)
@@ -108,9 +111,9 @@ pub record LoadsOwn {T H : Type 0} (exact : ℕ → Type 0) (k word : ℕ) (old 
 -- or all is as before, and where nobody else steps the tree was passed by
 pub record TriesTree {T H : Type 0} (exact : ℕ → Type 0) (t least most : ℕ) (answer : Option ℕ)
     (old new : Mover T H) : Type 0 where
-  pub gets : Gets exact 8 (HasReservedSome t least most) (IsReserved old.key t)
+  pub gets : Gets exact attempt (HasReservedSome t least most) (IsReserved old.key t)
       (IsPassedBy old.key t least most) answer old new
-  pub made : HasMade exact 1 8 old new
+  pub made : HasMade exact 1 attempt old new
 
 -- no block was found in at least so many moves: all is as before, and where nobody else steps this
 -- is so of the words before and after
@@ -139,7 +142,7 @@ cleared m = record m { missed = false }
 -- nobody else steps none is free; and an exchange was lost in this call, or none was
 pub record FindsNoneBy {T H : Type 0} (exact : ℕ → Type 0) (n : ℕ) (contended : Bool)
     (old new : Mover T H) : Type 0 where
-  pub order : n ≤ 9
+  pub order : n ≤ huge_order
   pub lost : exact (old.view.lost + most_moves old.key)
       → nat_lt old.view.lost new.view.lost ≡ contended
   pub missed : new.missed ≡ contended
@@ -155,7 +158,7 @@ pub record IsUntouched {T H : Type 0} (old new : Mover T H) : Type 0 where
 
 -- why a take of an order is refused
 abbrev pub Refuses : {T H : Type 0} → (ℕ → Type 0) → ℕ → TakeFault → Mover T H → Mover T H → Type 0
-Refuses exact n BadOrder old new = (9 < n) × IsUntouched old new
+Refuses exact n BadOrder old new = (huge_order < n) × IsUntouched old new
 Refuses exact n NoBlock old new = FindsNoneBy exact n false old new
 Refuses exact n Contended old new = FindsNoneBy exact n true old new
 
@@ -164,8 +167,8 @@ Refuses exact n Contended old new = FindsNoneBy exact n true old new
 pub record TakesBy {T H : Type 0} (block_of : H → FrameBlock) (exact : ℕ → Type 0) (n : ℕ)
     (answer : Result H TakeFault) (old new : Mover T H) : Type 0 where
   pub keeps : Keeps old new
-  pub counts : n ≤ 9 → Counts exact (most_moves old.key) (cleared old) new
-  pub sure : n ≤ 9 → StaysSure (cleared old) new
+  pub counts : n ≤ huge_order → Counts exact (most_moves old.key) (cleared old) new
+  pub sure : n ≤ huge_order → StaysSure (cleared old) new
   pub ok : IfOk answer (λ held.
       TakesOut block_of (IsBlockOf old.key n) HasLentOne held old new)
   pub err : IfErr answer (λ fault. Refuses exact n fault old new)

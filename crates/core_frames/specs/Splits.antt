@@ -1,6 +1,8 @@
 -- What a split asks and leaves.
 use Rattle.std.specs.Prelude.{◌≡◌, ℕ, ℤ, pos, ◌+◌, ◌-◌, ◌*◌, ◌^◌, ◌+ℤ◌, ◌-ℤ◌, ◌<◌, ◌≤◌, List, [], ◌∷◌, Result, IfOk, IfErr}
 use Rattle.std.specs.List.{All}
+use Rattle.frame_words.specs.Geometry.{child_frames, huge_order}
+use Rattle.frame_words.specs.Runs.{four_order}
 use Rattle.frame_model.specs.declared.block.FrameBlock.{FrameBlock}
 use Rattle.frame_model.specs.declared.key.Key.{Key}
 use Rattle.frame_model.specs.declared.view.View.{View}
@@ -12,6 +14,7 @@ use Rattle.frame_core.specs.Mover.{Mover, KeepsOthers}
 use Rattle.frame_core.specs.Report.{held_at}
 use Rattle.low_frames.specs.Takes.{Counts}
 use Rattle.low_frames.specs.Alone.{Turns}
+use Rattle.core_frames.specs.Bounds.{most_to_bring_in, most_in_split}
 use Rattle.core_frames.specs.Search.{HasLentOne}
 use Rattle.core_frames.specs.Searches.{Brings}
 
@@ -50,11 +53,11 @@ pub record HandsOutHalves {T H : Type 0} (block_of : H → FrameBlock) (b first 
   pub alone : old.is_alone
       → Turns (HoldsHalves old.key (block_of b) (block_of first) (block_of second)) old.words new.words
 
--- a split in at most 12 moves: the halves are out; or the block, which has none, was handed back
+-- a split: the halves are out; or the block, which has none, was handed back
 pub record SplitsBy {T H : Type 0} (block_of : H → FrameBlock) (exact : ℕ → Type 0) (b : H)
     (answer : Result (H × H) H) (old new : Mover T H) : Type 0 where
   pub keeps : KeepsOthers block_of (block_of b) old new
-  pub counts : Counts exact 12 old new
+  pub counts : Counts exact most_in_split old new
   pub ok : IfOk answer (λ r. HandsOutHalves block_of b r.0 r.1 old new)
   pub err : IfErr answer (λ same. (same ≡ b) × ((block_of b).order ≡ 0))
 
@@ -77,7 +80,7 @@ Bears v own filled lent w = w ≡ record v {
 
 -- the blocks are, frame by frame, a block of this order up to 8 and the one behind it
 pub record MakeTwo (key : Key) (frame order : ℕ) (blocks : List FrameBlock) : Type 0 where
-  pub small : order ≤ 8
+  pub small : order ≤ four_order
   pub lower : IsBlock key (block frame order)
   pub upper : IsBlock key (block (frame + 2 ^ order) order)
   pub are_blocks : All (IsBlock key) blocks
@@ -96,7 +99,7 @@ pub record MayBringIn {T H : Type 0} (block_of : H → FrameBlock) (block : H) (
 pub record BringsIn {T H : Type 0} (block_of : H → FrameBlock) (exact : ℕ → Type 0) (b : H)
     (old new : Mover T H) : Type 0 where
   pub keeps : KeepsOthers block_of (block_of b) old new
-  pub counts : Counts exact 10 old new
+  pub counts : Counts exact most_to_bring_in old new
   pub view : Bears old.view new.view.own old.view.filled (old.view.lent -ℤ pos 1) new.view
   pub two : MakeTwo old.key (block_of b).frame ((block_of b).order - 1) new.view.own
   pub alone : old.is_alone → Turns (LosesFlag old.key (block_of b)) old.words new.words
@@ -105,11 +108,12 @@ pub record BringsIn {T H : Type 0} (block_of : H → FrameBlock) (exact : ℕ �
 pub record MayBreakUp {T H : Type 0} (c : ℕ) (m : Mover T H) : Type 0 where
   pub child : c < m.key.children
   pub share : 0 < m.view.share
-  pub own : m.view.own ≡ block (512 * c) 9 ∷ []
+  pub own : m.view.own ≡ block (child_frames * c) huge_order ∷ []
 
 -- the view is as before, but for its counts, and its huge frame is two blocks of order 8
 abbrev pub HasBrokenUp : ℕ → View → View → Type 0
-HasBrokenUp c v w = Bears v (block (512 * c) 8 ∷ block (512 * c + 256) 8 ∷ []) [] v.lent w
+HasBrokenUp c v w = Bears v (block (child_frames * c) four_order
+    ∷ block (child_frames * c + 2 ^ four_order) four_order ∷ []) [] v.lent w
 
 -- all that is in flight are a block of this order and the one behind it
 pub record MayHandOutTwo {T H : Type 0} (frame order : ℕ) (m : Mover T H) : Type 0 where

@@ -1,5 +1,6 @@
 -- What takes, gives and splits through a core leave.
 use Rattle.std.specs.Prelude.{◌≡◌, ℕ, pos, ◌+◌, ◌+ℤ◌, ◌-ℤ◌, ◌<◌, ◌≤◌, Result, IfOk, IfErr}
+use Rattle.frame_words.specs.Geometry.{huge_order}
 use Rattle.frame_words.specs.declared.fault.Fault.{Fault}
 use Rattle.frame_words.specs.declared.fault.Fault.TheVariants as fault
 use Rattle.frame_words.specs.declared.fault.TakeFault.{TakeFault}
@@ -28,20 +29,20 @@ pub record HasTaken (a : Allocator) (n : ℕ) (b : Block) (c d : Core) : Type 0 
 
 -- at least as many moves were made as the memory has trees, for an order of blocks
 pub record HasMovedForEach (a : Allocator) (n : ℕ) (c d : Core) : Type 0 where
-  pub order : n ≤ 9
+  pub order : n ≤ huge_order
   pub moved : moves_by c + tree_count (memory_of a) ≤ moves_by d
 
 -- why a take of an order was refused: there is none of that order, and no move was made; or a move
 -- was made for each tree, and no exchange was lost in this call, or one was
 abbrev pub IsRefusedFor : Allocator → ℕ → Core → Core → TakeFault → Type 0
-IsRefusedFor a n c d BadOrder = (9 < n) × (view_in d ≡ view_in c)
+IsRefusedFor a n c d BadOrder = (huge_order < n) × (view_in d ≡ view_in c)
 IsRefusedFor a n c d NoBlock = HasMovedForEach a n c d × (losses_by d ≡ losses_by c)
 IsRefusedFor a n c d Contended = HasMovedForEach a n c d × (losses_by c < losses_by d)
 
 -- why a take at a desk was refused: as the allocator's is; want of memory comes before any step
 abbrev pub IsRefusedAtDesk : Allocator → ℕ → Core → Core → Fault → Type 0
-IsRefusedAtDesk a n c d fault.BadOrder = (9 < n) × (d ≡ c)
-IsRefusedAtDesk a n c d fault.NoMemory = (n ≤ 9) × (d ≡ c)
+IsRefusedAtDesk a n c d fault.BadOrder = (huge_order < n) × (d ≡ c)
+IsRefusedAtDesk a n c d fault.NoMemory = (n ≤ huge_order) × (d ≡ c)
 IsRefusedAtDesk a n c d fault.NoBlock = HasMovedForEach a n c d × (losses_by d ≡ losses_by c)
 IsRefusedAtDesk a n c d fault.Contended = HasMovedForEach a n c d × (losses_by c < losses_by d)
 IsRefusedAtDesk a n c d _ = ⊥

@@ -1,9 +1,8 @@
 //! Desks: a core with the list of the blocks that it holds.
 
-ghost use Rattle.std.specs.Prelude.{◌≡◌, ◌<◌, ◌≤◌, ◌+◌, ◌*◌, [], pos, ◌+ℤ◌, ◌-ℤ◌, length};
+ghost use Rattle.std.specs.Prelude.{◌≡◌, ◌<◌, ◌≤◌, ◌+◌, [], pos, ◌+ℤ◌, ◌-ℤ◌, length};
 ghost use Rattle.std.specs.Prelude.{IfOk, IfErr, Contains};
 ghost use Rattle.frame_core.specs.Block.{block as block_at};
-ghost use Rattle.frame_core.specs.Key.{tree_count};
 ghost use Rattle.frame_core.specs.Mover.{LiesInside};
 ghost use Rattle.frame_table.specs.Keeping.{HasRecalled};
 ghost use Rattle.frame_table.specs.Seats.{block_in};
@@ -11,6 +10,7 @@ ghost use Rattle.held_blocks.specs.Desk.{Lays, MayFail, TakesUnder, GivesOldest,
 ghost use Rattle.held_blocks.specs.Desk.{GivesFirst};
 ghost use Rattle.held_blocks.specs.LabelledBlocks.{IsUnder, IsTheBlock};
 ghost use Rattle.low_frames.specs.Outcomes.{HasNoBootFrame};
+ghost use Rattle.core_frames.specs.Bounds.{most_moves, most_in_give};
 ghost use Rattle.core_frames.specs.Cores.{memory_of, view_in, kept_by, lent_by, moves_by};
 ghost use Rattle.core_frames.specs.Cores.{IsOutOf, IsCoreOf, StaysCoreOf};
 ghost use Rattle.core_frames.specs.Uses.{HasGiven, IsRefusedAtDesk};
@@ -84,8 +84,7 @@ impl Desk {
         ensures why { IfErr result (IsRefusedAtDesk allocator.now order
             (core_of self.old) (core_of self.new)) }
         ensures moves { moves_by (core_of self.new) ≤ moves_by (core_of self.old)
-            + (2200 * tree_count (memory_of allocator.now)
-            + 3 * (memory_of allocator.now).cores + 801) }
+            + most_moves (memory_of allocator.now) + 1 }
     {
         if order > HUGE_ORDER {
             return Err(Fault::BadOrder);
@@ -112,7 +111,8 @@ impl Desk {
         ensures desk { StaysDeskOf allocator.now self.old self.new }
         ensures gives { GivesOldest (list_of self.old) label.now result (list_of self.new) }
         ensures lent { lent_by (core_of self.new) ≡ lent_by (core_of self.old) }
-        ensures moves { moves_by (core_of self.new) ≤ moves_by (core_of self.old) + 33 }
+        ensures moves { moves_by (core_of self.new) ≤ moves_by (core_of self.old)
+            + most_in_give + 1 }
         ensures refused { IfErr result (λ e. IsLeftAlone self.old self.new) }
     {
         match self.lift(allocator, label) {
@@ -133,7 +133,8 @@ impl Desk {
         ensures desk { StaysDeskOf allocator.now self.old self.new }
         ensures gives { GivesExactly (list_of self.old) frame order result (list_of self.new) }
         ensures lent { lent_by (core_of self.new) ≡ lent_by (core_of self.old) }
-        ensures moves { moves_by (core_of self.new) ≤ moves_by (core_of self.old) + 33 }
+        ensures moves { moves_by (core_of self.new) ≤ moves_by (core_of self.old)
+            + most_in_give + 1 }
         ensures refused { IfErr result (λ e. IsLeftAlone self.old self.new) }
     {
         if order > HUGE_ORDER {
@@ -233,7 +234,7 @@ fn give_back(allocator: &Allocator, core: &mut Core, block: Block) -> (u32, u8)
     requires block { IsOutOf allocator.now block }
     ensures core { StaysCoreOf allocator.now core.old core.new }
     ensures gives { HasGiven core.old core.new }
-    ensures moves { moves_by core.new ≤ moves_by core.old + 32 }
+    ensures moves { moves_by core.new ≤ moves_by core.old + most_in_give }
     ensures answer { block_at result.0 result.1 ≡ block_in block }
 {
     let answer = (block.frame(), block.order());

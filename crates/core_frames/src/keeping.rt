@@ -5,6 +5,7 @@ ghost use Rattle.frame_core.specs.Block.{block as block_at, covers};
 ghost use Rattle.frame_core.specs.Holding.{IsHolding};
 ghost use Rattle.frame_table.specs.Keeping.{HasKept, HasRecalled};
 ghost use Rattle.frame_table.specs.Seats.{block_in};
+ghost use Rattle.core_frames.specs.Bounds.{to_tell_apart};
 ghost use Rattle.core_frames.specs.Cores.{memory_of, view_in, kept_by, lent_by, moves_by};
 ghost use Rattle.core_frames.specs.Cores.{IsOutOf, IsCoreOf, StaysCoreOf};
 ghost use Rattle.core_frames.specs.Uses.{IsSameAfter};
@@ -48,7 +49,7 @@ impl Allocator {
         requires core { IsCoreOf self.now core.old }
         requires blocks { IsOutOf self.now first × IsOutOf self.now second }
         ensures core { StaysCoreOf self.now core.old core.new }
-        ensures view { IsSameAfter 5 (view_in core.old) (view_in core.new) }
+        ensures view { IsSameAfter to_tell_apart (view_in core.old) (view_in core.new) }
         ensures same { (block_in result.0 ≡ block_in first) × (block_in result.1 ≡ block_in second) }
         ensures out { IsOutOf self.now result.0 × IsOutOf self.now result.1 }
         ensures apart { (x : ℕ) → covers (block_in first) x + covers (block_in second) x ≤ 1 }

@@ -2,6 +2,8 @@
 //! ever cleared.
 
 ghost use Rattle.std.specs.Prelude.{◌≡◌, ◌≢◌, ◌⊎◌, ℕ, ◌+◌, ◌*◌, ◌^◌, ◌<◌, ◌≤◌, MatchBool, IfOk, IfErr, length};
+ghost use Rattle.frame_words.specs.Geometry.{child_frames, huge_order};
+ghost use Rattle.frame_words.specs.Runs.{word_bits};
 ghost use Rattle.frame_core.specs.Block.{block};
 ghost use Rattle.frame_core.specs.Image.{key_in};
 ghost use Rattle.core_frames.specs.LeftFrames.{bit_in, AreBitWordsOf, AreFlagsOf, IsShown, HasCleared};
@@ -58,9 +60,9 @@ fn flags_of(alloc: Global, image: &Image) -> Result<Vec<bool>, Fault>
 
 /// Is it an aligned block of so many frames, held by itself?
 pub(crate) fn is_shown(left: &LeftFrames, frames: u32, frame: u32, order: u8) -> bool
-    requires order { order ≤ 9 }
-    requires bits { frames ≤ 64 * length left.now.bits.items }
-    requires huge { frames ≤ 512 * length left.now.huge.items }
+    requires order { order ≤ huge_order }
+    requires bits { frames ≤ word_bits * length left.now.bits.items }
+    requires huge { frames ≤ child_frames * length left.now.huge.items }
     ensures { MatchBool result
         (IsShown frames left.now.bits.items left.now.huge.items (block frame order))
         (¬ IsShown frames left.now.bits.items left.now.huge.items (block frame order)) }
@@ -77,10 +79,10 @@ pub(crate) fn is_shown(left: &LeftFrames, frames: u32, frame: u32, order: u8) ->
 
 /// The block is left no more.
 pub(crate) fn clear_block(left: &mut LeftFrames, frame: u32, order: u8)
-    requires order { order ≤ 9 }
+    requires order { order ≤ huge_order }
     requires fits { frame + 2 ^ order < 2 ^ 32 }
-    requires huge { frame + 2 ^ order ≤ 512 * length left.old.huge.items }
-    requires shown { IsShown (64 * length left.old.bits.items)
+    requires huge { frame + 2 ^ order ≤ child_frames * length left.old.huge.items }
+    requires shown { IsShown (word_bits * length left.old.bits.items)
         left.old.bits.items left.old.huge.items (block frame order) }
     ensures { HasCleared (block frame order) left.old.bits.items left.old.huge.items
         left.new.bits.items left.new.huge.items }
@@ -94,7 +96,7 @@ pub(crate) fn clear_block(left: &mut LeftFrames, frame: u32, order: u8)
 
 // Are the bits of the frames from one to before another set?
 fn are_set(bits: &[u64], from: u32, end: u32) -> bool
-    requires { end ≤ 64 * length bits.now }
+    requires { end ≤ word_bits * length bits.now }
     ensures { MatchBool result
         ((x : ℕ) → from ≤ x → x < end → bit_in bits.now x ≡ 1)
         (¬ ((x : ℕ) → from ≤ x → x < end → bit_in bits.now x ≡ 1)) }
@@ -108,14 +110,14 @@ fn are_set(bits: &[u64], from: u32, end: u32) -> bool
 }
 
 fn is_set(bits: &[u64], frame: u32) -> bool
-    requires { frame < 64 * length bits.now }
+    requires { frame < word_bits * length bits.now }
     ensures { MatchBool result (bit_in bits.now frame ≡ 1) (bit_in bits.now frame ≡ 0) }
 {
     (bits[(frame / WORD_FRAMES) as usize] >> (frame % WORD_FRAMES)) & 1 == 1
 }
 
 fn clear_run(bits: &mut Vec<u64>, from: u32, end: u32)
-    requires { (from ≤ end) × (end ≤ 64 * length bits.old.items) }
+    requires { (from ≤ end) × (end ≤ word_bits * length bits.old.items) }
     ensures count { length bits.new.items ≡ length bits.old.items }
     ensures cleared { (x : ℕ) → from ≤ x → x < end → bit_in bits.new.items x ≡ 0 }
     ensures others { (x : ℕ) → (x < from) ⊎ (end ≤ x)
@@ -127,7 +129,7 @@ fn clear_run(bits: &mut Vec<u64>, from: u32, end: u32)
 }
 
 fn clear_bit(bits: &mut Vec<u64>, frame: u32)
-    requires { frame < 64 * length bits.old.items }
+    requires { frame < word_bits * length bits.old.items }
     ensures count { length bits.new.items ≡ length bits.old.items }
     ensures cleared { bit_in bits.new.items frame ≡ 0 }
     ensures others { (x : ℕ) → x ≢ frame → bit_in bits.new.items x ≡ bit_in bits.old.items x }

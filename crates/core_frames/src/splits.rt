@@ -1,7 +1,9 @@
 //! Splits of blocks over any moves.
 
 ghost use Rattle.std.specs.Prelude.{◌≡◌, ◌+◌, ◌*◌, ◌≤◌, OnErr};
+ghost use Rattle.frame_words.specs.Geometry.{child_frames, huge_order};
 ghost use Rattle.frame_core.specs.Block.{block};
+ghost use Rattle.core_frames.specs.Bounds.{most_to_break_up, most_in_split};
 ghost use Rattle.core_frames.specs.Searches.{Brings};
 ghost use Rattle.core_frames.specs.Splits.{
   MaySplit,
@@ -23,7 +25,7 @@ use frame_words::{CHILD_WORDS, HUGE_ORDER, child_of, frames_of};
 pub fn split_by<M: Moves>(m: &mut M, held: M::Held) -> Result<(M::Held, M::Held), M::Held>
     requires { MaySplit held (M.at m.old) }
     ensures splits { SplitsBy M.Held.block_of M.is_exact held result (M.at m.old) (M.at m.new) }
-    ensures moves { (M.at m.new).view.moves ≤ (M.at m.old).view.moves + 12 }
+    ensures moves { (M.at m.new).view.moves ≤ (M.at m.old).view.moves + most_in_split }
     ensures same { OnErr result (m.new ≡ m.old) }
 {
     let (frame, order) = (held.frame(), held.order());
@@ -51,8 +53,8 @@ fn bring_in<M: Moves>(m: &mut M, held: M::Held)
 /// down, so that its frames are held all the time.
 fn break_up<M: Moves>(m: &mut M, child: u32)
     requires { MayBreakUp child (M.at m.old) }
-    ensures { Brings M.is_exact 9 (HasBrokenUp child)
-        (LosesFlag (M.at m.old).key (block (512 * child) 9))
+    ensures { Brings M.is_exact most_to_break_up (HasBrokenUp child)
+        (LosesFlag (M.at m.old).key (block (child_frames * child) huge_order))
         (M.at m.old) (M.at m.new) }
 {
     for i in 0..CHILD_WORDS {

@@ -1,6 +1,7 @@
 //! Splits of blocks through a core.
 
 ghost use Rattle.std.specs.Prelude.{◌+◌, ◌≤◌};
+ghost use Rattle.core_frames.specs.Bounds.{most_in_split};
 ghost use Rattle.core_frames.specs.Cores.{moves_by, IsCoreOf, StaysCoreOf, IsOutOf};
 ghost use Rattle.core_frames.specs.Uses.{SplitsThrough};
 
@@ -15,7 +16,7 @@ impl Allocator {
         requires block { IsOutOf self.now block }
         ensures core { StaysCoreOf self.now core.old core.new }
         ensures splits { SplitsThrough self.now block result core.old core.new }
-        ensures moves { moves_by core.new ≤ moves_by core.old + 12 }
+        ensures moves { moves_by core.new ≤ moves_by core.old + most_in_split }
     {
         let mut m = SharedMoves::new(&self.table, &mut core.seat);
         split_by(&mut m, block)

@@ -1,7 +1,7 @@
 //! Takes and gives of cores.
 
-ghost use Rattle.std.specs.Prelude.{◌≡◌, ◌+◌, ◌*◌, ◌≤◌};
-ghost use Rattle.frame_core.specs.Key.{tree_count};
+ghost use Rattle.std.specs.Prelude.{◌≡◌, ◌+◌, ◌≤◌};
+ghost use Rattle.core_frames.specs.Bounds.{most_moves, most_in_give};
 ghost use Rattle.core_frames.specs.Cores.{memory_of, moves_by, IsCoreOf, StaysCoreOf, IsOutOf};
 ghost use Rattle.core_frames.specs.Uses.{TakesThrough, HasGiven};
 
@@ -18,7 +18,7 @@ impl Allocator {
         ensures core { StaysCoreOf self.now core.old core.new }
         ensures takes { TakesThrough self.now order result core.old core.new }
         ensures moves { moves_by core.new ≤ moves_by core.old
-            + (2200 * tree_count (memory_of self.now) + 3 * (memory_of self.now).cores + 800) }
+            + most_moves (memory_of self.now) }
     {
         let mut m = SharedMoves::new(&self.table, &mut core.seat);
         take_by(&mut m, &mut core.habit, order)
@@ -31,7 +31,7 @@ impl Allocator {
         requires block { IsOutOf self.now block }
         ensures core { StaysCoreOf self.now core.old core.new }
         ensures gives { HasGiven core.old core.new }
-        ensures moves { moves_by core.new ≤ moves_by core.old + 32 }
+        ensures moves { moves_by core.new ≤ moves_by core.old + most_in_give }
     {
         let mut m = SharedMoves::new(&self.table, &mut core.seat);
         give_by(&mut m, &mut core.habit, block);

@@ -1,6 +1,7 @@
 use Rattle.std.proofs.Common.{◌≡◌, ◌+◌, ◌*◌, Some, ap, ◌∙◌, arith}
 use Rattle.frame_words.specs.Words.{rest_in}
 use Rattle.frame_model.specs.declared.view.View.{View}
+use Rattle.low_frames.specs.Bounds.{attempt}
 use Rattle.low_frames.specs.Takes.{IsAsBefore}
 use Rattle.low_frames.proofs.TakeLemmas.{still_as_before}
 use Rattle.core_frames.proofs.Carried.{can_refund_own, refunded_own}
@@ -44,7 +45,7 @@ returns-then-local_refund g c =
     let still = g.met.M.Moves.stays_alone c.loop-i.m in
     let was = c.loop-i.invariant.brings in
     let loads = load_brings ticks (2 * i) (2 * i + 1) (omega arith) still was c.load-seen.ensures in
-    try_brings ticks _ (2 * i + 1) 8 (omega (arith, c.loop-i-test.true)) (g.met.M.Moves.stays_alone c.load-seen.new.self)
+    try_brings ticks _ (2 * i + 1) attempt (omega (arith, c.loop-i-test.true)) (g.met.M.Moves.stays_alone c.load-seen.new.self)
     (upper_local m.key c.args.core c.requires.core) loads
     (known_load still was.sure c.load-seen.ensures) c.local_refund.ensures
     (refunded_own M.tick m.view (M.at c.load-seen.new.self).view x.view loads.view c.args.core c.load-seen.result c.args.tree
@@ -52,17 +53,17 @@ returns-then-local_refund g c =
 
 pub returns-in_default : goal.returns-in_default
 returns-in_default g c =
-    load_brings g.met.M.Moves.ticks (2 * c.loop-i._i) 8 (omega (arith, c.loop-i-test.true)) (g.met.M.Moves.stays_alone c.loop-i.m)
+    load_brings g.met.M.Moves.ticks (2 * c.loop-i._i) attempt (omega (arith, c.loop-i-test.true)) (g.met.M.Moves.stays_alone c.loop-i.m)
     c.loop-i.invariant.brings c.load-seen.ensures
 
 pub returns-then-own-tree : goal.returns-then-own-tree
 returns-then-own-tree g c =
-    load_brings g.met.M.Moves.ticks (2 * c.loop-i._i) 8 (omega (arith, c.loop-i-test.true)) (g.met.M.Moves.stays_alone c.loop-i.m)
+    load_brings g.met.M.Moves.ticks (2 * c.loop-i._i) attempt (omega (arith, c.loop-i-test.true)) (g.met.M.Moves.stays_alone c.loop-i.m)
     c.loop-i.invariant.brings c.load-seen.ensures
 
 pub returns : goal.returns
 returns g c =
-    brings_within g.met.M.Moves.ticks (2 * c.loop-i._i) 8 (omega (arith, c.loop-i.auto._i-end)) c.loop-i.invariant.brings
+    brings_within g.met.M.Moves.ticks (2 * c.loop-i._i) attempt (omega (arith, c.loop-i.auto._i-end)) c.loop-i.invariant.brings
 
 pub loop-i-preserved : goal.loop-i-preserved
 loop-i-preserved g c =

@@ -1,5 +1,6 @@
 use Rattle.std.proofs.Common.{◌≡◌, ◌⊎◌, inl, inr, ◌+◌, ◌*◌, ◌<◌, refl, ap, sym, subst, ◌∙◌, arith, rules}
 use Rattle.frame_words.specs.Words.{flag_in}
+use Rattle.low_frames.specs.Bounds.{attempt}
 use Rattle.low_frames.specs.Takes.{IsAsBefore}
 use Rattle.low_frames.proofs.TakeLemmas.{still_as_before, load_then, try_then, wider, keeps_both, apart_as}
 use Rattle.core_frames.proofs.Carried.{unset, idle_still, can_reserve, reserved}
@@ -45,7 +46,7 @@ returns-then-reserve g c =
     record {
       gets = record {
         keeps = keeps_both was.keeps (keeps_both c.load-seen.ensures.keeps c.reserve.ensures.keeps);
-        counts = try_then M.tick M.is_exact ticks (2 * c.loop-i._i + 1) 8 (omega (arith, c.loop-i-test.true)) loads c.reserve.ensures;
+        counts = try_then M.tick M.is_exact ticks (2 * c.loop-i._i + 1) attempt (omega (arith, c.loop-i-test.true)) loads c.reserve.ensures;
         sure = sure_both (sure_where was.first (λ ws d. was.sure d.0))
             (sure_both (sure_load (g.met.M.Moves.stays_alone c.loop-i.m) c.load-seen.ensures)
             (sure_made c.if-reserve.true (g.met.M.Moves.stays_alone c.load-seen.new.self) c.reserve.ensures));
@@ -69,7 +70,7 @@ returns-then-reserve g c =
             (c.reserve.ensures.words (g.met.M.Moves.stays_alone c.load-seen.new.self (c.load-seen.ensures.keeps.stays_alone mid)));
         alone_none = λ alone. tt;
       };
-      made = made_both ticks m w x 0 1 1 (2 * c.loop-i._i + 1) (2 * c.loop-i._i + 1) 1 8 (omega arith) (omega (arith, c.loop-i-test.true))
+      made = made_both ticks m w x 0 1 1 (2 * c.loop-i._i + 1) (2 * c.loop-i._i + 1) 1 attempt (omega arith) (omega (arith, c.loop-i-test.true))
           (omega (arith, c.loop-i-test.true)) loads (made_none ticks (2 * c.loop-i._i + 1) loads)
           (made_one ticks w x (ap (λ v. v.moves) c.if-reserve.ensures.view));
     }
@@ -85,7 +86,7 @@ returns-then-tree_reserved g c =
     record {
       gets = record {
         keeps = keeps_both was.keeps c.load-seen.ensures.keeps;
-        counts = load_then M.tick M.is_exact ticks (2 * c.loop-i._i) 8 (omega (arith, c.loop-i-test.true)) was.counts c.load-seen.ensures;
+        counts = load_then M.tick M.is_exact ticks (2 * c.loop-i._i) attempt (omega (arith, c.loop-i-test.true)) was.counts c.load-seen.ensures;
         sure = sure_both (sure_where was.first (λ ws d. was.sure d.0))
             (sure_load (g.met.M.Moves.stays_alone c.loop-i.m) c.load-seen.ensures);
         some = tt;
@@ -106,7 +107,7 @@ returns-then-tree_reserved g c =
             passed_first u.key m.key c.args.tree c.load-seen.result c.tree_free-free.result c.args.least c.args.most m.words w.words
             was.keeps.same_key c.tree_free-free.ensures.value why seen;
       };
-      made = made_both ticks m u w 0 1 1 (2 * c.loop-i._i) (2 * c.loop-i._i) 1 8 (omega arith) (omega (arith, c.loop-i-test.true))
+      made = made_both ticks m u w 0 1 1 (2 * c.loop-i._i) (2 * c.loop-i._i) 1 attempt (omega arith) (omega (arith, c.loop-i-test.true))
           (omega (arith, c.loop-i-test.true)) was.counts (made_none ticks (2 * c.loop-i._i) was.counts)
           (made_one ticks u w (ap (λ v. v.moves) c.load-seen.ensures.view));
     }
@@ -120,7 +121,7 @@ returns g c =
     record {
       gets = record {
         keeps = was.keeps;
-        counts = wider M.tick M.is_exact g.met.M.Moves.ticks (2 * c.loop-i._i) 8 (omega (arith, c.loop-i.auto._i-end)) was.counts;
+        counts = wider M.tick M.is_exact g.met.M.Moves.ticks (2 * c.loop-i._i) attempt (omega (arith, c.loop-i.auto._i-end)) was.counts;
         sure = sure_where was.first (λ ws d. was.sure d.0);
         some = tt;
         apart = tt;
@@ -149,9 +150,9 @@ loop-i-preserved g c =
       keeps = keeps_both was.keeps (keeps_both c.load-seen.ensures.keeps c.reserve.ensures.keeps);
       view = search rules;
       counts = try_then M.tick M.is_exact ticks (2 * i + 1) (2 * (i + 1)) (omega arith) loads c.reserve.ensures;
-      made = made_both ticks m w x (2 * i + 1) 1 (2 * (i + 1)) (2 * i + 1) 8 1 8
+      made = made_both ticks m w x (2 * i + 1) 1 (2 * (i + 1)) (2 * i + 1) attempt 1 attempt
           (omega arith) (omega arith) (omega (arith, c.loop-i-test.true)) loads
-          (made_both ticks m u w (2 * i) 1 (2 * i + 1) (2 * i) 8 1 8 (omega arith)
+          (made_both ticks m u w (2 * i) 1 (2 * i + 1) (2 * i) attempt 1 attempt (omega arith)
           (omega arith) (omega (arith, c.loop-i-test.true)) was.counts was.made
           (made_one ticks u w (ap (λ v. v.moves) c.load-seen.ensures.view)))
           (made_one ticks w x (ap (λ v. v.moves) c.if-reserve.ensures.view));

@@ -8,6 +8,7 @@ use Rattle.frame_core.specs.Steps.{swap_local, unreserve}
 use Rattle.low_frames.specs.Takes.{IsAsBefore}
 use Rattle.low_frames.proofs.Sure.{sure_both, sure_load, sure_make}
 use Rattle.low_frames.proofs.TakeLemmas.{counts_none, load_then, make_then, then_counts, keeps_both}
+use Rattle.core_frames.specs.Bounds.{most_to_drain}
 use Rattle.core_frames.proofs.Carried.{loaded, idle_still, before_twice, put_down_idle, swapped_none, swapped_some, can_take_out}
 use Rattle.core_frames.proofs.Carried.{can_unreserve, unreserved}
 use Rattle.core_frames.proofs.AloneSearch.{is_nothing, nothing_there, loaded_then, emptied, drained_then, swap_changes}
@@ -49,7 +50,7 @@ returns-then-is_none g c =
     let u = M.at c.load-seen.new.self in
     record {
       keeps = c.load-seen.ensures.keeps;
-      counts = load_then M.tick M.is_exact ticks 0 3 (omega arith) (counts_none M.tick M.is_exact ticks m) c.load-seen.ensures;
+      counts = load_then M.tick M.is_exact ticks 0 most_to_drain (omega arith) (counts_none M.tick M.is_exact ticks m) c.load-seen.ensures;
       sure = sure_load (g.met.M.Moves.stays_alone c.args.m.now) c.load-seen.ensures;
       view = loaded M.tick m.view u.view c.load-seen.ensures.view;
       alone = λ alone.
@@ -69,7 +70,7 @@ returns-in_default g c =
     let found = c.in_default.ensures.view in
     record {
       keeps = keeps_both c.load-seen.ensures.keeps c.in_default.ensures.keeps;
-      counts = then_counts M.tick M.is_exact ticks 1 1 3 (omega arith)
+      counts = then_counts M.tick M.is_exact ticks 1 1 most_to_drain (omega arith)
           (load_then M.tick M.is_exact ticks 0 1 (omega arith) (counts_none M.tick M.is_exact ticks m) c.load-seen.ensures)
           (swap_counts ticks c.in_default.ensures);
       sure = sure_both (sure_load (g.met.M.Moves.stays_alone c.args.m.now) c.load-seen.ensures)
@@ -99,7 +100,7 @@ returns g c =
     let there = subst (λ (k : Key). c.in-Some.tree < tree_count k) c.load-seen.ensures.keeps.same_key c.in-Some.ensures.is_rest.0 in
     record {
       keeps = keeps_both c.load-seen.ensures.keeps (keeps_both c.in-Some.ensures.keeps c.unreserve.ensures.keeps);
-      counts = make_then M.tick M.is_exact ticks 2 3 (omega arith)
+      counts = make_then M.tick M.is_exact ticks 2 most_to_drain (omega arith)
           (then_counts M.tick M.is_exact ticks 1 1 2 (omega arith)
           (load_then M.tick M.is_exact ticks 0 1 (omega arith) (counts_none M.tick M.is_exact ticks m) c.load-seen.ensures)
           (swap_counts ticks c.in-Some.ensures))

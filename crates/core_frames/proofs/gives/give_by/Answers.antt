@@ -1,7 +1,9 @@
-use Rattle.std.proofs.Common.{◌≡◌, ◌<◌, ◌∙◌, ap, sym, subst, arith}
+use Rattle.std.proofs.Common.{◌+◌, ◌≡◌, ◌<◌, ◌∙◌, ap, sym, subst, arith}
 use Rattle.frame_model.specs.declared.key.Key.{Key}
 use Rattle.frame_model.specs.declared.view.View.{View}
 use Rattle.frame_core.specs.Key.{tree_of, tree_count}
+use Rattle.low_frames.specs.Bounds.{attempt, most_to_give_back}
+use Rattle.core_frames.specs.Bounds.{most_to_refund, most_to_reserve, most_in_give}
 use Rattle.core_frames.specs.Search.{HasRefunded, HasTakenOne}
 use Rattle.core_frames.proofs.Carried.{none_but_none, given_paid, given_own, given_to_tree, taken_one_still, idle_taken_one}
 use Rattle.core_frames.proofs.Carried.{can_refund_tree, in_a_tree, refunded_tree}
@@ -42,7 +44,7 @@ returns-then-try_refund_own-clause-gives g c =
     let M = g.M.Moves in
     let m = M.at c.args.m.now in
     let b = g.M.Held.HeldBlock.block_of c.args.held in
-    given_then g.met.M.Moves.ticks HasTakenOne 6 8 32 (omega arith)
+    given_then g.met.M.Moves.ticks HasTakenOne most_to_give_back attempt most_in_give (omega arith)
     (g.met.M.Moves.outs_are_blocks c.args.m.now c.args.held c.requires.held) (given_low c.give_low.ensures) c.if-try_refund_own.ensures
     (given_own m.view (M.at c.give_low.new.m).view b c.frame.result c.order.result c.tree_of-tree.result c.frames_of-n.result
     c.requires.idle c.give_low.ensures.back c.frame.ensures c.order.ensures c.tree_of-tree.ensures c.frames_of-n.ensures.value
@@ -111,13 +113,13 @@ returns-else-counts-clause-gives g c =
     let inside : c.tree_of-tree.result < tree_count m.key = subst (λ t. t < tree_count m.key) (sym tree) (in_a_tree m.key b is) in
     let paid = given_paid m.view u.view b c.frame.result c.order.result c.tree_of-tree.result c.frames_of-n.result c.requires.idle
     c.give_low.ensures.back c.frame.ensures c.order.ensures c.tree_of-tree.ensures c.frames_of-n.ensures.value in
-    let rest = make_brings ticks HasRefunded 8 9 (omega arith) (g.met.M.Moves.stays_alone c.try_refund_own.new.m)
+    let rest = make_brings ticks HasRefunded attempt most_to_refund (omega arith) (g.met.M.Moves.stays_alone c.try_refund_own.new.m)
     (upper_tree u.key c.tree_of-tree.result
     (subst (λ (i : Key). c.tree_of-tree.result < tree_count i) (sym c.give_low.ensures.keeps.same_key) inside))
     c.if-try_refund_own.ensures c.tree_refund.ensures
     (refunded_tree M.tick u.view w.view x.view c.if-try_refund_own.ensures.view c.tree_of-tree.result c.frames_of-n.result paid
     c.tree_refund.ensures.view) in
-    given_then ticks HasTakenOne 6 9 32 (omega arith) is (given_low c.give_low.ensures) rest
+    given_then ticks HasTakenOne most_to_give_back most_to_refund most_in_give (omega arith) is (given_low c.give_low.ensures) rest
     (given_own m.view u.view b c.frame.result c.order.result c.tree_of-tree.result c.frames_of-n.result c.requires.idle
     c.give_low.ensures.back c.frame.ensures c.order.ensures c.tree_of-tree.ensures c.frames_of-n.ensures.value x.view rest.view)
 
@@ -136,7 +138,7 @@ returns-then-counts-clause-gives g c =
     let inside : c.tree_of-tree.result < tree_count m.key = subst (λ t. t < tree_count m.key) (sym tree) (in_a_tree m.key b is) in
     let paid = given_paid m.view u.view b c.frame.result c.order.result c.tree_of-tree.result c.frames_of-n.result c.requires.idle
     c.give_low.ensures.back c.frame.ensures c.order.ensures c.tree_of-tree.ensures c.frames_of-n.ensures.value in
-    let rest = make_brings ticks HasRefunded 8 9 (omega arith) (g.met.M.Moves.stays_alone c.try_refund_own.new.m)
+    let rest = make_brings ticks HasRefunded attempt most_to_refund (omega arith) (g.met.M.Moves.stays_alone c.try_refund_own.new.m)
     (upper_tree u.key c.tree_of-tree.result
     (subst (λ (i : Key). c.tree_of-tree.result < tree_count i) (sym c.give_low.ensures.keeps.same_key) inside))
     c.if-try_refund_own.ensures c.tree_refund.ensures
@@ -144,6 +146,6 @@ returns-then-counts-clause-gives g c =
     c.tree_refund.ensures.view) in
     let back = given_own m.view u.view b c.frame.result c.order.result c.tree_of-tree.result c.frames_of-n.result c.requires.idle
     c.give_low.ensures.back c.frame.ensures c.order.ensures c.tree_of-tree.ensures c.frames_of-n.ensures.value x.view rest.view in
-    given_then ticks HasTakenOne 15 10 32 (omega arith) is
-    (given_then ticks HasTakenOne 6 9 15 (omega arith) is (given_low c.give_low.ensures) rest back) c.reserve_own.ensures
+    given_then ticks HasTakenOne (most_to_give_back + most_to_refund) most_to_reserve most_in_give (omega arith) is
+    (given_then ticks HasTakenOne most_to_give_back most_to_refund (most_to_give_back + most_to_refund) (omega arith) is (given_low c.give_low.ensures) rest back) c.reserve_own.ensures
     (taken_one_still m.view x.view y.view back c.reserve_own.ensures.view)

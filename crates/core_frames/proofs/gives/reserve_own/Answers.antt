@@ -2,7 +2,9 @@ use Rattle.std.proofs.Common.{◌<◌, ap, sym, subst, arith}
 use Rattle.frame_model.specs.declared.key.Key.{Key}
 use Rattle.frame_model.specs.declared.view.View.{View}
 use Rattle.frame_core.specs.Key.{tree_count}
+use Rattle.low_frames.specs.Bounds.{attempt}
 use Rattle.low_frames.specs.Takes.{IsAsBefore}
+use Rattle.core_frames.specs.Bounds.{most_to_install, most_to_reserve}
 use Rattle.core_frames.proofs.Carried.{put_down_after}
 use Rattle.core_frames.proofs.SearchSteps.{brings_both, got_brings, passed_brings}
 use Rattle.core_frames.proofs.gives.reserve_own.Goals as goal
@@ -11,7 +13,7 @@ pub try_reserve-requires : goal.try_reserve-requires
 try_reserve-requires g c = record { tree = c.requires.tree; idle = c.requires.idle }
 
 pub returns-in_default : goal.returns-in_default
-returns-in_default g c = passed_brings g.met.M.Moves.ticks 10 (omega arith) c.in_default.ensures
+returns-in_default g c = passed_brings g.met.M.Moves.ticks most_to_reserve (omega arith) c.in_default.ensures
 
 pub install-requires : goal.install-requires
 install-requires g c =
@@ -33,6 +35,6 @@ returns g c =
     let ticks = g.met.M.Moves.ticks in
     let m = M.at c.args.m.now in
     let got = c.in-Some.ensures in
-    brings_both ticks IsAsBefore 8 2 10 (omega arith) (got_brings ticks c.requires.tree got) c.install.ensures
+    brings_both ticks IsAsBefore attempt most_to_install most_to_reserve (omega arith) (got_brings ticks c.requires.tree got) c.install.ensures
     (put_down_after m.view (M.at c.try_reserve.new.m).view (M.at c.install.new.m).view c.args.tree c.in-Some.free c.requires.idle
     got.gets.some.view c.install.ensures.view)

@@ -1,9 +1,10 @@
-use Rattle.std.proofs.Common.{◌≡◌, ◌<◌, Some, sym, subst, ◌∙◌, arith}
+use Rattle.std.proofs.Common.{◌+◌, ◌≡◌, ◌<◌, Some, sym, subst, ◌∙◌, arith}
 use Rattle.frame_words.specs.Words.{rest_in}
 use Rattle.frame_model.specs.declared.key.Key.{Key}
 use Rattle.frame_core.specs.Key.{tree_count}
 use Rattle.frame_core.specs.Words.{IsRest}
 use Rattle.low_frames.specs.Takes.{IsAsBefore}
+use Rattle.core_frames.specs.Bounds.{most_to_collect, most_to_load}
 use Rattle.core_frames.proofs.Carried.{loaded, idle_still, before_twice}
 use Rattle.low_frames.proofs.Sure.{sure_none, sure_both}
 use Rattle.core_frames.proofs.SureSteps.{read_here, known_load}
@@ -19,7 +20,7 @@ returns-in_default g c =
     let m = M.at c.args.m.now in
     let u = M.at c.load-seen.new.self in
     record {
-      brings = load_brings g.met.M.Moves.ticks 0 19 (omega arith) (g.met.M.Moves.stays_alone c.args.m.now) (begun g.met.M.Moves.ticks m)
+      brings = load_brings g.met.M.Moves.ticks 0 most_to_load (omega arith) (g.met.M.Moves.stays_alone c.args.m.now) (begun g.met.M.Moves.ticks m)
           c.load-seen.ensures;
       seen = read_here c.load-seen.ensures;
       known = known_load (g.met.M.Moves.stays_alone c.args.m.now) (sure_none m) c.load-seen.ensures;
@@ -32,7 +33,7 @@ returns-then-resting-n g c =
     let m = M.at c.args.m.now in
     let u = M.at c.load-seen.new.self in
     record {
-      brings = load_brings g.met.M.Moves.ticks 0 19 (omega arith) (g.met.M.Moves.stays_alone c.args.m.now) (begun g.met.M.Moves.ticks m)
+      brings = load_brings g.met.M.Moves.ticks 0 most_to_load (omega arith) (g.met.M.Moves.stays_alone c.args.m.now) (begun g.met.M.Moves.ticks m)
           c.load-seen.ensures;
       seen = read_here c.load-seen.ensures;
       known = known_load (g.met.M.Moves.stays_alone c.args.m.now) (sure_none m) c.load-seen.ensures;
@@ -77,8 +78,8 @@ returns g c =
     let k : w.key ≡ m.key = c.collect_own.ensures.keeps.same_key ∙ c.load-seen.ensures.keeps.same_key in
     let one = load_brings ticks 0 1 (omega arith) (g.met.M.Moves.stays_alone c.args.m.now) (begun ticks m) c.load-seen.ensures in
     record {
-      brings = load_brings ticks 18 19 (omega arith) (g.met.M.Moves.stays_alone c.collect_own.new.m)
-          (brings_both ticks IsAsBefore 1 17 18 (omega arith) one c.collect_own.ensures
+      brings = load_brings ticks (1 + most_to_collect) most_to_load (omega arith) (g.met.M.Moves.stays_alone c.collect_own.new.m)
+          (brings_both ticks IsAsBefore 1 most_to_collect (1 + most_to_collect) (omega arith) one c.collect_own.ensures
           (before_twice m.view u.view w.view one.view c.collect_own.ensures.view))
           c.load.ensures;
       seen = read_here c.load.ensures;

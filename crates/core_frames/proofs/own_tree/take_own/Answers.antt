@@ -1,8 +1,10 @@
-use Rattle.std.proofs.Common.{ap, ◌∙◌, arith}
+use Rattle.std.proofs.Common.{◌+◌, ap, ◌∙◌, arith}
 use Rattle.frame_core.specs.View.{counted}
+use Rattle.low_frames.specs.Bounds.{most_in_tree}
 use Rattle.low_frames.specs.Takes.{IsAsBefore}
 use Rattle.low_frames.proofs.Sure.{sure_both}
 use Rattle.low_frames.proofs.TakeLemmas.{keeps_both, then_counts}
+use Rattle.core_frames.specs.Bounds.{most_to_refund, most_to_pay, most_in_own_tree}
 use Rattle.core_frames.specs.Search.{HasPaid, HasLentOne}
 use Rattle.core_frames.proofs.Carried.{carried_on, lent_own, refunded_idle}
 use Rattle.core_frames.proofs.SearchSteps.{brings_both, brings_within, missed_frames, none_brings, may_take, may_refund, out_after}
@@ -35,8 +37,8 @@ pub returns-in_default : goal.returns-in_default
 returns-in_default g c =
     let paid = c.in_default.ensures in
     let ticks = g.met.M.Moves.ticks in
-    let all = brings_within ticks 27 736 (omega arith) paid in
-    record { keeps = all.keeps; counts = all.counts; sure = all.sure; some = tt; none = missed_frames ticks 736 all }
+    let all = brings_within ticks most_to_pay most_in_own_tree (omega arith) paid in
+    record { keeps = all.keeps; counts = all.counts; sure = all.sure; some = tt; none = missed_frames ticks most_in_own_tree all }
 
 pub returns-in_default-take_in_tree : goal.returns-in_default-take_in_tree
 returns-in_default-take_in_tree g c =
@@ -50,12 +52,12 @@ returns-in_default-take_in_tree g c =
     let x = M.at c.refund.new.m in
     let paid = c.in-Some.ensures in
     let missed = c.in_default-take_in_tree.ensures in
-    let still = brings_both ticks (HasPaid tree n) 27 700 727 (omega arith) paid
-    (none_brings ticks 700 missed.keeps missed.counts missed.sure missed.none)
+    let still = brings_both ticks (HasPaid tree n) most_to_pay most_in_tree (most_to_pay + most_in_tree) (omega arith) paid
+    (none_brings ticks most_in_tree missed.keeps missed.counts missed.sure missed.none)
     (carried_on m.view u.view w.view (counted tree n) m.view.reserving m.view.lent paid.view.1 missed.none.view) in
-    let all = brings_both ticks IsAsBefore 727 9 736 (omega arith) still c.refund.ensures
+    let all = brings_both ticks IsAsBefore (most_to_pay + most_in_tree) most_to_refund most_in_own_tree (omega arith) still c.refund.ensures
     (refunded_idle m.view w.view x.view tree n c.requires.idle still.view c.refund.ensures.view) in
-    record { keeps = all.keeps; counts = all.counts; sure = all.sure; some = tt; none = missed_frames ticks 736 all }
+    record { keeps = all.keeps; counts = all.counts; sure = all.sure; some = tt; none = missed_frames ticks most_in_own_tree all }
 
 pub returns : goal.returns
 returns g c =
@@ -69,7 +71,7 @@ returns g c =
     let took = c.in-Some-take_in_tree.ensures in
     record {
       keeps = keeps_both paid.keeps took.keeps;
-      counts = then_counts M.tick M.is_exact g.met.M.Moves.ticks 27 700 736 (omega arith) paid.counts took.counts;
+      counts = then_counts M.tick M.is_exact g.met.M.Moves.ticks most_to_pay most_in_tree most_in_own_tree (omega arith) paid.counts took.counts;
       sure = sure_both paid.sure took.sure;
       some = out_after HasLentOne c.args.order paid.keeps (ap (λ v. v.kept) paid.view.1) paid.alone
           (record { is_block = took.some.is_one.is_block; has_order = took.some.is_one.has_order })

@@ -2,6 +2,7 @@ use Rattle.std.proofs.Common.{◌+◌, ◌*◌, ap, refl, ◌∙◌, arith}
 use Rattle.frame_model.specs.declared.view.View.{View}
 use Rattle.low_frames.proofs.Sure.{sure_both, sure_make}
 use Rattle.low_frames.proofs.TakeLemmas.{keeps_both, make_then}
+use Rattle.core_frames.specs.Bounds.{most_to_break_up}
 use Rattle.core_frames.proofs.SplitAlone.{filled_same, dropped_same}
 use Rattle.core_frames.proofs.SplitLemmas.{huge_own, can_fill, filled_more, filled_one, can_drop, dropped}
 use Rattle.core_frames.proofs.splits.break_up.Goals as goal
@@ -62,7 +63,7 @@ returns g c =
     let w = M.at c.drop_flag.new.self in
     record {
       keeps = keeps_both was.keeps now.keeps;
-      counts = make_then M.tick M.is_exact g.met.M.Moves.ticks c.loop-i.i 9 (omega arith) was.counts now;
+      counts = make_then M.tick M.is_exact g.met.M.Moves.ticks c.loop-i.i most_to_break_up (omega arith) was.counts now;
       sure = sure_both was.sure (sure_make (g.met.M.Moves.stays_alone c.loop-i.m) now);
       view = dropped M.tick m.key m.view u.view w.view c.args.child c.requires.child c.requires.own was.view now.view;
       alone = λ a.

@@ -3,6 +3,7 @@ use Rattle.std.specs.Prelude.{pos, ◌-ℤ◌}
 use Rattle.frame_core.specs.Block.{block}
 use Rattle.frame_model.specs.declared.view.View.{View}
 use Rattle.low_frames.proofs.TakeLemmas.{lies_anywhere, in_then, counts_none, others_both}
+use Rattle.core_frames.specs.Bounds.{most_to_break_up, most_to_bring_in}
 use Rattle.core_frames.specs.Splits.{MakeTwo}
 use Rattle.core_frames.proofs.SplitLemmas.{own_borne, brought_in, broken_up, two_small, two_huge, as_child, child_inside}
 use Rattle.core_frames.proofs.SplitAlone.{none_lost, then_lost}
@@ -27,7 +28,7 @@ returns-then-order-lt-HUGE_ORDER g c =
     let came = brought_in M.tick m.key b m.view u.view c.requires.idle.own c.hand_in.ensures.view in
     record {
       keeps = c.hand_in.ensures.keeps;
-      counts = in_then M.tick M.is_exact ticks 0 10 (omega arith) c.hand_in.ensures (counts_none M.tick M.is_exact ticks u);
+      counts = in_then M.tick M.is_exact ticks 0 most_to_bring_in (omega arith) c.hand_in.ensures (counts_none M.tick M.is_exact ticks u);
       view = own_borne m.view u.view (b ∷ []) m.view.filled (m.view.lent -ℤ pos 1) came;
       two = subst (MakeTwo m.key b.frame (b.order - 1)) (sym (ap (λ (x : View). x.own) came))
           (two_small m.key b.frame b.order c.requires.some (omega (arith, c.order-order.ensures, c.if-order-lt-HUGE_ORDER.true))
@@ -51,7 +52,7 @@ returns g c =
     let now = c.break_up.ensures in
     record {
       keeps = others_both c.hand_in.ensures.keeps now.keeps;
-      counts = in_then M.tick M.is_exact ticks 9 10 (omega arith) c.hand_in.ensures now.counts;
+      counts = in_then M.tick M.is_exact ticks most_to_break_up most_to_bring_in (omega arith) c.hand_in.ensures now.counts;
       view = broken_up m.view u.view w.view b w.view.own (g.met.M.Moves.fills_own c.args.m.now c.requires.idle.own) came
           (own_borne u.view w.view (block (512 * c.child_of.result) 8 ∷ block (512 * c.child_of.result + 256) 8 ∷ [])
           [] u.view.lent now.view);

@@ -1,6 +1,7 @@
 use Rattle.std.proofs.Common.{◌≡◌, ◌+◌, ◌-◌, ◌^◌, ap, ◌∙◌, arith}
 use Rattle.frame_core.specs.Block.{block}
 use Rattle.low_frames.proofs.TakeLemmas.{then_counts, others_both}
+use Rattle.core_frames.specs.Bounds.{most_to_bring_in, most_in_split}
 use Rattle.core_frames.specs.Search.{HasLentOne}
 use Rattle.core_frames.specs.Splits.{AreHalves}
 use Rattle.core_frames.proofs.SplitLemmas.{split_up}
@@ -29,7 +30,7 @@ returns-clause-splits g c =
     } in
     record {
       keeps = others_both came.keeps out.brings.keeps;
-      counts = then_counts M.tick M.is_exact ticks 10 2 12 (omega arith) came.counts out.brings.counts;
+      counts = then_counts M.tick M.is_exact ticks most_to_bring_in 2 most_in_split (omega arith) came.counts out.brings.counts;
       ok = record {
         are_halves = are;
         first_out = out.first_out;

@@ -1,5 +1,6 @@
 use Rattle.std.proofs.Common.{Some, ap, arith}
 use Rattle.frame_model.specs.declared.view.View.{View}
+use Rattle.core_frames.specs.Bounds.{most_to_install}
 use Rattle.core_frames.specs.Search.{HasReserved, HasPutDown}
 use Rattle.core_frames.proofs.Carried.{can_put_in, swapped_none, swapped_some, can_unreserve, unreserved}
 use Rattle.core_frames.proofs.KeptFrames.{upper_tree}
@@ -34,7 +35,7 @@ returns-in_default g c =
     let m = M.at c.args.m.now in
     let u = M.at c.swap_local.new.self in
     let found = c.in_default.ensures.view in
-    swap_brings g.met.M.Moves.ticks HasPutDown 0 2 (omega arith) (g.met.M.Moves.stays_alone c.args.m.now) c.requires.core
+    swap_brings g.met.M.Moves.ticks HasPutDown 0 most_to_install (omega arith) (g.met.M.Moves.stays_alone c.args.m.now) c.requires.core
     (begun g.met.M.Moves.ticks m) c.in_default.ensures
     (swapped_none M.tick c.args.core found.0 (Some (c.args.tree, c.args.resting)) m.view u.view found.1 found.2)
 
@@ -48,7 +49,7 @@ returns g c =
     let found = c.in-Some.ensures.view in
     let holds = swapped_some M.tick c.args.core found.0 c.in-Some.last c.in-Some.count
     (Some (c.args.tree, c.args.resting)) m.view u.view found.1 found.2 in
-    make_brings ticks HasPutDown 1 2 (omega arith) (g.met.M.Moves.stays_alone c.swap_local.new.self)
+    make_brings ticks HasPutDown 1 most_to_install (omega arith) (g.met.M.Moves.stays_alone c.swap_local.new.self)
     (upper_tree m.key c.in-Some.last c.in-Some.ensures.is_rest.0)
     (swap_brings ticks (HasReserved c.in-Some.last c.in-Some.count) 0 1
     (omega arith) (g.met.M.Moves.stays_alone c.args.m.now) c.requires.core

@@ -3,6 +3,7 @@ use Rattle.frame_model.specs.declared.key.Key.{Key}
 use Rattle.frame_core.specs.Key.{tree_count}
 use Rattle.low_frames.proofs.Sure.{sure_both}
 use Rattle.low_frames.proofs.TakeLemmas.{keeps_both, then_counts, wider}
+use Rattle.core_frames.specs.Bounds.{most_visit}
 use Rattle.core_frames.specs.declared.trees.Pass.TheVariants.{AnyFree}
 use Rattle.core_frames.specs.Alone.{WereTried}
 use Rattle.core_frames.proofs.Carried.{idle_still, before_twice}
@@ -40,11 +41,11 @@ loop-tree-preserved g c =
     let next : j ≡ i + 1 = omega (arith, c.loop-tree.auto.tree, c.requires.begins) in
     record {
       keeps = keeps_both was.keeps now.keeps;
-      counts = then_counts M.tick M.is_exact ticks (710 * i) 710 (710 * j) (omega (arith, next)) was.counts now.counts;
+      counts = then_counts M.tick M.is_exact ticks (most_visit * i) most_visit (most_visit * j) (omega (arith, next)) was.counts now.counts;
       sure = sure_both was.sure now.sure;
       misses = record {
         view = before_twice m.view u.view w.view was.misses.view now.none.view;
-        made = made_both ticks m u w i 1 j (710 * i) (710 * i) 710 (710 * j)
+        made = made_both ticks m u w i 1 j (most_visit * i) (most_visit * i) most_visit (most_visit * j)
             (omega (arith, next)) (omega (arith, next)) (omega (arith, next))
             was.counts was.misses.made now.none.made;
         alone = λ alone.
@@ -67,7 +68,7 @@ returns-in-Some g c =
     let more : i + 1 ≤ n = omega (arith, c.loop-tree.auto.tree, c.requires.begins, c.loop-tree-test.true) in
     record {
       keeps = keeps_both was.keeps now.keeps;
-      counts = then_counts M.tick M.is_exact g.met.M.Moves.ticks (710 * i) 710 (710 * n) (omega (arith, more)) was.counts now.counts;
+      counts = then_counts M.tick M.is_exact g.met.M.Moves.ticks (most_visit * i) most_visit (most_visit * n) (omega (arith, more)) was.counts now.counts;
       sure = sure_both was.sure now.sure;
       some = out_then was.keeps was.misses.view
           (λ alone. keeps_found m.key
@@ -90,12 +91,12 @@ returns g c =
     let least : n ≤ i = omega (arith, c.loop-tree-test.false) in
     record {
       keeps = was.keeps;
-      counts = wider M.tick M.is_exact ticks (710 * i) (710 * n) (omega (arith, most)) was.counts;
+      counts = wider M.tick M.is_exact ticks (most_visit * i) (most_visit * n) (omega (arith, most)) was.counts;
       sure = was.sure;
       some = tt;
       none = record {
         view = was.misses.view;
-        made = made_both ticks m u u i 0 n (710 * i) (710 * i) 0 (710 * n)
+        made = made_both ticks m u u i 0 n (most_visit * i) (most_visit * i) 0 (most_visit * n)
             (omega (arith, least)) (omega (arith, most)) (omega (arith, most))
             was.counts was.misses.made (λ h. omega arith);
         alone = λ alone.

@@ -1,10 +1,12 @@
-use Rattle.std.proofs.Common.{◌≡◌, Some, ◌<◌, refl, ap, sym, subst, ◌∙◌, arith}
+use Rattle.std.proofs.Common.{◌+◌, ◌≡◌, Some, ◌<◌, refl, ap, sym, subst, ◌∙◌, arith}
 use Rattle.frame_model.specs.declared.key.Key.{Key}
 use Rattle.frame_model.specs.declared.view.View.{View}
 use Rattle.frame_core.specs.Key.{tree_count}
 use Rattle.frame_core.specs.View.{counted}
+use Rattle.low_frames.specs.Bounds.{attempt, most_in_tree}
 use Rattle.low_frames.proofs.Sure.{sure_both, sure_make}
 use Rattle.low_frames.proofs.TakeLemmas.{counts_none, keeps_both, make_then, then_counts, wider}
+use Rattle.core_frames.specs.Bounds.{most_to_install, most_visit}
 use Rattle.core_frames.specs.Search.{HasLentOne}
 use Rattle.core_frames.proofs.Carried.{carried_on, put_down_idle, can_unreserve, unreserved, reserves_less, lent_and_put_down}
 use Rattle.core_frames.proofs.AloneSearch.{reserved_keeps, passed_tried, reserved_tried}
@@ -62,12 +64,12 @@ returns-in_default g c =
     let got = c.in_default.ensures.gets in
     record {
       keeps = got.keeps;
-      counts = wider M.tick M.is_exact ticks 8 710 (omega arith) got.counts;
+      counts = wider M.tick M.is_exact ticks attempt most_visit (omega arith) got.counts;
       sure = got.sure;
       some = tt;
       none = record {
         view = got.none;
-        made = made_both ticks m m u 0 1 1 0 0 8 710 (omega arith) (omega arith) (omega arith) (counts_none M.tick M.is_exact ticks m)
+        made = made_both ticks m m u 0 1 1 0 0 attempt most_visit (omega arith) (omega arith) (omega arith) (counts_none M.tick M.is_exact ticks m)
             (λ h. omega arith) c.in_default.ensures.made;
         alone = λ alone. passed_tried m.key c.args.order c.args.least c.args.most c.args.tree m.words u.words (got.alone_none alone);
       };
@@ -85,17 +87,17 @@ returns-in_default-take_in_tree g c =
     let low = c.in_default-take_in_tree.ensures in
     let holds = carried_on m.view u.view w.view (counted c.args.tree c.in-Some.free)
     (Some c.args.tree) m.view.lent got.some.view low.none.view in
-    let rest = make_then M.tick M.is_exact ticks 700 701 (omega arith) low.counts c.unreserve.ensures in
+    let rest = make_then M.tick M.is_exact ticks most_in_tree (most_in_tree + 1) (omega arith) low.counts c.unreserve.ensures in
     record {
       keeps = keeps_both got.keeps (keeps_both low.keeps c.unreserve.ensures.keeps);
-      counts = then_counts M.tick M.is_exact ticks 8 701 710 (omega arith) got.counts rest;
+      counts = then_counts M.tick M.is_exact ticks attempt (most_in_tree + 1) most_visit (omega arith) got.counts rest;
       sure = sure_both got.sure (sure_both low.sure (sure_make (g.met.M.Moves.stays_alone c.take_in_tree.new.m) c.unreserve.ensures));
       some = tt;
       none = record {
         view = put_down_idle m.view x.view c.requires.idle
             (unreserved M.tick m.view w.view x.view c.args.tree c.in-Some.free m.view.lent holds c.unreserve.ensures.view);
-        made = made_both ticks m u x 1 0 1 8 8 701 710 (omega arith) (omega arith) (omega arith) got.counts c.in-Some.ensures.made
-            (made_none ticks 701 rest);
+        made = made_both ticks m u x 1 0 1 attempt attempt (most_in_tree + 1) most_visit (omega arith) (omega arith) (omega arith) got.counts c.in-Some.ensures.made
+            (made_none ticks (most_in_tree + 1) rest);
         alone = λ alone.
             let mid = got.keeps.stays_alone alone in
             reserved_tried m.is_alone m.key u.key w.key m.view c.args.order
@@ -121,8 +123,8 @@ returns g c =
     (record { is_block = low.some.is_one.is_block; has_order = low.some.is_one.has_order }) refl low.some in
     record {
       keeps = keeps_both got.keeps (keeps_both low.keeps c.install.ensures.keeps);
-      counts = then_counts M.tick M.is_exact ticks 708 2 710 (omega arith)
-          (then_counts M.tick M.is_exact ticks 8 700 708 (omega arith) got.counts low.counts) c.install.ensures.counts;
+      counts = then_counts M.tick M.is_exact ticks (attempt + most_in_tree) most_to_install most_visit (omega arith)
+          (then_counts M.tick M.is_exact ticks attempt most_in_tree (attempt + most_in_tree) (omega arith) got.counts low.counts) c.install.ensures.counts;
       sure = sure_both got.sure (sure_both low.sure c.install.ensures.sure);
       some = out_still HasLentOne out.is_one.is_block (keeps_both got.keeps low.keeps) out c.install.ensures
           (lent_and_put_down m.view u.view w.view x.view c.args.tree c.args.order c.in-Some.free c.requires.idle got.some.view low.some.view

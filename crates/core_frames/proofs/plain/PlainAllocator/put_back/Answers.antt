@@ -3,6 +3,7 @@ use Rattle.std.specs.List.{Contains}
 use Rattle.std.specs.List.Sorted.{IsPermutation}
 use Rattle.frame_model.specs.declared.block.FrameBlock.{FrameBlock}
 use Rattle.frame_core.specs.Key.{sealed_key}
+use Rattle.core_frames.specs.Bounds.{most_in_give}
 use Rattle.core_frames.specs.PlainBytes.{out_of, kept_of}
 use Rattle.core_frames.specs.PlainState.{PlainState}
 use Rattle.core_frames.proofs.PlainBytes.{out_byte, out_given, kept_given}
@@ -46,7 +47,7 @@ invariant_of-self c =
     moved m.geometry n.geometry a.ranges.items (sym (stays c))
     (renamed (set a.starts.items b.frame 0) (set a.starts.items c.frame-frame.result 0)
     (ap (λ (x : ℕ). set a.starts.items x 0) (sym c.frame-frame.ensures))
-    (given key _ _ m.words.items n.words.items a.starts.items a.habits.items a.refused c.self.invariant refl b has _ 32
+    (given key _ _ m.words.items n.words.items a.starts.items a.habits.items a.refused c.self.invariant refl b has _ most_in_give
     c.give_by.ensures.gives))
 
 pub returns-clause-out : goal.returns-clause-out
