@@ -14,3 +14,4 @@ pub mod LeftFrames
 pub mod Habits
 pub mod Left
 pub mod Refusals
+pub mod WrongAnswers

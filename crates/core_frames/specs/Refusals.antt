@@ -2,6 +2,7 @@
 use Rattle.std.specs.Prelude.{◌≢◌, ℕ, ◌+◌, ◌<◌, ◌≤◌, List, length, slice_index_or}
 use Rattle.frame_words.specs.Geometry.{huge_order}
 use Rattle.frame_words.specs.declared.fault.Fault.TheVariants as fault
+use Rattle.frame_words.specs.declared.geometry.Geometry.{Geometry}
 use Rattle.frame_words.specs.declared.fault.TakeFault.TheVariants.{BadOrder, NoBlock, Contended}
 use Rattle.frame_model.specs.declared.block.FrameBlock.{FrameBlock}
 use Rattle.frame_core.specs.Key.{tree_count}
@@ -11,6 +12,7 @@ use Rattle.core_frames.specs.declared.allocator.Allocator.{Allocator}
 use Rattle.core_frames.specs.declared.allocator.Core.{Core}
 use Rattle.core_frames.specs.Cores.{memory_of, number_of, view_in, moves_by, losses_by, AreNumbered}
 use Rattle.core_frames.specs.Left.{IsUnadoptedFor}
+use Rattle.core_frames.specs.Ranges.{IsUnopenedFor, MayHoldBack}
 use Rattle.core_frames.specs.Uses.{IsRefusedFor, IsRefusedAtDesk}
 
 -- no take of an order up to 9 is refused for its order, and none that steps
@@ -49,6 +51,12 @@ abbrev pub LeftIsRefused : Type 0
 LeftIsRefused = (a : Allocator) (b : FrameBlock) (left : List FrameBlock)
     → (IsLeft (memory_of a) left b → ¬ IsUnadoptedFor a b left fault.NotHeld)
     × (b.order ≤ huge_order → ¬ IsUnadoptedFor a b left fault.BadOrder)
+
+-- no opening refuses ranges that may be held back, and none takes memory as wanting for others
+abbrev pub RangesAreRefused : Type 0
+RangesAreRefused = (geometry : Geometry) (ranges : List (ℕ × ℕ))
+    → (MayHoldBack geometry ranges → ¬ IsUnopenedFor geometry ranges fault.BadRange)
+    × (¬ MayHoldBack geometry ranges → ¬ IsUnopenedFor geometry ranges fault.NoMemory)
 
 -- no closing says that a seat is missing where none is, or that memory is where a seat is
 abbrev pub ClosingIsRefused : Type 0

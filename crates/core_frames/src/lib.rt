@@ -31,7 +31,7 @@ pub use desk::Desk;
 pub use gives::give_by;
 pub use habit::Habit;
 pub use held_blocks::{Label, LabelledBlock, LabelledBlocks};
-pub use laws::wrong_refusals_are_not_told;
+pub use laws::{wrong_answers_are_not_told, wrong_refusals_are_not_told};
 pub use plain::PlainAllocator;
 pub use splits::split_by;
 pub use survivors::Survivors;

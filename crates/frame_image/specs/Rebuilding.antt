@@ -1,16 +1,22 @@
 -- An image in the course of being rebuilt.
 use Rattle.std.specs.Prelude.{◌≡◌, ℕ, ◌*◌, ◌<◌, List, None, map}
 use Rattle.std.specs.List.{range_with_len}
+use Rattle.frame_words.specs.declared.geometry.Geometry.{Geometry}
 use Rattle.frame_model.specs.declared.key.Key.{Key}
 use Rattle.frame_core.specs.Key.{tree_count}
 use Rattle.frame_core.specs.Words.{free_of, huge_of, tree_free_of, reserved_of, rest_of, bit_word_of}
 use Rattle.frame_core.specs.Image.{IsImage}
+use Rattle.frame_core.specs.Moves.{HasSizes}
 use Rattle.frame_core.specs.Rebuilt.{rebuilt_free, rebuilt_in_tree, rebuilt_bits, IsRebuilt}
 
 -- the new words are the old ones rebuilt, and no others are
 pub record RebuildsJust (key : Key) (old new : List ℕ) : Type 0 where
   pub rebuilt : IsRebuilt key old new
   pub only : (other : List ℕ) → IsRebuilt key old other → other ≡ new
+
+-- the new words are the old ones rebuilt, whatever a memory of these sizes holds back
+abbrev pub RebuildsAny : Geometry → List ℕ → List ℕ → Type 0
+RebuildsAny geometry old new = (key : Key) → HasSizes key geometry → IsRebuilt key old new
 
 -- the children and the trees below these numbers are rebuilt, and nothing is reserved
 pub record IsRebuiltBelow (key : Key) (old new : List ℕ) (child tree : ℕ) : Type 0 where

@@ -8,7 +8,7 @@ ghost use Rattle.frame_core.specs.Image.{key_in, with_child, IsImage};
 ghost use Rattle.frame_core.specs.Rebuilt.{IsRebuilt, rebuilt_free};
 ghost use Rattle.frame_table.specs.Openings.{unsealed_key};
 ghost use Rattle.frame_image.specs.ImageText.{child_bits as the_child_bits};
-ghost use Rattle.frame_image.specs.Rebuilding.{IsRebuiltBelow, RebuildsJust, rebuilt_child};
+ghost use Rattle.frame_image.specs.Rebuilding.{IsRebuiltBelow, RebuildsAny, RebuildsJust, rebuilt_child};
 
 use frame_core::Image;
 use frame_words::{CHILD_FRAMES, Fault};
@@ -20,6 +20,8 @@ pub fn rebuild(alloc: Global, image: &Image) -> Result<Image, Fault>
     ensures geometry { IfOk result (λ rebuilt. rebuilt.geometry ≡ image.now.geometry) }
     ensures rebuilt { IfOk result (λ rebuilt.
         IsRebuilt (key_in image.now) image.now.words rebuilt.words) }
+    ensures any { IfOk result (λ rebuilt.
+        RebuildsAny image.now.geometry image.now.words rebuilt.words) }
     ensures again { IfOk result (λ rebuilt.
         RebuildsJust (key_in image.now) rebuilt.words rebuilt.words) }
     ensures opens { IfOk result (λ rebuilt.

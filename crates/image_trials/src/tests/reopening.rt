@@ -5,7 +5,7 @@ ghost use Rattle.std.specs.List.{All};
 ghost use Rattle.core_frames.specs.Cores.{IsCoreOf};
 ghost use Rattle.core_frames.specs.Left.{IsSurvivorsOf};
 
-use super::texts::{CUT, HURT, SPLIT, spelled};
+use super::texts::{CUT, CUT_IN_USE, HURT, SPLIT, spelled};
 use core_frames::{Allocator, Core, Survivors};
 use frame_core::{HeldBlock, Image};
 use frame_image::{image_of, rebuild, reopen};
@@ -167,5 +167,34 @@ fn nobody_adopts_frames_past_the_end(rt: HostRuntime) -> Result<(), Fail> {
     );
     let image = closed(rt.alloc(), allocator, core)?;
     assert_eq!(rt; (image.free(0), image.tree_free(0)), (300, 300));
+    Ok(())
+}
+
+// Takes of a frame, far more than there are: how many there were, the sum of their numbers, and the
+// greatest one.
+fn take_frames(allocator: &Allocator, core: &mut Core) -> (u32, u32, u32)
+    requires { IsCoreOf allocator.now core.old }
+    ensures { IsCoreOf allocator.now core.new }
+{
+    let (mut count, mut sum, mut last) = (0u32, 0u32, 0u32);
+    for _i in 0..600u32 {
+        if let Ok(block) = allocator.take(core, 0) {
+            count = count.saturating_add(1);
+            sum = sum.saturating_add(block.frame());
+            last = last.max(block.frame());
+        }
+    }
+    (count, sum, last)
+}
+
+#[test]
+fn what_is_taken_after_a_reopening_lies_inside(rt: HostRuntime) -> Result<(), Fail> {
+    // Each frame once: of 0 to 299 the sum is 44,850; and of all but the first four.
+    for (short, count, sum) in [(CUT, 300, 44_850), (CUT_IN_USE, 296, 44_844)] {
+        let (allocator, mut core, _survivors) = reopened(rt.alloc(), short)?;
+        assert_eq!(rt; take_frames(&allocator, &mut core), (count, sum, 299));
+        let image = closed(rt.alloc(), allocator, core)?;
+        assert_eq!(rt; (image.free(0), image.tree_free(0)), (0, 0));
+    }
     Ok(())
 }

@@ -19,6 +19,10 @@ pub const SPLIT: &str =
 pub const CUT: &str = "llfree,2,1,1,300\nchild,0,300,0,0{64}fffff00000000000f{48}\ntree,0,300,0,\n\
     core,0,,,\n";
 
+/// The same, of which the first four frames are held.
+pub const CUT_IN_USE: &str = "llfree,2,1,1,300\nchild,0,296,0,0{15}f0{48}fffff00000000000f{48}\n\
+    tree,0,296,0,\ncore,0,,,\n";
+
 // What stands in braces says how many there are of the character before.
 pub fn spelled(alloc: Global, short: &str) -> Result<Vec<u8>, Fail> {
     let mut text = Vec::new(alloc);

@@ -4,7 +4,7 @@ use Rattle.frame_core.specs.Key.{key_of}
 use Rattle.frame_core.specs.Image.{key_in, blank_words}
 use Rattle.frame_core.specs.Rebuilt.{IsRebuilt}
 use Rattle.frame_image.proofs.RebuildLemmas.{none_rebuilt, all_rebuilt, rebuilds_just}
-use Rattle.frame_image.proofs.Resealed.{exact_resealed}
+use Rattle.frame_image.proofs.Resealed.{exact_resealed, rebuilds_any}
 use Rattle.frame_image.proofs.recovery.rebuild.Goals as goal
 
 pub rebuild_children-requires-clause-none : goal.rebuild_children-requires-clause-none
@@ -18,6 +18,12 @@ returns-clause-again c =
     let image = c.args.image.now in
     let is = c.geometry.ensures.in_range in
     rebuilds_just (key_in image) image.words _ is.in_range (all_rebuilt (key_in image) image.words is _ c.rebuild_trees.ensures.all)
+
+pub returns-clause-any : goal.returns-clause-any
+returns-clause-any c =
+    let image = c.args.image.now in
+    rebuilds_any image.geometry image.words _
+    (all_rebuilt (key_in image) image.words c.geometry.ensures.in_range _ c.rebuild_trees.ensures.all)
 
 pub returns-clause-opens : goal.returns-clause-opens
 returns-clause-opens c =

@@ -1,0 +1,16 @@
+use Rattle.std.proofs.Common.{arith}
+use Rattle.std.proofs.lemmas.List.Elements.{All-contains}
+use Rattle.frame_table.specs.Closing.{kept_through, IsHeldIn}
+use Rattle.frame_table.specs.Seats.{view_of}
+use Rattle.core_frames.proofs.laws.wrong_answers_are_not_told.Goals as goal
+
+pub returns : goal.returns
+returns c = record {
+  past_the_end = λ a n b d e past taken. absurd (omega (arith, past, taken.inside));
+  clear = λ key seats image b x kept covered clear closing.
+      clear (All-contains (IsHeldIn key image.words) (kept_through seats) b closing.tells.kept_held kept x covered);
+  overlap = λ key seats image x twice closing. absurd (omega (arith, twice, closing.tells.kept_apart.disjoint x));
+  clear_at_stop = λ key last image b x kept covered clear stop.
+      clear (All-contains (IsHeldIn key image.words) (view_of last).kept b stop.kept_held kept x covered);
+  elsewhere = λ key last image none stop. none stop.state stop.id stop.eye stop.words stop.fits stop.at stop.seat;
+}
