@@ -1,15 +1,15 @@
 -- Zones are opened, one after another.
-use Rattle.std.proofs.Common.{◌≡◌, ℕ, ◌+◌, ◌<◌, ◌≤◌, List, [], ◌∷◌, ◌++◌, length, slice_index_or, refl, sym, ◌∙◌, ap, subst, arith, inl, inr, ◌%◌}
+use Rattle.std.proofs.Common.{◌≡◌, ℕ, ◌+◌, ◌<◌, List, [], ◌∷◌, ◌++◌, length, slice_index_or, refl, sym, ◌∙◌, ap, subst, arith, inl, inr, ◌%◌}
 use Rattle.std.specs.List.{All}
 use Rattle.frame_model.specs.declared.key.Key.{Key}
 use Rattle.std.proofs.lemmas.Bool.{cases_lt}
 use Rattle.std.proofs.lemmas.List.{get_or_append_left, get_or_push, length_push, get_or_default}
 use Rattle.core_frames.specs.declared.allocator.Allocator.{Allocator}
 use Rattle.core_frames.specs.declared.allocator.Core.{Core}
-use Rattle.core_frames.specs.Cores.{memory_of, IsNewCore, IsOpened}
+use Rattle.core_frames.specs.Cores.{IsNewCore, IsOpened}
 use Rattle.frame_zones.specs.Sizes.{AreLaidOut}
-use Rattle.frame_zones.specs.Spans.{end_of, memory_of_span, MayComeAfter, MayBeZones, HoldsLawful}
-use Rattle.frame_zones.specs.Openings.{AreNewCoresIn, IsLonger, IsAt, AreAt, AreDealt, IsBegun, IsNewIn, AreOpened}
+use Rattle.frame_zones.specs.Spans.{memory_of_span, MayComeAfter, MayBeZones, HoldsLawful}
+use Rattle.frame_zones.specs.Openings.{AreNewCoresIn, IsLonger, IsAt, AreAt, AreDealt, IsBegun, AreOpened}
 use Rattle.frame_zones.specs.Zones.{zone_count}
 use Rattle.frame_zones.specs.declared.spans.Span.{Span}
 use Rattle.frame_zones.specs.declared.zones.Zones.{Zones}
@@ -144,9 +144,8 @@ opening_all zs cores spans all may was count = record {
       let new : AreNewCoresIn zs.zones.items (slice_index_or all k c) = was.each k c within in
       record {
         are_cores = record {
-          count = new.count;
+          parts = record { count = new.count; each = λ z a x z-within. (new.each z a x z-within).is_core };
           home = subst (λ n. (slice_index_or all k c).home < n) (sym count) (was.homes k c within);
-          each = λ z a x z-within. (new.each z a x z-within).is_core;
         };
         each = λ z a x z-within. new.each z a x z-within;
       };

@@ -1,5 +1,6 @@
 pub mod Lying
 pub mod Placing
+pub mod Sums
 pub mod Rounds
 pub mod Apart
 pub mod Dealing

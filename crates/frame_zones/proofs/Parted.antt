@@ -1,13 +1,14 @@
 -- The last zone and its cores.
-use Rattle.std.proofs.Common.{◌≡◌, ℕ, ◌+◌, ◌%◌, ◌<◌, ◌≤◌, List, [], ◌∷◌, ◌++◌, length, slice_index_or, refl, sym, ◌∙◌, ap, subst, arith, rules}
+use Rattle.std.proofs.Common.{◌≡◌, ℕ, ◌+◌, ◌%◌, ◌<◌, ◌≤◌, List, [], ◌∷◌, ◌++◌, length, slice_index_or, refl, sym, ◌∙◌, ap, subst, arith}
 use Rattle.std.specs.List.{All}
 use Rattle.std.proofs.lemmas.List.{get_or_append_left, get_or_push, length_push}
-use Rattle.std.proofs.lemmas.List.Elements.{All-get_or, All-from_get_or}
+use Rattle.std.proofs.lemmas.List.Elements.{All-get_or}
 use Rattle.core_frames.specs.declared.allocator.Allocator.{Allocator}
 use Rattle.core_frames.specs.declared.allocator.Core.{Core}
 use Rattle.core_frames.specs.Cores.{IsCoreOf}
 use Rattle.frame_zones.specs.Openings.{IsLonger, AreDealt}
-use Rattle.frame_zones.specs.Parting.{HasCoresIn, PartsOff, KeepsFirsts}
+use Rattle.frame_zones.specs.Parting.{PartsOff, KeepsFirsts}
+use Rattle.frame_zones.specs.Zones.{HasCoresIn}
 use Rattle.frame_zones.specs.Sizes.{AreLaidOut, end_from}
 use Rattle.frame_zones.specs.Spans.{most_zone_frames}
 use Rattle.frame_zones.specs.declared.zones.ZoneCore.{ZoneCore}

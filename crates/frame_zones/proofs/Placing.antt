@@ -5,7 +5,7 @@ use Rattle.std.proofs.lemmas.List.{get_or_default}
 use Rattle.core_frames.specs.declared.allocator.Allocator.{Allocator}
 use Rattle.core_frames.specs.declared.allocator.Core.{Core}
 use Rattle.core_frames.specs.Cores.{IsCoreOf, StaysCoreOf, IsOutOf}
-use Rattle.frame_zones.specs.Zones.{zone_count, zone_at, core_at, AreCoresOf, StayCoresOf, IsOutIn}
+use Rattle.frame_zones.specs.Zones.{zone_count, zone_at, core_at, InEach, AreCoresOf, StayCoresOf, IsOutIn}
 use Rattle.frame_zones.specs.Uses.{OthersStay}
 use Rattle.frame_zones.specs.declared.zones.Zones.{Zones}
 use Rattle.frame_zones.specs.declared.zones.ZoneCore.{ZoneCore}
@@ -16,7 +16,7 @@ pub core_read : (zs : Zones) (c : ZoneCore) (z : ℕ) (a : Allocator) (x : Core)
     → z < zone_count zs → a ≡ zone_at zs z a → x ≡ core_at c z x → IsCoreOf a x
 core_read zs c z a x are within a-is x-is =
     subst (λ (b : Allocator). IsCoreOf b x) (sym a-is)
-    (subst (λ (y : Core). IsCoreOf (zone_at zs z a) y) (sym x-is) (are.each z a x within))
+    (subst (λ (y : Core). IsCoreOf (zone_at zs z a) y) (sym x-is) (are.parts.each z a x within))
 
 -- the block is out of its zone, as it was read
 pub block_read : (zs : Zones) (b : ZoneBlock) (a : Allocator) → IsOutIn zs b
@@ -58,14 +58,23 @@ pub stay_cores : (zs : Zones) (c d : ZoneCore) (z : ℕ) (a : Allocator) (x y : 
     → AreCoresOf zs c → z < zone_count zs → a ≡ zone_at zs z a → x ≡ core_at c z x
     → d.cores.items ≡ slice_set c.cores.items z y → d.home ≡ c.home → StaysCoreOf a x y
     → StayCoresOf zs c d
-stay_cores zs c d z a x y are within a-is x-is is home stays = record {
-  count = ap length is ∙ length-set c.cores.items z y ∙ are.count;
-  same_home = home;
-  each = λ k b e k-within. elim (cases_eq k z) as (λ _. StaysCoreOf (zone_at zs k b) (core_at c k e) (core_at d k e)) [
-    | inl same ↦ subst (λ i. StaysCoreOf (zone_at zs i b) (core_at c i e) (core_at d i e)) (sym same)
-        (at_any_zone (λ f g h. StaysCoreOf f g h) zs c d z a b x y e within are.count a-is x-is is stays)
-    | inr other ↦ subst (λ (g : Core). StaysCoreOf (zone_at zs k b) (core_at c k e) g)
-        (sym (others_stay zs c d z y is k e k-within other))
-        (record { is_core = are.each k b e k-within; same_number = refl })
-  ];
-}
+stay_cores zs c d z a x y are within a-is x-is is home stays =
+    let each : InEach zs StaysCoreOf c d = λ k b e k-within.
+    elim (cases_eq k z) as (λ _. StaysCoreOf (zone_at zs k b) (core_at c k e) (core_at d k e)) [
+      | inl same ↦ subst (λ i. StaysCoreOf (zone_at zs i b) (core_at c i e) (core_at d i e)) (sym same)
+          (at_any_zone (λ f g h. StaysCoreOf f g h) zs c d z a b x y e within are.parts.count a-is x-is is stays)
+      | inr other ↦ subst (λ (g : Core). StaysCoreOf (zone_at zs k b) (core_at c k e) g)
+          (sym (others_stay zs c d z y is k e k-within other))
+          (record { is_core = are.parts.each k b e k-within; same_number = refl })
+    ] in
+    record {
+      are_cores = record {
+        parts = record {
+          count = ap length is ∙ length-set c.cores.items z y ∙ are.parts.count;
+          each = λ k b e k-within. (each k b e k-within).is_core;
+        };
+        home = subst (λ h. h < zone_count zs) (sym home) are.home;
+      };
+      same_home = home;
+      same_numbers = λ k b e k-within. (each k b e k-within).same_number;
+    }

@@ -1,5 +1,5 @@
 -- A round over the zones, one after another, each of them once.
-use Rattle.std.proofs.Common.{◌≡◌, ℕ, ◌<◌, ◌≤◌, Bool, true, false, ◌||◌, Ok, Err, refl, sym, ◌∙◌, ap, subst, arith, inl, inr, ◌⊎◌, List, [], ◌∷◌, length}
+use Rattle.std.proofs.Common.{◌≡◌, ℕ, ◌<◌, ◌≤◌, Bool, true, false, ◌||◌, Result, Ok, Err, refl, sym, ◌∙◌, ap, subst, arith, inl, inr, ◌⊎◌, List, [], ◌∷◌, length}
 use Rattle.std.proofs.lemmas.Bool.{cases_eq, or_cases, true≢false, false≢true}
 use Rattle.frame_words.specs.declared.fault.TakeFault.{TakeFault}
 use Rattle.frame_words.specs.declared.fault.TakeFault.TheVariants.{BadOrder, NoBlock, Contended}
@@ -14,29 +14,18 @@ use Rattle.frame_zones.specs.declared.zones.Zones.{Zones}
 use Rattle.frame_zones.specs.declared.zones.ZoneCore.{ZoneCore}
 use Rattle.frame_zones.specs.declared.block.ZoneBlock.{ZoneBlock}
 
--- the cores of a memory that stay so
-pub still_cores : (zs : Zones) (c d : ZoneCore) → AreCoresOf zs c → StayCoresOf zs c d → AreCoresOf zs d
-still_cores zs c d are stay = record {
-  count = stay.count;
-  home = subst (λ h. h < zone_count zs) (sym stay.same_home) are.home;
-  each = λ z a x within. (stay.each z a x within).is_core;
-}
-
 pub stay_on : (zs : Zones) (c d e : ZoneCore) → StayCoresOf zs c d → StayCoresOf zs d e → StayCoresOf zs c e
 stay_on zs c d e one two = record {
-  count = two.count;
+  are_cores = two.are_cores;
   same_home = two.same_home ∙ one.same_home;
-  each = λ z a x within. record {
-    is_core = (two.each z a x within).is_core;
-    same_number = (two.each z a x within).same_number ∙ (one.each z a x within).same_number;
-  };
+  same_numbers = λ z a x within. two.same_numbers z a x within ∙ one.same_numbers z a x within;
 }
 
 pub stay_at_all : (zs : Zones) (c : ZoneCore) → AreCoresOf zs c → StayCoresOf zs c c
 stay_at_all zs c are = record {
-  count = are.count;
+  are_cores = are;
   same_home = refl;
-  each = λ z a x within. record { is_core = are.each z a x within; same_number = refl };
+  same_numbers = λ z a x within. refl;
 }
 
 -- the zones that were seen had no block, and the others were left alone
@@ -122,6 +111,14 @@ some_part (x ∷ l) within = x
 some_core : (c : ZoneCore) (z : ℕ) → z < length c.cores.items → Core
 some_core c z within = some_part c.cores.items (omega (arith, within))
 
+-- the moves of a step in the next zone, and those before it
+pub round_moves : (zs : Zones) (Seen : ℕ → Type 0) (n : ℕ) (contended : Bool) (answer : Result ZoneBlock TakeFault)
+    (z : ℕ) (c d e : ZoneCore) → z < zone_count zs → Progress zs Seen n contended c d
+    → TakesIn zs z n answer d e → ¬ Seen z → InEach zs MovesWithin c e
+round_moves zs Seen n contended answer z c d e within was step fresh k a x k-within =
+    one_step MovesWithin zs z c d e (λ y. was.unseen z y within fresh) step.others (λ b y. step.moves b y) k a x k-within
+    (λ _. was.moves k a x k-within)
+
 -- one zone more was seen
 pub progress_more : (zs : Zones) (Seen Now : ℕ → Type 0) (n : ℕ) (contended : Bool) (fault : TakeFault)
     (z : ℕ) (c d e : ZoneCore) → n ≤ 9 → z < zone_count zs → Progress zs Seen n contended c d
@@ -136,8 +133,7 @@ progress_more zs Seen Now n contended fault z c d e few within was stays step fr
           (λ _. was.kept k a x k-within);
       lent = λ k a x k-within. one_step LendsAsMany zs z c d e alone step.others (λ b y. (step.err b y).1) k a x k-within
           (λ _. was.lent k a x k-within);
-      moves = λ k a x k-within. one_step MovesWithin zs z c d e alone step.others (λ b y. step.moves b y) k a x k-within
-          (λ _. was.moves k a x k-within);
+      moves = round_moves zs Seen n contended (Err fault) z c d e within was step fresh;
       seen = λ k a x is k-within. one_step (λ b. HasMovedForEach b n) zs z c d e alone step.others
           (λ b y. looked _ n _ _ fault few (step.err b y).0) k a x k-within
           (λ other. elim (one_more k is) as (λ _. HasMovedForEach (zone_at zs k a) n (core_at c k x) (core_at d k x)) [
@@ -199,13 +195,12 @@ round_taken zs Seen n contended b z c d e within was step fresh =
     record {
       kept = λ k a x k-within. one_step KeepsAll zs z c d e alone step.others (λ b y. step.kept y) k a x k-within
           (λ _. was.kept k a x k-within);
-      moves = λ k a x k-within. one_step MovesWithin zs z c d e alone step.others (λ b y. step.moves b y) k a x k-within
-          (λ _. was.moves k a x k-within);
+      moves = round_moves zs Seen n contended (Ok b) z c d e within was step fresh;
       ok = record {
         is_out = record {
           zone = subst (λ i. i < zone_count zs) (sym step.ok.0) within;
           is_out = λ a. subst (λ i. IsOutOf (zone_at zs i a) b.block) (sym step.ok.0)
-              (step.ok.1 a (some_core d z (subst (λ i. z < i) (sym was.stay.count) within))).is_out;
+              (step.ok.1 a (some_core d z (subst (λ i. z < i) (sym was.stay.are_cores.parts.count) within))).is_out;
         };
         here = λ a x. subst (λ i. HasTaken (zone_at zs i a) n b.block (core_at c i x) (core_at e i x)) (sym step.ok.0)
             (subst (λ (y : Core). HasTaken (zone_at zs z a) n b.block y (core_at e z x)) (alone x) (step.ok.1 a x));

@@ -1,5 +1,5 @@
 -- What a core of all zones keeps.
-use Rattle.std.specs.Prelude.{◌≡◌, ℕ, Contains}
+use Rattle.std.specs.Prelude.{ℕ, Contains}
 use Rattle.frame_model.specs.declared.block.FrameBlock.{FrameBlock}
 use Rattle.frame_table.specs.Keeping.{HasKept, HasRecalled}
 use Rattle.core_frames.specs.declared.allocator.Core.{Core}

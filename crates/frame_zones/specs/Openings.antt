@@ -8,7 +8,7 @@ use Rattle.core_frames.specs.declared.allocator.Allocator.{Allocator}
 use Rattle.core_frames.specs.declared.allocator.Core.{Core}
 use Rattle.core_frames.specs.Cores.{memory_of, IsNewCore}
 use Rattle.frame_zones.specs.Spans.{memory_of_span, MayBeZones, HoldsLawful}
-use Rattle.frame_zones.specs.Zones.{zone_count, first_frame_of, zone_at, AreCoresOf, InEach}
+use Rattle.frame_zones.specs.Zones.{zone_count, AreCoresOf, InEach}
 use Rattle.frame_zones.specs.declared.spans.Span.{Span}
 use Rattle.frame_zones.specs.declared.zones.Zones.{Zones}
 use Rattle.frame_zones.specs.declared.zones.ZoneCore.{ZoneCore}

@@ -5,17 +5,12 @@ use Rattle.core_frames.specs.declared.allocator.Allocator.{Allocator}
 use Rattle.core_frames.specs.declared.allocator.Core.{Core}
 use Rattle.core_frames.specs.Cores.{IsCoreOf}
 use Rattle.frame_zones.specs.Openings.{AreDealt}
+use Rattle.frame_zones.specs.Zones.{HasCoresIn}
 use Rattle.frame_zones.specs.declared.zones.ZoneCore.{ZoneCore}
 
 -- the core has a part in some zone
 abbrev pub HasPart : ZoneCore → Type 0
 HasPart c = 0 < length c.cores.items
-
--- a core of each of these allocators
-pub record HasCoresIn (zones : List Allocator) (c : ZoneCore) : Type 0 where
-  pub count : length c.cores.items ≡ length zones
-  pub each : (z : ℕ) (a : Allocator) (x : Core) → z < length zones
-      → IsCoreOf (slice_index_or zones z a) (slice_index_or c.cores.items z x)
 
 -- the last of the allocators was parted off, with its cores, in order; the others and their cores are
 -- as before

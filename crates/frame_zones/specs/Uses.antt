@@ -1,5 +1,6 @@
 -- What takes and gives through cores of all zones leave.
 use Rattle.std.specs.Prelude.{◌≡◌, ℕ, ◌+◌, ◌*◌, ◌<◌, ◌≤◌, Result, IfOk, IfErr}
+use Rattle.std.specs.List.{sum_by}
 use Rattle.frame_words.specs.declared.fault.TakeFault.{TakeFault}
 use Rattle.frame_words.specs.declared.fault.TakeFault.TheVariants.{BadOrder, NoBlock, Contended}
 use Rattle.core_frames.specs.declared.allocator.Allocator.{Allocator}
@@ -41,6 +42,14 @@ MovesWithin a x y = moves_by y ≤ moves_by x + most_moves_in a
 -- at most so many moves were made in this zone
 abbrev pub MovesAtMost : ℕ → ℕ → ZoneCore → ZoneCore → Type 0
 MovesAtMost n z c d = (x : Core) → moves_by (core_at d z x) ≤ moves_by (core_at c z x) + n
+
+-- how many moves were made through the core, in all zones
+abbrev pub moves_through : ZoneCore → ℕ
+moves_through c = sum_by moves_by c.cores.items
+
+-- the most moves of a take, in all zones
+abbrev pub most_moves_among : Zones → ℕ
+most_moves_among zs = sum_by most_moves_in zs.zones.items
 
 -- no exchange was lost
 abbrev pub LosesNone : Allocator → Core → Core → Type 0

@@ -1,9 +1,9 @@
 -- What contracts see of the zones of a memory, of a core of all of them, and of a block of one.
-use Rattle.std.specs.Prelude.{◌≡◌, ℕ, ◌+◌, ◌<◌, length, slice_index_or}
+use Rattle.std.specs.Prelude.{◌≡◌, ℕ, ◌+◌, ◌<◌, List, length, slice_index_or}
 use Rattle.frame_table.specs.Seats.{block_in}
 use Rattle.core_frames.specs.declared.allocator.Allocator.{Allocator}
 use Rattle.core_frames.specs.declared.allocator.Core.{Core}
-use Rattle.core_frames.specs.Cores.{IsCoreOf, StaysCoreOf, IsOutOf}
+use Rattle.core_frames.specs.Cores.{number_of, IsCoreOf, IsOutOf}
 use Rattle.frame_zones.specs.declared.zones.Zones.{Zones}
 use Rattle.frame_zones.specs.declared.zones.ZoneCore.{ZoneCore}
 use Rattle.frame_zones.specs.declared.block.ZoneBlock.{ZoneBlock}
@@ -33,17 +33,22 @@ abbrev pub InEach : Zones → (Allocator → Core → Core → Type 0) → ZoneC
 InEach zs Holds c d = (z : ℕ) (a : Allocator) (x : Core) → z < zone_count zs
     → Holds (zone_at zs z a) (core_at c z x) (core_at d z x)
 
--- there is a core for each zone, which belongs to that zone, and takes begin in one of the zones
+-- there is a core for each of these allocators, which belongs to it
+pub record HasCoresIn (zones : List Allocator) (c : ZoneCore) : Type 0 where
+  pub count : length c.cores.items ≡ length zones
+  pub each : (z : ℕ) (a : Allocator) (x : Core) → z < length zones
+      → IsCoreOf (slice_index_or zones z a) (slice_index_or c.cores.items z x)
+
+-- there is one for each zone, and takes begin in one of the zones
 pub record AreCoresOf (zs : Zones) (c : ZoneCore) : Type 0 where
-  pub count : length c.cores.items ≡ zone_count zs
+  pub parts : HasCoresIn zs.zones.items c
   pub home : c.home < zone_count zs
-  pub each : InEach zs (λ a x _. IsCoreOf a x) c c
 
 -- there still is, each as the same one of its zone's cores
 pub record StayCoresOf (zs : Zones) (c d : ZoneCore) : Type 0 where
-  pub count : length d.cores.items ≡ zone_count zs
+  pub are_cores : AreCoresOf zs d
   pub same_home : d.home ≡ c.home
-  pub each : InEach zs StaysCoreOf c d
+  pub same_numbers : InEach zs (λ _ x y. number_of y ≡ number_of x) c d
 
 -- the block was handed out by the zone that it names
 pub record IsOutIn (zs : Zones) (b : ZoneBlock) : Type 0 where

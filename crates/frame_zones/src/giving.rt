@@ -1,7 +1,8 @@
 //! Gives of cores of all zones.
 
+ghost use Rattle.std.specs.Prelude.{◌+◌, ◌≤◌};
 ghost use Rattle.frame_zones.specs.Zones.{AreCoresOf, StayCoresOf, IsOutIn};
-ghost use Rattle.frame_zones.specs.Uses.{GivesIn, MovesAtMost};
+ghost use Rattle.frame_zones.specs.Uses.{GivesIn, MovesAtMost, moves_through};
 
 use crate::block::ZoneBlock;
 use crate::zones::{ZoneCore, Zones};
@@ -14,6 +15,7 @@ impl Zones {
         ensures core { StayCoresOf self.now core.old core.new }
         ensures gives { GivesIn self.now block.zone core.old core.new }
         ensures moves { MovesAtMost 32 block.zone core.old core.new }
+        ensures all_moves { moves_through core.new ≤ moves_through core.old + 32 }
     {
         let ZoneBlock { zone, block } = block;
         let zone = zone as usize;

@@ -1,9 +1,10 @@
 //! Blocks of zones that a core keeps.
 
-ghost use Rattle.std.specs.Prelude.{◌≡◌, ◌<◌};
+ghost use Rattle.std.specs.Prelude.{◌≡◌, ◌+◌, ◌<◌};
 ghost use Rattle.frame_core.specs.Block.{block as block_at};
 ghost use Rattle.frame_table.specs.Seats.{block_in};
 ghost use Rattle.frame_zones.specs.Keeping.{IsKeptIn, KeepsIn, RecallsIn};
+ghost use Rattle.frame_zones.specs.Uses.{moves_through};
 ghost use Rattle.frame_zones.specs.Zones.{zone_count, AreCoresOf, StayCoresOf, IsOutIn};
 
 use crate::block::ZoneBlock;
@@ -17,6 +18,7 @@ impl Zones {
         requires block { IsOutIn self.now block }
         ensures core { StayCoresOf self.now core.old core.new }
         ensures keeps { KeepsIn self.now block.zone (block_in block.block) core.old core.new }
+        ensures all_moves { moves_through core.new ≡ moves_through core.old + 1 }
         ensures zone { result.0 ≡ block.zone }
         ensures answer { block_at result.1 result.2 ≡ block_in block.block }
     {
@@ -33,6 +35,7 @@ impl Zones {
         requires kept { IsKeptIn zone (block_at frame order) core.old }
         ensures core { StayCoresOf self.now core.old core.new }
         ensures recalls { RecallsIn self.now zone (block_at frame order) core.old core.new }
+        ensures all_moves { moves_through core.new ≡ moves_through core.old + 1 }
         ensures block { (result.zone ≡ zone) × (block_in result.block ≡ block_at frame order) }
         ensures out { IsOutIn self.now result }
     {

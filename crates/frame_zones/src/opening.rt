@@ -2,6 +2,9 @@
 
 ghost use Rattle.std.specs.Prelude.{◌≡◌, ◌<◌, IfOk, IfErr, OnOk, vec_len};
 ghost use Rattle.std.specs.List.{All};
+ghost use Rattle.core_frames.specs.Cores.{IsOpened};
+ghost use Rattle.core_frames.specs.Ranges.{IsUnopenedFor};
+ghost use Rattle.frame_zones.specs.Spans.{memory_of_span, HoldsLawful};
 ghost use Rattle.frame_zones.specs.Openings.{IsLonger, AreDealt, IsBegun, AreOpened, AreUnopenedFor};
 
 use crate::spans::{Span, may_be_zones};
@@ -25,13 +28,22 @@ impl Zones {
         let mut zones = Vec::with_capacity(alloc, spans.len())?;
         let mut firsts = Vec::with_capacity(alloc, spans.len())?;
         for span in spans {
-            let (zone, parts) = Allocator::open_with(alloc, span.geometry, &span.ranges)?;
+            let (zone, parts) = open_zone(alloc, span)?;
             deal(&mut all, parts)?;
             zones.push_reserved(zone);
             firsts.push_reserved(span.first);
         }
         Ok((Zones { zones, firsts }, all))
     }
+}
+
+// The allocator of the span, with its cores.
+fn open_zone(alloc: Global, span: &Span) -> Result<(Allocator, Vec<Core>), Fault>
+    ensures opened { IfOk result (λ r. IsOpened (memory_of_span span.now) r.0 r.1.items) }
+    ensures lawful { IfOk result (λ r. HoldsLawful span.now) }
+    ensures refused { IfErr result (IsUnopenedFor span.now.geometry span.now.ranges.items) }
+{
+    Allocator::open_with(alloc, span.geometry, &span.ranges)
 }
 
 // So many cores with no part yet, whose homes lie evenly among so many zones.

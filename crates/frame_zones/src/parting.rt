@@ -3,8 +3,8 @@
 ghost use Rattle.std.specs.Prelude.{◌≡◌, ◌<◌, ◌≤◌, [], IfOk, IfErr, OnErr, vec_len, vec_capacity, length};
 ghost use Rattle.std.specs.List.{All};
 ghost use Rattle.frame_zones.specs.Openings.{IsLonger, AreDealt};
-ghost use Rattle.frame_zones.specs.Parting.{HasPart, HasCoresIn, PartsOff, KeepsFirsts};
-ghost use Rattle.frame_zones.specs.Zones.{zone_count};
+ghost use Rattle.frame_zones.specs.Parting.{HasPart, PartsOff, KeepsFirsts};
+ghost use Rattle.frame_zones.specs.Zones.{zone_count, HasCoresIn};
 
 use crate::zones::{ZoneCore, Zones};
 use core_frames::{Allocator, Core};

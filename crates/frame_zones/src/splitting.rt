@@ -1,8 +1,9 @@
 //! Splits of blocks of zones.
 
+ghost use Rattle.std.specs.Prelude.{◌+◌, ◌≤◌};
 ghost use Rattle.frame_zones.specs.Zones.{AreCoresOf, StayCoresOf, IsOutIn};
 ghost use Rattle.frame_zones.specs.Splits.{SplitsIn};
-ghost use Rattle.frame_zones.specs.Uses.{MovesAtMost};
+ghost use Rattle.frame_zones.specs.Uses.{MovesAtMost, moves_through};
 
 use crate::block::ZoneBlock;
 use crate::zones::{ZoneCore, Zones};
@@ -19,6 +20,7 @@ impl Zones {
         ensures core { StayCoresOf self.now core.old core.new }
         ensures splits { SplitsIn self.now block result core.old core.new }
         ensures moves { MovesAtMost 12 block.zone core.old core.new }
+        ensures all_moves { moves_through core.new ≤ moves_through core.old + 12 }
     {
         let ZoneBlock { zone, block } = block;
         let place = zone as usize;

@@ -1,9 +1,9 @@
 //! Takes of cores of all zones.
 
-ghost use Rattle.std.specs.Prelude.{◌≡◌, ◌<◌, ◌||◌};
+ghost use Rattle.std.specs.Prelude.{◌≡◌, ◌+◌, ◌<◌, ◌≤◌, ◌||◌};
 ghost use Rattle.frame_zones.specs.Faults.{is_contended};
 ghost use Rattle.frame_zones.specs.Zones.{zone_count, AreCoresOf, StayCoresOf};
-ghost use Rattle.frame_zones.specs.Uses.{TakesAmong, TakesIn};
+ghost use Rattle.frame_zones.specs.Uses.{TakesAmong, TakesIn, moves_through, most_moves_among};
 
 use crate::block::ZoneBlock;
 use crate::zones::{ZoneCore, Zones};
@@ -16,6 +16,7 @@ impl Zones {
         requires { AreCoresOf self.now core.old }
         ensures core { StayCoresOf self.now core.old core.new }
         ensures takes { TakesAmong self.now order result core.old core.new }
+        ensures all_moves { moves_through core.new ≤ moves_through core.old + most_moves_among self.now }
     {
         if order > HUGE_ORDER {
             return Err(TakeFault::BadOrder);

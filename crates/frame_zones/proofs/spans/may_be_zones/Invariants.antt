@@ -1,5 +1,5 @@
 use Rattle.std.proofs.Common.{◌≤◌, length, drop}
-use Rattle.frame_zones.specs.Spans.{most_zones, most_zone_frames, AreSpans}
+use Rattle.frame_zones.specs.Spans.{most_zones, AreSpans}
 use Rattle.frame_zones.proofs.spans.may_be_zones.Given as goal
 
 abbrev pub invariant-loop-span : goal.invariant-loop-span

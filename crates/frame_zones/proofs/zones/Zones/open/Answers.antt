@@ -1,9 +1,5 @@
 use Rattle.std.proofs.Common.{◌≡◌, ◌<◌, ◌++◌, ◌∷◌, [], length, slice_index_or, List, ℕ, sym, ◌∙◌, ap, subst, arith, rules}
 use Rattle.core_frames.specs.declared.allocator.Allocator.{Allocator}
-use Rattle.core_frames.specs.Cores.{IsOpened}
-use Rattle.core_frames.specs.Ranges.{MayHoldBack}
-use Rattle.frame_core.specs.Key.{sealed_key}
-use Rattle.frame_zones.specs.Spans.{memory_of_span, HoldsLawful}
 use Rattle.frame_zones.specs.declared.spans.Span.{Span}
 use Rattle.frame_zones.proofs.Begun.{IsOpening, opening_one, opening_all, laid_out}
 use Rattle.frame_zones.proofs.Lying.{one_at}
@@ -39,8 +35,8 @@ loop-span-preserved c =
           (sym c.push_reserved-in-loop-span.ensures.items)
           (opening_one (length spans) c.args.cores spans c.loop-span.zones.items c.loop-span.firsts.items c.loop-span.all.items _ s c.in_ok-zone.zone c.in_ok-zone.parts.items
           inv.opening
-          (subst (λ (l : List (ℕ × ℕ)). IsOpened (sealed_key s.geometry l) c.in_ok-zone.zone c.in_ok-zone.parts.items) c.deref.ensures.value c.in_ok-zone.ensures.opened)
-          (subst (λ (l : List (ℕ × ℕ)). MayHoldBack s.geometry l) c.deref.ensures.value c.in_ok-zone.ensures.lawful)
+          c.in_ok-zone.ensures.opened
+          c.in_ok-zone.ensures.lawful
           (c.span-item.is ∙ ap (λ i. slice_index_or spans i s) (sym inv.count))
           (subst (λ i. i < length spans) (sym inv.count) c.loop-span-test.true)
           (c.in_ok-zone.ensures.opened.count ∙ same ∙ sym inv.opening.as_many)

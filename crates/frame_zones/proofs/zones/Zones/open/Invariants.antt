@@ -1,5 +1,4 @@
 use Rattle.std.proofs.Common.{◌≡◌, ◌≤◌, length, vec_capacity}
-use Rattle.std.specs.List.{All}
 use Rattle.frame_zones.specs.Spans.{MayBeZones}
 use Rattle.frame_zones.proofs.Begun.{IsOpening}
 use Rattle.frame_zones.proofs.zones.Zones.open.Given as goal

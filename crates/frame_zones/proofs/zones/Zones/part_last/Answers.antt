@@ -1,5 +1,4 @@
-use Rattle.std.proofs.Common.{◌≡◌, length, sym, ap, ◌∙◌}
-use Rattle.frame_zones.proofs.Parted.{parts_off, laid_less, keeps_firsts}
+use Rattle.frame_zones.proofs.Parted.{parts_off, laid_less}
 use Rattle.frame_zones.proofs.zones.Zones.part_last.Goals as goal
 
 pub returns-clause-parted : goal.returns-clause-parted

@@ -1,14 +1,15 @@
 use Rattle.std.proofs.Common.{◌≡◌, ◌<◌, ◌≤◌, ◌+◌, ◌⊎◌, ℕ, inl, inr, sym, subst, arith, ⊎_elim}
 use Rattle.std.proofs.lemmas.Bool.{cases_eq, cases_lt}
 use Rattle.frame_zones.specs.Zones.{zone_count}
-use Rattle.frame_zones.proofs.Rounds.{Progress, still_cores, stay_on, no_progress, progress_more, round_taken, round_ends}
+use Rattle.frame_zones.proofs.Rounds.{Progress, stay_on, no_progress, progress_more, round_moves, round_taken, round_ends}
+use Rattle.frame_zones.proofs.Sums.{within_all}
 use Rattle.frame_zones.proofs.zones.Zones.take.Goals as goal
 
 pub loop-zone-init : goal.loop-zone-init
 loop-zone-init c = no_progress _ _ _ _ c.requires (λ z is. omega (arith, is.0, is.1))
 
 pub take_in-requires-clause-core : goal.take_in-requires-clause-core
-take_in-requires-clause-core c = still_cores _ _ _ c.requires c.loop-zone.invariant.stay
+take_in-requires-clause-core c = c.loop-zone.invariant.stay.are_cores
 
 pub returns-in-Ok-clause-core : goal.returns-in-Ok-clause-core
 returns-in-Ok-clause-core c = stay_on _ _ _ _ c.loop-zone.invariant.stay c.in-Ok.ensures.core
@@ -35,7 +36,7 @@ loop-zone-preserved c =
     (λ k is. (is.0, omega (arith, is.1))))
 
 pub take_in-requires-in-loop-zone-2-clause-core : goal.take_in-requires-in-loop-zone-2-clause-core
-take_in-requires-in-loop-zone-2-clause-core c = still_cores _ _ _ c.requires c.loop-zone-2.invariant.stay
+take_in-requires-in-loop-zone-2-clause-core c = c.loop-zone-2.invariant.stay.are_cores
 
 pub returns-in-Ok-take_in-clause-core : goal.returns-in-Ok-take_in-clause-core
 returns-in-Ok-take_in-clause-core c = stay_on _ _ _ _ c.loop-zone-2.invariant.stay c.in-Ok-take_in.ensures.core
@@ -80,3 +81,26 @@ returns-else-contended-clause-takes c =
       (λ z a x within. c.loop-zone-2.invariant.seen z a x (each z within) within),
       c.loop-zone-2.invariant.calm c.if-contended.false,
     )
+
+pub returns-in-Ok-clause-all_moves : goal.returns-in-Ok-clause-all_moves
+returns-in-Ok-clause-all_moves c =
+    within_all c.args.self.now c.args.core.now c.take_in.new.core c.requires c.in-Ok.ensures.core.are_cores
+    (round_moves c.args.self.now (λ k. (c.args.core.now.home ≤ k) × (k < c.loop-zone.zone)) _ _ _ c.loop-zone.zone c.args.core.now c.loop-zone.core c.take_in.new.core
+    (omega (arith, c.loop-zone-test.true, c.len-count.ensures, c.args.self.now.zones.ok.0))
+    c.loop-zone.invariant c.in-Ok.ensures.takes (λ is. omega (arith, is.1)))
+
+pub returns-in-Ok-take_in-clause-all_moves : goal.returns-in-Ok-take_in-clause-all_moves
+returns-in-Ok-take_in-clause-all_moves c =
+    within_all c.args.self.now c.args.core.now c.take_in-in-loop-zone-2.new.core c.requires c.in-Ok-take_in.ensures.core.are_cores
+    (round_moves c.args.self.now (λ k. (c.args.core.now.home ≤ k) ⊎ (k < c.loop-zone-2.zone)) _ _ _ c.loop-zone-2.zone c.args.core.now c.loop-zone-2.core c.take_in-in-loop-zone-2.new.core
+    (omega (arith, c.loop-zone-2-test.true, c.requires.home))
+    c.loop-zone-2.invariant c.in-Ok-take_in.ensures.takes
+    (⊎_elim (λ above. omega (arith, above, c.loop-zone-2-test.true)) (λ below. omega (arith, below))))
+
+pub returns-then-contended-clause-all_moves : goal.returns-then-contended-clause-all_moves
+returns-then-contended-clause-all_moves c =
+    within_all _ _ _ c.requires c.loop-zone-2.invariant.stay.are_cores c.loop-zone-2.invariant.moves
+
+pub returns-else-contended-clause-all_moves : goal.returns-else-contended-clause-all_moves
+returns-else-contended-clause-all_moves c =
+    within_all _ _ _ c.requires c.loop-zone-2.invariant.stay.are_cores c.loop-zone-2.invariant.moves

@@ -1,0 +1,7 @@
+//! What no clause says.
+
+mod calls;
+mod closing;
+mod memory;
+mod openings;
+mod threads;

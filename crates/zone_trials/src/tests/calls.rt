@@ -1,0 +1,105 @@
+//! Which blocks are answered, each call with ample memory.
+
+ghost use Rattle.frame_zones.specs.Zones.{AreCoresOf, IsOutIn};
+
+use super::memory::{next_core, open_two};
+use frame_words::{Fault, TakeFault};
+use frame_zones::{ZoneBlock, ZoneCore, Zones, blocks_lie_in_zones};
+use std::process::Abort;
+use std::test::Fail;
+
+// The first frame of a block that is taken, and stays held.
+fn taken(zones: &Zones, core: &mut ZoneCore, order: u8) -> Result<u64, TakeFault>
+    requires { AreCoresOf zones.now core.old }
+    ensures { AreCoresOf zones.now core.new }
+{
+    let block = zones.take(core, order)?;
+    Ok(zones.frame_of(&block))
+}
+
+#[test]
+fn a_full_home_zone_falls_over_to_the_next(rt: HostRuntime) -> Result<(), Fail> {
+    let (zones, mut cores) = open_two(rt.alloc(), 1, 2)?;
+    let mut second = next_core(&zones, &mut cores).ok_or("a core")?;
+    let mut first = next_core(&zones, &mut cores).ok_or("a core")?;
+    assert_eq!(rt; taken(&zones, &mut second, 7), Ok(8320));
+    assert_eq!(rt; taken(&zones, &mut first, 8), Ok(256));
+    assert_eq!(rt; taken(&zones, &mut first, 8), Ok(8448));
+    assert_eq!(rt; taken(&zones, &mut second, 7), Ok(128));
+    assert_eq!(rt; taken(&zones, &mut first, 7), Err(TakeFault::NoBlock));
+    assert_eq!(rt; taken(&zones, &mut first, 10), Err(TakeFault::BadOrder));
+    Ok(())
+}
+
+// Whether a memory of one child a zone has the frame and does not hold it back.
+fn is_there(frame: u64) -> bool {
+    let in_zone = frame % 8192;
+    frame < 16384 && in_zone < 512 && in_zone / 8 != 1
+}
+
+// How many frames are taken, one after another, before none is there.
+fn taken_in_all(rt: &impl Abort, zones: &Zones, core: &mut ZoneCore) -> u32
+    requires { AreCoresOf zones.now core.old }
+{
+    for count in 0..2000u32 {
+        let Ok(frame) = taken(zones, core, 0) else {
+            return count;
+        };
+        assert!(rt; is_there(frame), "frame {frame}");
+    }
+    2000
+}
+
+#[test]
+fn a_hole_is_never_given_out(rt: HostRuntime) -> Result<(), Fail> {
+    let (zones, mut cores) = open_two(rt.alloc(), 1, 1)?;
+    let mut core = next_core(&zones, &mut cores).ok_or("a core")?;
+    assert_eq!(rt; taken_in_all(&rt, &zones, &mut core), 2 * 504);
+    Ok(())
+}
+
+// The halves of a block.
+fn halves(
+    rt: &impl Abort,
+    zones: &Zones,
+    core: &mut ZoneCore,
+    block: ZoneBlock,
+) -> (ZoneBlock, ZoneBlock)
+    requires core { AreCoresOf zones.now core.old }
+    requires block { IsOutIn zones.now block }
+    ensures core { AreCoresOf zones.now core.new }
+    ensures lower { IsOutIn zones.now result.0 }
+    ensures upper { IsOutIn zones.now result.1 }
+{
+    let Ok(both) = zones.split(core, block) else {
+        panic!(rt; "it has halves");
+    };
+    both
+}
+
+// The block, kept and handed out again.
+fn recalled(zones: &Zones, core: &mut ZoneCore, block: ZoneBlock) -> ZoneBlock
+    requires core { AreCoresOf zones.now core.old }
+    requires block { IsOutIn zones.now block }
+    ensures core { AreCoresOf zones.now core.new }
+    ensures block { IsOutIn zones.now result }
+{
+    let (zone, frame, order) = zones.keep(core, block);
+    zones.recall(core, zone, frame, order)
+}
+
+#[test]
+fn a_block_is_split_kept_and_given(rt: HostRuntime) -> Result<(), Fail> {
+    let (zones, mut cores) = open_two(rt.alloc(), 1, 2)?;
+    assert_eq!(rt; zones.count(), 2);
+    let mut core = next_core(&zones, &mut cores).ok_or("a core")?;
+    let block = zones.take(&mut core, 8).map_err(Fault::from)?;
+    let (low, high) = halves(&rt, &zones, &mut core, block);
+    blocks_lie_in_zones(&zones, &low, &high);
+    assert_eq!(rt; (zones.frame_of(&low), low.order()), (8448, 7));
+    zones.give(&mut core, low);
+    let high = recalled(&zones, &mut core, high);
+    assert_eq!(rt; (zones.frame_of(&high), high.order()), (8576, 7));
+    assert_eq!(rt; zones.keep(&mut core, high), (1, 384, 7));
+    Ok(())
+}

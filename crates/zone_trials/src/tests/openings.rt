@@ -1,0 +1,55 @@
+//! Openings that are refused.
+
+use super::memory::{open_two, span};
+use frame_words::{Fault, Geometry};
+use frame_zones::{ZoneCore, Zones};
+use std::alloc::Global;
+use std::test::Fail;
+
+// An opening of a zone of one child and one core, and of one from another frame on.
+fn open_beside(alloc: Global, first: u64, cores: u32) -> Result<(Zones, Vec<ZoneCore>), Fault> {
+    let mut spans = Vec::with_capacity(alloc, 2)?;
+    spans.push_reserved(span(alloc, 1024, Geometry::new(1, 1)?)?);
+    spans.push_reserved(span(alloc, first, Geometry::new(1, cores)?)?);
+    Zones::open(alloc, 1, &spans)
+}
+
+#[test]
+fn spans_are_refused_by_the_rule(rt: HostRuntime) -> Result<(), Fail> {
+    for (first, cores, lawful) in [
+        (1536, 1, true),
+        (4503599627369984, 1, true),
+        (4503599627370496, 1, false),
+        (1535, 1, false),
+        (1537, 1, false),
+        (1024, 1, false),
+        (0, 1, false),
+        (1536, 2, false),
+    ] {
+        let fault = open_beside(rt.alloc(), first, cores).err();
+        let want = if lawful { None } else { Some(Fault::BadRange) };
+        assert_eq!(rt; fault, want, "from {first} on");
+    }
+    assert_eq!(rt;
+        Zones::open(rt.alloc(), 1, &[]).err(),
+        Some(Fault::BadRange)
+    );
+    Ok(())
+}
+
+// Where an allocation is refused (`rt try --test --fail-alloc N`), the other opening is still made.
+#[test]
+fn an_opening_is_made_or_wants_memory(rt: HostRuntime) -> Result<(), Fail> {
+    let mut made = 0u32;
+    for _i in 0..2u32 {
+        match open_two(rt.alloc(), 1, 2) {
+            Ok((zones, _cores)) => {
+                assert_eq!(rt; zones.count(), 2);
+                made = 1;
+            }
+            Err(fault) => assert_eq!(rt; fault, Fault::NoMemory),
+        }
+    }
+    assert_eq!(rt; made, 1);
+    Ok(())
+}
