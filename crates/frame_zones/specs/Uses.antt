@@ -1,11 +1,11 @@
 -- What takes and gives through cores of all zones leave.
-use Rattle.std.specs.Prelude.{◌≡◌, ℕ, ◌+◌, ◌*◌, ◌<◌, ◌≤◌, Result, IfOk, IfErr}
+use Rattle.std.specs.Prelude.{◌≡◌, ℕ, ◌+◌, ◌<◌, ◌≤◌, Result, IfOk, IfErr}
 use Rattle.std.specs.List.{sum_by}
 use Rattle.frame_words.specs.declared.fault.TakeFault.{TakeFault}
 use Rattle.frame_words.specs.declared.fault.TakeFault.TheVariants.{BadOrder, NoBlock, Contended}
 use Rattle.core_frames.specs.declared.allocator.Allocator.{Allocator}
 use Rattle.core_frames.specs.declared.allocator.Core.{Core}
-use Rattle.frame_core.specs.Key.{tree_count}
+use Rattle.core_frames.specs.Bounds.{most_moves}
 use Rattle.core_frames.specs.Cores.{memory_of, kept_by, lent_by, moves_by, losses_by}
 use Rattle.core_frames.specs.Uses.{HasTaken, HasMovedForEach, IsRefusedFor, HasGiven}
 use Rattle.frame_zones.specs.Zones.{zone_count, zone_at, core_at, InEach, IsOutIn}
@@ -33,7 +33,7 @@ LendsAsMany _ x y = lent_by y ≡ lent_by x
 
 -- the most moves of a take in this zone
 abbrev pub most_moves_in : Allocator → ℕ
-most_moves_in a = 2200 * tree_count (memory_of a) + 3 * (memory_of a).cores + 800
+most_moves_in a = most_moves (memory_of a)
 
 -- at most so many moves were made
 abbrev pub MovesWithin : Allocator → Core → Core → Type 0

@@ -1,6 +1,7 @@
 //! Splits of blocks of zones.
 
 ghost use Rattle.std.specs.Prelude.{◌+◌, ◌≤◌};
+ghost use Rattle.core_frames.specs.Bounds.{most_in_split};
 ghost use Rattle.frame_zones.specs.Zones.{AreCoresOf, StayCoresOf, IsOutIn};
 ghost use Rattle.frame_zones.specs.Splits.{SplitsIn};
 ghost use Rattle.frame_zones.specs.Uses.{MovesAtMost, moves_through};
@@ -19,8 +20,8 @@ impl Zones {
         requires block { IsOutIn self.now block }
         ensures core { StayCoresOf self.now core.old core.new }
         ensures splits { SplitsIn self.now block result core.old core.new }
-        ensures moves { MovesAtMost 12 block.zone core.old core.new }
-        ensures all_moves { moves_through core.new ≤ moves_through core.old + 12 }
+        ensures moves { MovesAtMost most_in_split block.zone core.old core.new }
+        ensures all_moves { moves_through core.new ≤ moves_through core.old + most_in_split }
     {
         let ZoneBlock { zone, block } = block;
         let place = zone as usize;
