@@ -153,6 +153,17 @@ fn ranges_are_refused_by_the_rule(rt: HostRuntime) -> Result<(), Fail> {
     Ok(())
 }
 
+#[test]
+fn each_core_takes_from_a_tree_of_its_own(rt: HostRuntime) -> Result<(), Fail> {
+    let (allocator, mut cores) = open(rt.alloc(), 16, 2)?;
+    let mut second = next_core(&allocator, &mut cores).ok_or("a core")?;
+    let mut first = next_core(&allocator, &mut cores).ok_or("a core")?;
+    let one = allocator.take(&mut first, 0).map_err(Fault::from)?;
+    let other = allocator.take(&mut second, 0).map_err(Fault::from)?;
+    assert_eq!(rt; (one.frame(), other.frame()), (0, 4096));
+    Ok(())
+}
+
 // Takes and gives, so many times. Answers the core.
 fn work(allocator: &Allocator, mut core: Core, order: u8, count: u64) -> Core
     requires { IsCoreOf allocator.now core }
