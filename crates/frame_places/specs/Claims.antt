@@ -1,5 +1,6 @@
 -- Blocks that an opening is told to hold.
 use Rattle.std.specs.Prelude.{◌≡◌, ℕ, ◌+◌, ◌/◌, ◌%◌, ◌^◌, ◌<◌, ◌≤◌, List}
+use Rattle.std.specs.List.Sorted.{IsNonDecreasingBy}
 use Rattle.frame_model.specs.declared.block.FrameBlock.{FrameBlock}
 use Rattle.frame_core.specs.Holding.{holders}
 use Rattle.frame_places.specs.Numbers.{image_bit, IsHugeIn}
@@ -17,6 +18,10 @@ pub record IsHeldAs (frames : ℕ) (numbers : List ℕ) (b : FrameBlock) : Type 
 -- the order is one of a block
 abbrev pub IsOrderedBlock : FrameBlock → Type 0
 IsOrderedBlock b = b.order ≤ 9
+
+-- no block begins before one in front of it
+abbrev pub Ascend : List FrameBlock → Type 0
+Ascend blocks = IsNonDecreasingBy (λ b. b.frame) blocks
 
 -- no two of the blocks share a frame
 abbrev pub ShareNoFrame : List FrameBlock → Type 0

@@ -1,6 +1,7 @@
 -- The numbers of an image: nine for each child, its entry and its eight bit words.
 use Rattle.std.specs.Prelude.{◌≡◌, ◌⊎◌, ℕ, ◌+◌, ◌*◌, ◌/◌, ◌%◌, ◌^◌, ◌<◌, ◌≤◌, List, length, slice_index}
 use Rattle.std.specs.Int.{bit_at}
+use Rattle.frame_model.specs.declared.block.FrameBlock.{FrameBlock}
 
 -- the most frames that a memory has
 abbrev pub most_frames : ℕ
@@ -25,6 +26,12 @@ IsHugeIn numbers c = 2 ^ 15 ≤ entry_in numbers c
 -- the frame is held, in a huge frame or by itself
 abbrev pub IsHeldBy : List ℕ → ℕ → Type 0
 IsHeldBy numbers x = IsHugeIn numbers (x / 512) ⊎ (image_bit numbers x ≡ 1)
+
+-- there is such a block, whose frames are numbers of 32 bits, and none of them is held
+pub record IsFreeIn (numbers : List ℕ) (b : FrameBlock) : Type 0 where
+  pub order : b.order ≤ 9
+  pub numbered : b.frame + 2 ^ b.order < 2 ^ 32
+  pub free : (x : ℕ) → b.frame ≤ x → x < b.frame + 2 ^ b.order → ¬ IsHeldBy numbers x
 
 -- an entry counts at most a child's frames
 pub record IsEntry (entry : ℕ) : Type 0 where

@@ -2,7 +2,7 @@
 
 ghost use Rattle.std.specs.Prelude.{◌≡◌, ℕ, ◌+◌, ◌*◌, ◌/◌, ◌^◌, ◌<◌, ◌≤◌, ◌↔◌, MatchBool, IsTrue, false};
 ghost use Rattle.std.specs.List.{All, Contains};
-ghost use Rattle.frame_places.specs.Claims.{ShareNoFrame, IsOrderedBlock, IsHeldAs};
+ghost use Rattle.frame_places.specs.Claims.{Ascend, ShareNoFrame, IsOrderedBlock, IsHeldAs};
 ghost use Rattle.frame_core.specs.Block.{block as block_at};
 
 use crate::numbers::{are_set, is_huge};
@@ -48,10 +48,11 @@ fn is_held_as(numbers: &[u64], frames: u32, block: &FrameBlock) -> bool
     true
 }
 
-/// Does no block begin inside the one before it? Of blocks that ascend none share a frame then.
+/// Does no block begin inside the one before it? Of blocks that ascend none share a frame just then.
 pub fn are_apart(blocks: &[FrameBlock]) -> bool
     requires { All IsOrderedBlock blocks.now }
-    ensures { result ≡ false → ¬ ShareNoFrame blocks.now }
+    ensures overlap { result ≡ false → ¬ ShareNoFrame blocks.now }
+    ensures apart { IsTrue result → Ascend blocks.now → ShareNoFrame blocks.now }
 {
     for i in 1..blocks.len() {
         if begins_inside(&blocks[i - 1], &blocks[i]) {
@@ -71,9 +72,11 @@ fn begins_inside(first: &FrameBlock, second: &FrameBlock) -> bool
     first.frame <= second.frame && second.frame - first.frame < frames_of(first.order)
 }
 
-/// Is this one of the blocks, which ascend?
+/// Is this one of the blocks? Where they ascend and share no frame, none is missed.
 pub fn is_claimed(blocks: &[FrameBlock], frame: u32, order: u8) -> bool
-    ensures { IsTrue result → Contains blocks.now (block_at frame order) }
+    ensures claimed { IsTrue result → Contains blocks.now (block_at frame order) }
+    ensures unclaimed { result ≡ false → Ascend blocks.now → ShareNoFrame blocks.now
+        → ¬ Contains blocks.now (block_at frame order) }
 {
     match blocks.binary_search_by_key(&frame, |block| block.frame) {
         Ok(place) => match blocks.get(place) {

@@ -1,7 +1,8 @@
 //! The numbers of an image that was left: nine for each child, its entry and its eight bit words.
 
 ghost use Rattle.std.specs.Prelude.{◌≡◌, ℕ, ◌+◌, ◌*◌, ◌/◌, ◌^◌, ◌<◌, ◌≤◌, ◌↔◌, MatchBool, IsTrue, slice_index};
-ghost use Rattle.frame_places.specs.Numbers.{image_bit, most_frames, IsEntry, IsChildOf, IsHeldBy, IsHugeIn, IsImageOf};
+ghost use Rattle.frame_core.specs.Block.{block as block_at};
+ghost use Rattle.frame_places.specs.Numbers.{image_bit, most_frames, IsEntry, IsChildOf, IsFreeIn, IsHeldBy, IsHugeIn, IsImageOf};
 
 use frame_words::{CHILD_FRAMES, CHILD_WORDS, FLAG, HUGE_ORDER, WORD_FRAMES, child_of, frames_of};
 
@@ -87,19 +88,25 @@ pub(crate) fn are_set(numbers: &[u64], from: u32, end: u32) -> bool
     true
 }
 
-/// Is there such a block, of which no frame is held?
+/// Is there such a block, whose frames are numbers of 32 bits, and is none of them held?
 pub fn is_free(numbers: &[u64], frame: u32, order: u8) -> bool
-    ensures { IsTrue result → (x : ℕ) → frame ≤ x → x < frame + 2 ^ order → ¬ IsHeldBy numbers.now x }
+    ensures { MatchBool result (IsFreeIn numbers.now (block_at frame order))
+        (¬ IsFreeIn numbers.now (block_at frame order)) }
 {
-    if order > HUGE_ORDER || frame > u32::MAX - CHILD_FRAMES {
+    if order > HUGE_ORDER {
         return false;
     }
-    are_free(numbers, frame, frame + frames_of(order))
+    let Some(end) = frame.checked_add(frames_of(order)) else {
+        return false;
+    };
+    are_free(numbers, frame, end)
 }
 
 // Is no frame from one to before another held?
 fn are_free(numbers: &[u64], from: u32, end: u32) -> bool
-    ensures { IsTrue result → (x : ℕ) → from ≤ x → x < end → ¬ IsHeldBy numbers.now x }
+    ensures { MatchBool result
+        ((x : ℕ) → from ≤ x → x < end → ¬ IsHeldBy numbers.now x)
+        (¬ ((x : ℕ) → from ≤ x → x < end → ¬ IsHeldBy numbers.now x)) }
 {
     for x in from..end {
         if is_held(numbers, x) {

@@ -21,5 +21,5 @@ returns-then-not-are_apart-clause-err c =
     let same = subst (λ (bs : List FrameBlock). IsPermutation (claimed_blocks c.args.claims.now) bs) (sym c.deref-2.ensures.value)
     c.in_ok-blocks.ensures.same in
     let no : ¬ MayBeClaimed c.args.frames c.args.numbers.now c.args.claims.now = λ m.
-    c.if-not-are_apart.ensures refl (apart_still (claimed_blocks c.args.claims.now) c.deref-2.result.now same m.apart) in
+    c.if-not-are_apart.ensures.overlap refl (apart_still (claimed_blocks c.args.claims.now) c.deref-2.result.now same m.apart) in
     search (rules, no)

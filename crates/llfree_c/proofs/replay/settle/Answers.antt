@@ -1,4 +1,5 @@
-use Rattle.std.proofs.Common.{rules, ◌≡◌, ℕ, ◌+◌, ◌^◌, ◌<◌, ◌≤◌, List, ◌++◌, sym, subst}
+use Rattle.std.proofs.Common.{rules, arith, ap, ◌≡◌, ℕ, ◌+◌, ◌^◌, ◌<◌, ◌≤◌, List, ◌++◌, sym, subst}
+use Rattle.std.specs.Prelude.{IsTrue}
 use Rattle.std.specs.List.{Contains}
 use Rattle.std.specs.List.Sorted.{IsPermutation}
 use Rattle.frame_model.specs.declared.block.FrameBlock.{FrameBlock}
@@ -59,7 +60,10 @@ returns-then-is_free-clause-follows c =
     let new : PlainState = c.give.new.self in
     let numbers : List ℕ = c.args.numbers.now in
     let b : FrameBlock = c.args.block in
-    let free : (x : ℕ) → b.frame ≤ x → x < b.frame + 2 ^ b.order → ¬ IsHeldBy numbers x = search rules in
+    let begin : c.frame-frame.result ≡ b.frame = c.frame-frame.ensures in
+    let size : 2 ^ c.order-order.result ≡ 2 ^ b.order = ap (λ (n : ℕ). 2 ^ n) c.order-order.ensures in
+    let free : (x : ℕ) → b.frame ≤ x → x < b.frame + 2 ^ b.order → ¬ IsHeldBy numbers x = λ x low less.
+    c.if-is_free.ensures.free x (omega (arith, begin, low)) (omega (arith, begin, size, less)) in
     let all : HoldsAllOf old.geometry.frames numbers (new.out ++ old.kept) =
     given_all numbers b old.kept old.geometry.frames old.out new.out c.give.ensures.out free c.requires.follows.all in
     record {
@@ -77,7 +81,11 @@ returns-then-is_held_whole-clause-follows c =
     let new : PlainState = c.keep.new.self in
     let numbers : List ℕ = c.args.numbers.now in
     let b : FrameBlock = c.args.block in
-    let holds : HoldsBlock numbers b = search rules in
+    let begin : c.frame-frame.result ≡ b.frame = c.frame-frame.ensures in
+    let size : 2 ^ c.order-order.result ≡ 2 ^ b.order = ap (λ (n : ℕ). 2 ^ n) c.order-order.ensures in
+    let told : IsTrue c.is_held_whole.result = search rules in
+    let holds : HoldsBlock numbers b = λ x low less.
+    c.is_held_whole.ensures told x (omega (arith, begin, low)) (omega (arith, begin, size, less)) in
     record {
       all = subst (λ (g : Geometry). HoldsAllOf g.frames numbers (new.out ++ new.kept)) (sym c.keep.ensures.geometry.0)
           (kept_all numbers b old.kept old.geometry.frames old.out new.out new.kept c.keep.ensures.out
