@@ -113,6 +113,7 @@ pub record Tries {T H : Type 0} (t : ℕ → ℕ) (kind : Kind) (seen : ℕ) (ma
   pub missed : new.missed ≡ (old.missed || not made)
   pub view : MatchBool made (new.view ≡ after t kind old.view) (new.view ≡ after_loss t old.view)
   pub lost : made ≡ false → IsLostBy (place old.key kind) seen old new
+  pub at_will : old.loses_at_will → made ≡ false
   pub reads : ReadsBut (place old.key kind) old.read new.read
   pub words : old.is_undisturbed → Exchanges old.key kind seen made old.words new.words
   pub apart : IsApart old.key new.view

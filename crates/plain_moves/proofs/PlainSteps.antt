@@ -260,6 +260,7 @@ tried_by seen key words bytes v w kind p x agrees share may made is_word is_view
       missed = refl;
       view = m.view;
       lost = λ e. absurd (cc);
+      at_will = λ never. absurd never;
       reads = m.reads;
       words = λ u. (found_by (seen_by kind) seen (get_or words (place key kind) 0) is_seen made, m.words u);
       apart = m.apart;

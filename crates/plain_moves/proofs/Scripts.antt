@@ -69,6 +69,7 @@ module _ (m n : ScriptMoves) (kind : Kind) (p seen : ℕ) (is : IsLost p seen m 
     missed = is.missed ∙ or_true m.missed;
     view = is.view;
     lost = λ e. subst (λ (q : ℕ). LosesAt (at_by m) m.cues.items ⊎ ((found : ℕ) × ((found ≢ seen) × (read_by n q ≡ Some found)))) here told;
+    at_will = λ by. refl;
     reads = subst (λ (q : ℕ). ReadsBut q (read_by m) (read_by n)) here is.reads;
     words = λ q. let w = is.quiet q in
         (subst (λ (q : ℕ). slice_index (words_by m.plain) q ≢ seen) here w.0, ap (λ ws. Some ws.items) w.1.words);
@@ -207,10 +208,11 @@ module _ (m r w n : ScriptMoves) (p : PlainMoves) (kind : Kind) (q : ℕ) (ready
         (subst (λ (k : Key). IsApart k (view_by p)) ready.still.key is.apart);
   }
 
-  -- an exchange was made
-  won_true : (seen : ℕ) → Tries plain_tick kind seen true (mover_by r.plain) (mover_by p)
+  -- an exchange was made, which no cue loses
+  won_true : (seen : ℕ) → (LosesAt (at_by m) m.cues.items → true ≡ false)
+      → Tries plain_tick kind seen true (mover_by r.plain) (mover_by p)
       → Tries plain_tick kind seen true (script_mover m) (script_mover n)
-  won_true seen is = record {
+  won_true seen none is = record {
     keeps = keeps_by m r p n.plain n.cues.items n.begun ready is.keeps.same_tie is.keeps.same_key
         (ap (λ (v : View). v.moves) is.view ∙ ticks (view_by r.plain)) now (ap (λ v. v.items) (found.cues ∙ with.cues))
         (found.begun ∙ with.begun)
@@ -218,6 +220,7 @@ module _ (m r w n : ScriptMoves) (p : PlainMoves) (kind : Kind) (q : ℕ) (ready
     missed = found.missed ∙ with.missed ∙ ready.untold.missed ∙ or_false m.missed;
     view = ap view_by now ∙ is.view ∙ ap (after plain_tick kind) ready.still.view;
     lost = λ e. absurd (cc);
+    at_will = none;
     reads = reads_by is.keeps.same_key;
     words = λ none. (
       subst (λ ws. slice_index ws.items (place (key_by m.plain) kind) ≡ seen) (ready.quiet none).words
@@ -229,11 +232,12 @@ module _ (m r w n : ScriptMoves) (p : PlainMoves) (kind : Kind) (q : ℕ) (ready
   }
 
   -- and where its word is as it was seen, it is
-  pub won_by : (seen : ℕ) (made : Bool) → slice_get (words_by r.plain) (place (key_by m.plain) kind) ≡ Some seen
+  pub won_by : {loses : Bool} (seen : ℕ) (made : Bool) → slice_get (words_by r.plain) (place (key_by m.plain) kind) ≡ Some seen
+      → loses ≡ false → (LosesAt (at_by m) m.cues.items → loses ≡ true)
       → Tries plain_tick kind seen made (mover_by r.plain) (mover_by p)
       → Tries plain_tick kind seen made (script_mover m) (script_mover n)
-  won_by seen true stands is = won_true seen is
-  won_by seen false stands is = absurd ((is.words tt).0 (got (words_by r.plain) (place (key_by r.plain) kind) seen
+  won_by seen true stands wins obeys is = won_true seen (λ by. sym (obeys by) ∙ wins) is
+  won_by seen false stands wins obeys is = absurd ((is.words tt).0 (got (words_by r.plain) (place (key_by r.plain) kind) seen
       (subst (λ (k : Key). slice_get (words_by r.plain) (place k kind) ≡ Some seen) (sym ready.still.key) stands)))
 
 -- A local word was put in the place of another.

@@ -144,7 +144,6 @@ impl Moves for ScriptMoves {
         ensures tries { Tries plain_tick (charge child seen n) seen result
             (script_mover self.old) (script_mover self.new) }
         ensures plays { Plays true (TriesIt (charge child seen n) seen result) self.old self.new }
-        ensures obeys { LosesAt (at_by self.old) self.old.cues.items → result ≡ false }
     {
         if self.loses(Place::Entry(child), seen) {
             return false;
@@ -171,7 +170,6 @@ impl Moves for ScriptMoves {
             Tries plain_tick (claim word seen from order) seen result (script_mover self.old) (script_mover self.new)) }
         ensures plays { Plays true (λ a b. OfRun mask (λ from order.
             TriesIt (claim word seen from order) seen result a b)) self.old self.new }
-        ensures obeys { LosesAt (at_by self.old) self.old.cues.items → result ≡ false }
     {
         if self.loses(Place::Bits(word), seen) {
             return false;
@@ -199,7 +197,6 @@ impl Moves for ScriptMoves {
         ensures tries { Tries plain_tick (take_huge child seen) seen result
             (script_mover self.old) (script_mover self.new) }
         ensures plays { Plays true (TriesIt (take_huge child seen) seen result) self.old self.new }
-        ensures obeys { LosesAt (at_by self.old) self.old.cues.items → result ≡ false }
     {
         if self.loses(Place::Entry(child), seen) {
             return false;
@@ -243,7 +240,6 @@ impl Moves for ScriptMoves {
         ensures tries { Tries plain_tick (tree_pay tree seen n) seen result
             (script_mover self.old) (script_mover self.new) }
         ensures plays { Plays true (TriesIt (tree_pay tree seen n) seen result) self.old self.new }
-        ensures obeys { LosesAt (at_by self.old) self.old.cues.items → result ≡ false }
     {
         if self.loses(Place::Tree(tree), seen) {
             return false;
@@ -268,7 +264,6 @@ impl Moves for ScriptMoves {
         ensures tries { Tries plain_tick (reserve tree seen) seen result
             (script_mover self.old) (script_mover self.new) }
         ensures plays { Plays true (TriesIt (reserve tree seen) seen result) self.old self.new }
-        ensures obeys { LosesAt (at_by self.old) self.old.cues.items → result ≡ false }
     {
         if self.loses(Place::Tree(tree), seen) {
             return false;
@@ -304,7 +299,6 @@ impl Moves for ScriptMoves {
         ensures tries { Tries plain_tick (local_pay core seen n) seen result
             (script_mover self.old) (script_mover self.new) }
         ensures plays { Plays true (TriesIt (local_pay core seen n) seen result) self.old self.new }
-        ensures obeys { LosesAt (at_by self.old) self.old.cues.items → result ≡ false }
     {
         if self.loses(Place::Local(core), seen) {
             return false;
@@ -319,7 +313,6 @@ impl Moves for ScriptMoves {
         ensures tries { Tries plain_tick (local_refund core seen n) seen result
             (script_mover self.old) (script_mover self.new) }
         ensures plays { Plays true (TriesIt (local_refund core seen n) seen result) self.old self.new }
-        ensures obeys { LosesAt (at_by self.old) self.old.cues.items → result ≡ false }
     {
         if self.loses(Place::Local(core), seen) {
             return false;
@@ -334,7 +327,6 @@ impl Moves for ScriptMoves {
         ensures tries { Tries plain_tick (collect tree seen) seen result
             (script_mover self.old) (script_mover self.new) }
         ensures plays { Plays true (TriesIt (collect tree seen) seen result) self.old self.new }
-        ensures obeys { LosesAt (at_by self.old) self.old.cues.items → result ≡ false }
     {
         if self.loses(Place::Tree(tree), seen) {
             return false;

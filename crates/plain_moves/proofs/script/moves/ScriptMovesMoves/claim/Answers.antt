@@ -13,7 +13,8 @@ returns-clause-tries c = λ from order e.
     won_by c.args.self.now c.loses.new.self _ c.find.new.self c.claim-made.new.self (claim c.args.word c.args.seen from order) _
     (c.loses.ensures.ready c.if-loses.false)
     (record { plain = refl; cues = refl; begun = refl; missed = refl; read = refl }) c.find.ensures.found refl (λ v. refl)
-    c.args.seen c.claim-made.result (c.loses.ensures.stands c.if-loses.false) (c.claim-made.ensures from order e)
+    c.args.seen c.claim-made.result (c.loses.ensures.stands c.if-loses.false) c.if-loses.false c.loses.ensures.obeys
+    (c.claim-made.ensures from order e)
 
 pub invariant_of-self-clause-shows : goal.invariant_of-self-clause-shows
 invariant_of-self-clause-shows c =

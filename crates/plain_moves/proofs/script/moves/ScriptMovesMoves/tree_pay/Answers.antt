@@ -13,7 +13,8 @@ returns-clause-tries c =
     won_by c.args.self.now c.loses.new.self _ c.find.new.self c.tree_pay-made.new.self (tree_pay c.args.tree c.args.seen c.args.n) _
     (c.loses.ensures.ready c.if-loses.false)
     (record { plain = refl; cues = refl; begun = refl; missed = refl; read = refl }) c.find.ensures.found refl (λ v. refl)
-    c.args.seen c.tree_pay-made.result (c.loses.ensures.stands c.if-loses.false) c.tree_pay-made.ensures
+    c.args.seen c.tree_pay-made.result (c.loses.ensures.stands c.if-loses.false) c.if-loses.false c.loses.ensures.obeys
+    c.tree_pay-made.ensures
 
 pub invariant_of-self-clause-shows : goal.invariant_of-self-clause-shows
 invariant_of-self-clause-shows c =
