@@ -38,6 +38,13 @@ pub fn image_text(alloc: Global, image: &Image) -> Result<Vec<u8>, Fault>
     all_records(alloc, geometry, image)
 }
 
+/// Each image is what its text says, whether or not there is memory to make that text.
+pub fn every_image_reads_back(image: &Image)
+    ensures { image_of (picture_of (drawn image.now)) ≡ Ok (drawn image.now) }
+{
+    let _geometry = image.geometry();
+}
+
 /// Writes the text of an image, all of it; the text is made before the first byte is written.
 pub fn write_image<W: Write>(
     alloc: Global,

@@ -25,7 +25,7 @@ pub use devices::{MOST_BYTES, read_all, write_out};
 pub use fragmentation::report;
 pub use held_count::held_frames;
 pub use image_reader::{image_of, read_image};
-pub use image_writer::{image_text, write_image};
+pub use image_writer::{every_image_reads_back, image_text, write_image};
 pub use numbers::number_below;
 pub use record_reader::RecordReader;
 pub use record_writer::RecordWriter;
