@@ -2,7 +2,7 @@ pub mod Desks
 pub mod Moving
 pub mod Running
 pub mod Commands
-pub mod Statuses
+mod FilterLemmas
 pub mod Boot
 mod Replies
 pub mod Workers

@@ -1,87 +1,51 @@
--- What a run from a reader to a writer writes.
-use Rattle.std.specs.Prelude.{ℕ, ◌≡◌, ◌<◌, ◌⊎◌, Bool, true, List, length, Option, Result, Ok, Err}
-use Rattle.std.specs.Prelude.{IfSome, IsErrOf, IsSomeAnd}
-use Rattle.core_frames.specs.Ranges.{MayHoldBack}
+-- From a reader to a writer: how a call ends that reads all that is left and writes what it makes of it.
+use Rattle.std.specs.Prelude.{ℕ, ◌≡◌, ◌≢◌, ◌<◌, ◌⊎◌, Bool, true, false, List, length, Option, Result}
+use Rattle.std.specs.Prelude.{IfErr, IfSome, IsErrOf, IsSomeAnd, OnOk}
 use Rattle.std.specs.Io.KnownBytes.{Appends}
-use Rattle.frame_core.specs.Image.{Contents, key_in}
-use Rattle.frame_core.specs.Laws.{AddsUp}
-use Rattle.frame_core.specs.Report.{free_frames, held_frames}
-use Rattle.frame_image.specs.Devices.{WritesFront}
-use Rattle.frame_image.specs.ImageText.{drawn, picture_of}
+use Rattle.frame_image.specs.Devices.{WritesFront, device_of, has_failed}
 use Rattle.frame_image.specs.declared.devices.TheConstants.{MOST_BYTES}
+use Rattle.frame_image.specs.declared.watched.Watched.{Watched}
 use Rattle.frame_words.specs.declared.fault.Fault.{Fault}
 use Rattle.frame_words.specs.declared.fault.Fault.TheVariants as fault
-use Rattle.frame_words.specs.declared.geometry.Geometry.{Geometry}
-use Rattle.trace_text.specs.AnswerText.{answers_of}
-use Rattle.held_blocks.specs.Desk.{MayRefuse}
-use Rattle.llfree_trace.specs.Outcome.{IsAnsweredBy, MustRefuseHere, key_under}
-use Rattle.trace_text.specs.Trace.{ranges_in}
-use Rattle.trace_text.specs.TraceText.{ExplainsTrace, trace_of}
-use Rattle.trace_text.specs.declared.line.Line.{Line}
-use Rattle.trace_text.specs.declared.reply.Answer.{Answer}
-use Rattle.llfree_trace.specs.declared.streams.Show.{Show}
-use Rattle.llfree_trace.specs.declared.streams.Show.TheVariants as show
 
--- the text of answers, and of how many frames of the image are held and free
-abbrev pub outcome_answers : List Answer → Contents → List ℕ
-outcome_answers answers image =
-    answers_of answers (held_frames (key_in image) image.words)
-    (free_frames (key_in image) image.words)
-
--- what is shown of a run: the answers, or the image at its end
-abbrev pub shown_of : Show → List Answer → Contents → List ℕ
-shown_of show.Answers answers image = outcome_answers answers image
-shown_of show.Picture answers image = picture_of (drawn image)
-
--- the bytes show an outcome that fits what the text says as a trace, whose ranges may be held back;
--- a take is refused in it only where no block of its order is free, and its image's counters add up
-pub record IsRunOf (geometry : Geometry) (show : Show) (text out : List ℕ) : Type 0 where
-  pub lines : List Line
-  pub answers : List Answer
-  pub image : Contents
-  pub says : trace_of geometry.cores text ≡ Ok lines
-  pub of : image.geometry ≡ geometry
-  pub ranges : MayHoldBack geometry (ranges_in lines)
-  pub fits : IsAnsweredBy MayRefuse lines answers image
-  pub exact : IsAnsweredBy MustRefuseHere lines answers image
-  pub counters : AddsUp (key_under lines image) image.words
-  pub spells : out ≡ shown_of show answers image
-
--- the known bytes grow by such bytes
-abbrev pub WritesRun : Geometry → Show → List ℕ → Option (List ℕ) → Option (List ℕ) → Type 0
-WritesRun geometry show text old new =
-    (out : List ℕ) × IsRunOf geometry show text out × Appends old new out
-
--- the known bytes grow by a front of such bytes
-abbrev pub WritesFrontOfRun : Geometry → Show → List ℕ → Option (List ℕ) → Option (List ℕ) → Type 0
-WritesFrontOfRun geometry show text old new =
-    (out : List ℕ) × IsRunOf geometry show text out × WritesFront old new out
+-- the text that was read is all that a reader had left, if that is known
+abbrev pub IsAllOf : Option (List ℕ) → List ℕ → Type 0
+IsAllOf left text = IfSome left (λ bytes. text ≡ bytes)
 
 -- the bytes that a reader has left are known, and more than are read
 abbrev pub IsTooLong : Option (List ℕ) → Type 0
-IsTooLong input = IsSomeAnd input (λ text. MOST_BYTES < length text)
+IsTooLong left = IsSomeAnd left (λ text. MOST_BYTES < length text)
 
--- the text says a trace whose ranges may not be held back
-pub record HasBadRanges (geometry : Geometry) (text : List ℕ) : Type 0 where
-  pub lines : List Line
-  pub says : trace_of geometry.cores text ≡ Ok lines
-  pub unlawful : ¬ MayHoldBack geometry (ranges_in lines)
+-- the fault comes from outside: memory ran out, or a device failed
+abbrev pub IsFromOutside : Fault → Type 0
+IsFromOutside fault.NoMemory = Unit {0}
+IsFromOutside fault.ReadFailed = Unit {0}
+IsFromOutside fault.WriteFailed = Unit {0}
+IsFromOutside _ = ⊥
 
--- why a trace was not run: the text says none, or its ranges may not be held back
-abbrev pub ExplainsRun : Geometry → List ℕ → Fault → Type 0
-ExplainsRun geometry text fault.BadRange = HasBadRanges geometry text
-ExplainsRun geometry text f = ExplainsTrace f (trace_of geometry.cores text)
+-- the known bytes grow by bytes that show the text that was read
+pub record Writes (shows : List ℕ → List ℕ → Type 0) (left old new : Option (List ℕ)) : Type 0 where
+  pub text : List ℕ
+  pub out : List ℕ
+  pub is_all : IsAllOf left text
+  pub shown : shows text out
+  pub grows : Appends old new out
 
--- why a run of what a reader had left was refused: a bad record is the lowest of that text, and bad
--- ranges are those of its trace
-abbrev pub EndsRun : Geometry → Option (List ℕ) → Fault → Type 0
-EndsRun geometry left (fault.BadTrace line) =
-    IfSome left (λ text. trace_of geometry.cores text ≡ Err line)
-EndsRun geometry left fault.BadRange = IfSome left (HasBadRanges geometry)
-EndsRun geometry left fault.NoMemory = Unit {0}
-EndsRun geometry left fault.ReadFailed = Unit {0}
-EndsRun geometry left fault.WriteFailed = Unit {0}
-EndsRun geometry left _ = ⊥
+-- the known bytes grow by a front of such bytes, perhaps none
+pub record WritesFrontOf (shows : List ℕ → List ℕ → Type 0) (left old new : Option (List ℕ))
+    : Type 0 where
+  pub text : List ℕ
+  pub out : List ℕ
+  pub is_all : IsAllOf left text
+  pub shown : shows text out
+  pub grows : WritesFront old new out
+
+-- the text that was read explains the fault
+pub record IsExplained (explains : List ℕ → Fault → Type 0) (left : Option (List ℕ)) (f : Fault)
+    : Type 0 where
+  pub text : List ℕ
+  pub is_all : IsAllOf left text
+  pub explained : explains text f
 
 -- a failed read is told as such; what is told as such is a failed read or a text that is too long,
 -- if what the reader had left is known; and no text that is too long is served
@@ -93,3 +57,26 @@ pub record TellsReading {T : Type 0} (failed : Bool) (left : Option (List ℕ)) 
       → (failed ≡ true) ⊎ IfSome left (λ text. MOST_BYTES < length text)
   pub too_long :
       IsTooLong left → IsErrOf result fault.ReadFailed ⊎ IsErrOf result fault.NoMemory
+
+-- a call reads all that a reader has left and writes what shows this text, and its result tells how
+-- that ended
+pub record Filters {R W T : Type 0} (remaining : R → Option (List ℕ)) (contents : W → Option (List ℕ))
+    (shows : List ℕ → List ℕ → Type 0) (explains : List ℕ → Fault → Type 0)
+    (input input' : Watched R) (output output' : Watched W) (result : Result T Fault)
+    : Type 0 where
+  -- on success exactly bytes that show the text were written
+  pub written : OnOk result (Writes shows (remaining (device_of input))
+      (contents (device_of output)) (contents (device_of output')))
+  -- and neither device has failed
+  pub sound : OnOk result ((has_failed input' ≡ false) × (has_failed output' ≡ false))
+  -- a failed read and a text that is too long
+  pub reading : TellsReading (has_failed input') (remaining (device_of input)) result
+  -- any fault that does not come from outside is explained by the text
+  pub why : IfErr result
+      (λ f. IsFromOutside f ⊎ IsExplained explains (remaining (device_of input)) f)
+  -- where a write failed, a front of such bytes was written
+  pub write_failed : IsErrOf result fault.WriteFailed → (has_failed output' ≡ true)
+      × WritesFrontOf shows (remaining (device_of input)) (contents (device_of output))
+      (contents (device_of output'))
+  -- any other fault has written nothing
+  pub untouched : IfErr result (λ f. f ≢ fault.WriteFailed → output' ≡ output)

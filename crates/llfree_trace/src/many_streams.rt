@@ -1,9 +1,9 @@
 //! Runs on several cores from a reader to a writer.
 
-ghost use Rattle.std.specs.Prelude.{◌≡◌, ◌≢◌, true, false, IfErr, IfOk, IfSome, IsErrOf, OnOk};
-ghost use Rattle.frame_image.specs.Devices.{device_of, has_failed};
-ghost use Rattle.llfree_trace.specs.ManyStreams.{IsManyRunOf, WritesFrontOfManyRun, WritesManyRun};
-ghost use Rattle.llfree_trace.specs.Streams.{EndsRun, ExplainsRun, TellsReading, shown_of};
+ghost use Rattle.std.specs.Prelude.{◌≡◌, IfErr, IfOk};
+ghost use Rattle.held_blocks.specs.Desk.{MayRefuse};
+ghost use Rattle.llfree_trace.specs.RunText.{ExplainsRun, IsRunOf, shown_of};
+ghost use Rattle.llfree_trace.specs.Streams.{Filters};
 
 use crate::gate::Gate;
 use crate::many_cores::run_trace;
@@ -31,26 +31,8 @@ pub fn run_many_over<Rt: Threads + Wait, G: Gate, R: Read, W: Write>(
     input: &mut Watched<R>,
     output: &mut Watched<W>,
 ) -> Result<(), Fault>
-    // What is written shows an outcome that fits the trace, and nothing else.
-    ensures written { OnOk result (IfSome (R.remaining (device_of input.old)) (λ text.
-        WritesManyRun geometry show text (W.contents (device_of output.old))
-        (W.contents (device_of output.new)))) }
-    ensures sound { OnOk result ((has_failed input.new ≡ false) × (has_failed output.new ≡ false)) }
-
-    // The reader failed, or its text is too long.
-    ensures reading { TellsReading (has_failed input.new) (R.remaining (device_of input.old)) result }
-
-    // A record is refused, the lowest of all that the reader had left, or the ranges of a trace.
-    ensures why { IfErr result (EndsRun geometry (R.remaining (device_of input.old))) }
-
-    // A write failed, and a front of that was written.
-    ensures write_failed { IsErrOf result Fault.WriteFailed → (has_failed output.new ≡ true)
-        × IfSome (R.remaining (device_of input.old)) (λ text.
-        WritesFrontOfManyRun geometry show text (W.contents (device_of output.old))
-        (W.contents (device_of output.new))) }
-
-    // Any other refusal has written nothing.
-    ensures untouched { IfErr result (λ e. e ≢ Fault.WriteFailed → output.new ≡ output.old) }
+    ensures { Filters R.remaining W.contents (IsRunOf MayRefuse geometry show) (ExplainsRun geometry)
+        input.old input.new output.old output.new result }
 {
     let text = read_all(alloc, input)?;
     let shown = run_many_text(rt, alloc, geometry, show, gate, text.as_slice())?;
@@ -66,7 +48,7 @@ fn run_many_text<Rt: Threads + Wait, G: Gate>(
     gate: &G,
     text: &[u8],
 ) -> Result<Vec<u8>, Fault>
-    ensures ok { IfOk result (λ out. IsManyRunOf geometry show text.now out.items) }
+    ensures ok { IfOk result (λ out. IsRunOf MayRefuse geometry show text.now out.items) }
     ensures err { IfErr result (ExplainsRun geometry text.now) }
 {
     let trace = parse_parts(rt, alloc, &geometry, text)?;

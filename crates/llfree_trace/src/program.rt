@@ -1,18 +1,14 @@
 //! The program: its words, its devices and its status.
 
-ghost use Rattle.std.specs.Prelude.{◌≡◌, ◌≢◌, ◌≤◌, ◌↔◌, ◌⊎◌, true, false, map, ℕ};
-ghost use Rattle.std.specs.Prelude.{Err, IfErr, IfOk, IfSome, IsErrOf, IsOk, OnOk};
+ghost use Rattle.std.specs.Prelude.{◌≡◌, ◌≤◌, ◌↔◌, ◌⊎◌, false, map, true, IfErr, IfOk, IsOk};
 ghost use Rattle.std.specs.String.{string_bytes};
 ghost use Rattle.frame_image.specs.Devices.{device_of, has_failed};
-ghost use Rattle.frame_words.specs.declared.fault.Fault.{Fault};
 ghost use Rattle.llfree_trace.specs.Program as Spec;
-ghost use Rattle.llfree_trace.specs.Program.{AreLawful, CanDo, IsOfSizes, IsUnlawful};
-ghost use Rattle.llfree_trace.specs.Program.{Does, DoesFront, DoesFrontOfRun, DoesRun};
-ghost use Rattle.llfree_trace.specs.Program.{DoesWords, DoesWordsFront};
-ghost use Rattle.llfree_trace.specs.Program.{EndsCommand, EndsSizes, EndsWords};
-ghost use Rattle.llfree_trace.specs.Program.{HasBadSizes, HasBadText, IsNoCommand, IsServed};
-ghost use Rattle.llfree_trace.specs.Program.{StopsAtReading};
-ghost use Rattle.llfree_trace.specs.Streams.{EndsRun, IsTooLong, TellsReading};
+ghost use Rattle.llfree_trace.specs.Program.{AreLawful, IsOfBadSizes, IsOfSizes, Performs};
+ghost use Rattle.llfree_trace.specs.Program.{DoesWords, DoesWordsFront, IsNoCommand, IsServed};
+ghost use Rattle.llfree_trace.specs.Program.{HasBadSizes, HasBadText};
+ghost use Rattle.llfree_trace.specs.RunText.{ExplainsRun, IsRunText};
+ghost use Rattle.llfree_trace.specs.Streams.{IsTooLong, Filters};
 
 use crate::command::{Command, Sizes, command_of};
 use crate::gate::OpenGate;
@@ -28,13 +24,6 @@ use std::thread::Threads;
 
 const USAGE: &str = "usage: llfree run CHILDREN CORES [FRAMES] \
     | llfree image CHILDREN CORES [FRAMES] | llfree rebuild | llfree report";
-
-// Why the program ends without a result.
-#[derive(Clone, Copy)]
-enum Failure {
-    Usage,
-    Refused(Fault),
-}
 
 /// Runs the command that the words name, without the program's name, and answers its status:
 /// 0 done, 1 a refusal, 2 usage, 3 where memory or a device failed.
@@ -83,92 +72,37 @@ pub fn run_program<Rt: Threads + Wait, I: Read, O: Write, E: Write>(
         × DoesWordsFront (map string_bytes words.now) (I.remaining (device_of input.old))
         (O.contents (device_of output.old)) (O.contents (device_of output.new)))) }
 {
-    match run_command(rt, alloc, words, input, output) {
+    let Some(command) = command_of(words) else {
+        let _ = writeln!(errors, "{USAGE}");
+        return 2;
+    };
+    match perform(rt, alloc, command, input, output) {
         Ok(()) => 0,
-        Err(Failure::Usage) => {
-            let _ = writeln!(errors, "{USAGE}");
-            2
-        }
-        Err(Failure::Refused(fault)) => {
+        Err(fault) => {
             let _ = writeln!(errors, "llfree: {fault}");
             status_of(fault)
         }
     }
 }
 
-// Runs the command that the words name.
-fn run_command<Rt: Threads + Wait, I: Read, O: Write>(
-    rt: &Rt,
-    alloc: Global,
-    words: &[String],
-    input: &mut Watched<I>,
-    output: &mut Watched<O>,
-) -> Result<(), Failure>
-    ensures done { OnOk result (DoesWords (map string_bytes words.now)
-        (I.remaining (device_of input.old)) (O.contents (device_of output.old))
-        (O.contents (device_of output.new))) }
-    ensures sound { OnOk result ((has_failed input.new ≡ false) × (has_failed output.new ≡ false)) }
-    ensures usage { result ≡ Err Failure.Usage
-        → (input.new ≡ input.old) × (output.new ≡ output.old) }
-    ensures refused { (fault : Fault) → result ≡ Err (Failure.Refused fault)
-        → fault ≢ Fault.WriteFailed → output.new ≡ output.old }
-    ensures why { IfErr result (EndsWords (map string_bytes words.now)
-        (I.remaining (device_of input.old))) }
-    ensures not_begun { HasBadSizes (map string_bytes words.now)
-        → (input.new ≡ input.old) × (output.new ≡ output.old) }
-    ensures reading { IsServed (map string_bytes words.now) → StopsAtReading (has_failed input.new)
-        (I.remaining (device_of input.old)) result }
-    ensures write_failed { result ≡ Err (Failure.Refused Fault.WriteFailed)
-        → (has_failed output.new ≡ true) × DoesWordsFront (map string_bytes words.now) (I.remaining (device_of input.old))
-        (O.contents (device_of output.old)) (O.contents (device_of output.new)) }
-{
-    match command_of(words) {
-        Some(command) => perform(rt, alloc, command, input, output),
-        None => Err(Failure::Usage),
-    }
-}
-
 // Runs a command.
-#[tactic(auto, unfolding(crate::specs::Program::Does, crate::specs::Program::DoesFront))]
 fn perform<Rt: Threads + Wait, I: Read, O: Write>(
     rt: &Rt,
     alloc: Global,
     command: Command,
     input: &mut Watched<I>,
     output: &mut Watched<O>,
-) -> Result<(), Failure>
-    ensures done { OnOk result (Does command (I.remaining (device_of input.old))
-        (O.contents (device_of output.old)) (O.contents (device_of output.new))) }
-    ensures sound { OnOk result ((has_failed input.new ≡ false) × (has_failed output.new ≡ false)) }
-    ensures usage { result ≡ Err Failure.Usage
-        → (input.new ≡ input.old) × (output.new ≡ output.old) }
-    ensures refused { (fault : Fault) → result ≡ Err (Failure.Refused fault)
-        → fault ≢ Fault.WriteFailed → output.new ≡ output.old }
-    ensures why { IfErr result (EndsCommand command (I.remaining (device_of input.old))) }
-    ensures not_begun { IsUnlawful command
-        → (input.new ≡ input.old) × (output.new ≡ output.old) }
-    ensures reading { CanDo command → StopsAtReading (has_failed input.new)
-        (I.remaining (device_of input.old)) result }
-    ensures write_failed { result ≡ Err (Failure.Refused Fault.WriteFailed)
-        → (has_failed output.new ≡ true) × DoesFront command (I.remaining (device_of input.old))
-        (O.contents (device_of output.old)) (O.contents (device_of output.new)) }
+) -> Result<(), Fault>
+    ensures { Performs I.remaining O.contents command
+        input.old input.new output.old output.new result }
 {
     match command {
         Command::Run(sizes, show) => {
             let geometry = geometry_of(sizes)?;
-            match run_on(rt, alloc, geometry, show, input, output) {
-                Ok(()) => Ok(()),
-                Err(fault) => Err(Failure::Refused(fault)),
-            }
+            run_on(rt, alloc, geometry, show, input, output)
         }
-        Command::Rebuild => match rebuild_over(alloc, input, output) {
-            Ok(()) => Ok(()),
-            Err(fault) => Err(Failure::Refused(fault)),
-        },
-        Command::Report => match report_over(alloc, input, output) {
-            Ok(()) => Ok(()),
-            Err(fault) => Err(Failure::Refused(fault)),
-        },
+        Command::Rebuild => rebuild_over(alloc, input, output),
+        Command::Report => report_over(alloc, input, output),
     }
 }
 
@@ -181,15 +115,8 @@ fn run_on<Rt: Threads + Wait, I: Read, O: Write>(
     input: &mut Watched<I>,
     output: &mut Watched<O>,
 ) -> Result<(), Fault>
-    ensures written { OnOk result (DoesRun geometry show (I.remaining (device_of input.old))
-        (O.contents (device_of output.old)) (O.contents (device_of output.new))) }
-    ensures sound { OnOk result ((has_failed input.new ≡ false) × (has_failed output.new ≡ false)) }
-    ensures reading { TellsReading (has_failed input.new) (I.remaining (device_of input.old)) result }
-    ensures why { IfErr result (EndsRun geometry (I.remaining (device_of input.old))) }
-    ensures write_failed { IsErrOf result Fault.WriteFailed → (has_failed output.new ≡ true)
-        × DoesFrontOfRun geometry show (I.remaining (device_of input.old))
-        (O.contents (device_of output.old)) (O.contents (device_of output.new)) }
-    ensures untouched { IfErr result (λ e. e ≢ Fault.WriteFailed → output.new ≡ output.old) }
+    ensures { Filters I.remaining O.contents (IsRunText geometry show) (ExplainsRun geometry)
+        input.old input.new output.old output.new result }
 {
     if geometry.cores() == 1 {
         run_over(alloc, geometry, show, input, output)
@@ -199,22 +126,10 @@ fn run_on<Rt: Threads + Wait, I: Read, O: Write>(
 }
 
 // The geometry of these sizes.
-fn geometry_of(sizes: Sizes) -> Result<Geometry, Failure>
-    ensures sizes { IfOk result (IsOfSizes sizes) }
-    ensures lawful { IfOk result (λ _. AreLawful sizes) }
-    ensures why { IfErr result (EndsSizes sizes) }
-{
-    match memory_of(sizes) {
-        Ok(geometry) => Ok(geometry),
-        Err(fault) => Err(Failure::Refused(fault)),
-    }
-}
-
-// The geometry of these sizes.
-fn memory_of(sizes: Sizes) -> Result<Geometry, Fault>
+fn geometry_of(sizes: Sizes) -> Result<Geometry, Fault>
     ensures sizes { IfOk result (IsOfSizes sizes) }
     ensures lawful { IsOk result ↔ AreLawful sizes }
-    ensures fault { IfErr result (λ e. (e ≡ Fault.BadGeometry) ⊎ (e ≡ Fault.BadRange)) }
+    ensures fault { IfErr result IsOfBadSizes }
 {
     match sizes.frames {
         Some(frames) => Geometry::with_frames(sizes.children, sizes.cores, frames),

@@ -1,11 +1,11 @@
 //! Runs from a reader to a writer.
 
-ghost use Rattle.std.specs.Prelude.{◌≡◌, ◌≢◌, true, false, IfErr, IfOk, IfSome, IsErrOf, OnOk};
+ghost use Rattle.std.specs.Prelude.{◌≡◌, IfErr, IfOk};
 ghost use Rattle.frame_core.specs.Image.{key_in};
 ghost use Rattle.frame_core.specs.Report.{free_frames as frames_free, held_frames as frames_held};
-ghost use Rattle.frame_image.specs.Devices.{device_of, has_failed};
-ghost use Rattle.llfree_trace.specs.Streams.{EndsRun, ExplainsRun, IsRunOf, TellsReading};
-ghost use Rattle.llfree_trace.specs.Streams.{WritesFrontOfRun, WritesRun, outcome_answers, shown_of};
+ghost use Rattle.llfree_trace.specs.Outcome.{MustRefuseHere};
+ghost use Rattle.llfree_trace.specs.RunText.{ExplainsRun, IsRunOf, outcome_answers, shown_of};
+ghost use Rattle.llfree_trace.specs.Streams.{Filters};
 
 use crate::one_core::run_one;
 use crate::outcome::Outcome;
@@ -35,27 +35,8 @@ pub fn run_over<R: Read, W: Write>(
     output: &mut Watched<W>,
 ) -> Result<(), Fault>
     requires { geometry.cores ≡ 1 }
-
-    // What is written shows an outcome that fits the trace, and nothing else.
-    ensures written { OnOk result (IfSome (R.remaining (device_of input.old)) (λ text.
-        WritesRun geometry show text (W.contents (device_of output.old))
-        (W.contents (device_of output.new)))) }
-    ensures sound { OnOk result ((has_failed input.new ≡ false) × (has_failed output.new ≡ false)) }
-
-    // The reader failed, or its text is too long.
-    ensures reading { TellsReading (has_failed input.new) (R.remaining (device_of input.old)) result }
-
-    // A record is refused, the lowest of all that the reader had left, or the ranges of a trace.
-    ensures why { IfErr result (EndsRun geometry (R.remaining (device_of input.old))) }
-
-    // A write failed, and a front of that was written.
-    ensures write_failed { IsErrOf result Fault.WriteFailed → (has_failed output.new ≡ true)
-        × IfSome (R.remaining (device_of input.old)) (λ text.
-        WritesFrontOfRun geometry show text (W.contents (device_of output.old))
-        (W.contents (device_of output.new))) }
-
-    // Any other refusal has written nothing.
-    ensures untouched { IfErr result (λ e. e ≢ Fault.WriteFailed → output.new ≡ output.old) }
+    ensures { Filters R.remaining W.contents (IsRunOf MustRefuseHere geometry show) (ExplainsRun geometry)
+        input.old input.new output.old output.new result }
 {
     let text = read_all(alloc, input)?;
     let shown = run_text(alloc, geometry, show, text.as_slice())?;
@@ -65,7 +46,7 @@ pub fn run_over<R: Read, W: Write>(
 // What a run of the trace that the text spells shows.
 fn run_text(alloc: Global, geometry: Geometry, show: Show, text: &[u8]) -> Result<Vec<u8>, Fault>
     requires { geometry.cores ≡ 1 }
-    ensures ok { IfOk result (λ out. IsRunOf geometry show text.now out.items) }
+    ensures ok { IfOk result (λ out. IsRunOf MustRefuseHere geometry show text.now out.items) }
     ensures err { IfErr result (ExplainsRun geometry text.now) }
 {
     let trace = parse_trace(alloc, &geometry, text)?;
