@@ -1,8 +1,9 @@
 #!/usr/bin/env python3
-"""Draws what a script of bench/ has measured: how many pairs of a take and a give a second, over threads.
+"""Draws what a script of bench/ has measured: how many pairs of a take and a give a second, over threads; of a
+recording that is replayed, how many takes and gives.
 
     bench/plot.py bench/results/FILE [--only GROUP ..] > PLOT.svg
-    bench/plot.py --measure allocator|c [--only GROUP ..] > PLOT.svg
+    bench/plot.py --measure allocator|c|replay [--only GROUP ..] > PLOT.svg
 
 A file of bench/results has lines `# machine:`, `# date:`, `# method:` and then the table as the script prints it,
 with a line for each number of threads. A group is an order, or a kind of work and an order (`random,mixed`); with
@@ -86,8 +87,17 @@ def result_of(text):
 # The plot
 
 
+def heading_of(groups):
+    """What is drawn. The table of a recording tells no orders, so it has one group, without a name."""
+    if list(groups) == ['']:
+        return 'Page frames of a kernel, replayed: million takes and gives a second of all threads (logarithmic)'
+    return 'A take and a give of page frames: million pairs a second of all threads (logarithmic)'
+
+
 def title_of(group):
     """A group in words."""
+    if not group:
+        return 'takes and gives as recorded'
     *kind, order = group.split(',')
     kinds = {'pairs': 'take and give', 'fill': 'fill and empty', 'random': 'random, half held'}
     words = 'mixed orders' if order == 'mixed' else f'order {order}'
@@ -164,8 +174,7 @@ def plot(said, groups):
     yield (f'<svg xmlns="http://www.w3.org/2000/svg" width="{WIDTH}" height="{height}" '
            f'viewBox="0 0 {WIDTH} {height}" {FONT}>')
     yield f'<rect width="{WIDTH}" height="{height}" fill="#ffffff"/>'
-    yield (f'<text x="10" y="24" font-size="15" fill="{TEXT}">A take and a give of page frames: '
-           'million pairs a second of all threads (logarithmic)</text>')
+    yield f'<text x="10" y="24" font-size="15" fill="{TEXT}">{heading_of(groups)}</text>'
     for place, text in enumerate(told):
         yield f'<text x="10" y="{44 + 15 * place}" font-size="11" fill="{TEXT}">{escaped(text)}</text>'
     yield from key({column for group in groups.values() for column in group}, top - 14)
@@ -191,7 +200,7 @@ def machine():
 def measured(name):
     """Runs a script of this folder, lays its table down beside what is said of it, and answers that text."""
     day = datetime.date.today().isoformat()
-    settings = [f'{word}={os.environ[word]}' for word in ('RUNS', 'ROUNDS', 'PAIRS', 'UNDER') if word in os.environ]
+    settings = [f'{word}={os.environ[word]}' for word in ('RUNS', 'ROUNDS', 'PAIRS', 'REPEATS', 'CHILDREN', 'UNDER') if word in os.environ]
     if sys.stderr.isatty():
         print(f'plot: bench/{name}.sh measures; this takes some minutes', file=sys.stderr)
     done = subprocess.run([os.path.join(HERE, f'{name}.sh')], stdout=subprocess.PIPE, text=True, check=False)
@@ -221,7 +230,7 @@ def text_of(given):
 def main():
     parser = argparse.ArgumentParser(description=__doc__.split('\n', maxsplit=1)[0])
     parser.add_argument('file', nargs='?', help='a file of bench/results; standard input where none is named')
-    parser.add_argument('--measure', choices=('allocator', 'c'), help='measure first')
+    parser.add_argument('--measure', choices=('allocator', 'c', 'replay'), help='measure first')
     parser.add_argument('--only', nargs='+', metavar='GROUP', help="as '0', or 'pairs,0'")
     given = parser.parse_args()
     try:
