@@ -150,14 +150,23 @@ class Panel:
             yield f'<circle cx="{right:.1f}" cy="{height:.1f}" r="{width // 2 + 2}" fill="{colour}"/>'
 
 
-def key(columns, height):
-    """The names of the lines."""
-    right = 10
+def keys_of(columns):
+    """The names of the lines, each with its row and its place in it."""
+    row, right = 0, 10
     for column, name, colour in ALLOCATORS:
         if column in columns:
-            yield f'<path d="M{right} {height - 4}h22" stroke="{colour}" stroke-width="3"/>'
-            yield f'<text x="{right + 27}" y="{height}" font-size="12" fill="{TEXT}">{name}</text>'
-            right += 46 + 7 * len(name)
+            wide = 46 + 7 * len(name)
+            if right + wide > WIDTH:
+                row, right = row + 1, 10
+            yield row, right, name, colour
+            right += wide
+
+
+def key(keys, height):
+    for row, right, name, colour in keys:
+        line = height + 18 * row
+        yield f'<path d="M{right} {line - 4}h22" stroke="{colour}" stroke-width="3"/>'
+        yield f'<text x="{right + 27}" y="{line}" font-size="12" fill="{TEXT}">{name}</text>'
 
 
 def escaped(text):
@@ -169,7 +178,9 @@ def plot(said, groups):
     axis = ticks(min(figure for _, figure in figures), max(figure for _, figure in figures))
     threads = sorted({count for count, _ in figures})
     told = textwrap.wrap(f'{said["date"]}, {said["machine"]}: {said["method"]}', 140)
-    top = 76 + 15 * len(told)
+    keys = list(keys_of({column for group in groups.values() for column in group}))
+    more = 18 * keys[-1][0]
+    top = 76 + 15 * len(told) + more
     height = top + -(-len(groups) // ACROSS) * (PANEL_HEIGHT + 70)
     yield (f'<svg xmlns="http://www.w3.org/2000/svg" width="{WIDTH}" height="{height}" '
            f'viewBox="0 0 {WIDTH} {height}" {FONT}>')
@@ -177,7 +188,7 @@ def plot(said, groups):
     yield f'<text x="10" y="24" font-size="15" fill="{TEXT}">{heading_of(groups)}</text>'
     for place, text in enumerate(told):
         yield f'<text x="10" y="{44 + 15 * place}" font-size="11" fill="{TEXT}">{escaped(text)}</text>'
-    yield from key({column for group in groups.values() for column in group}, top - 14)
+    yield from key(keys, top - more - 14)
     for place, (group, lines) in enumerate(groups.items()):
         panel = Panel(place, top, threads, axis)
         yield from panel.frame(title_of(group))
