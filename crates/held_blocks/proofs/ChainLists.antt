@@ -9,8 +9,8 @@ use Rattle.std.proofs.lemmas.List.{get_or_default, get_or_append_left, get_or_pu
 use Rattle.std.proofs.lemmas.List.{get_or-set_same, get_or-set_other, length-set, length_push}
 use Rattle.std.proofs.lemmas.List.{set_past}
 use Rattle.held_blocks.specs.declared.label_chains.LabelChains.{LabelChains}
-use Rattle.held_blocks.specs.LabelChains.{no_place, WalksOn, Chained, IsBlank, IsSame, first_of, last_of}
-use Rattle.held_blocks.specs.LabelChains.{first_at, last_at, is_live}
+use Rattle.held_blocks.specs.LabelChains.{no_place, WalksOn, Chained, IsBlank, IsSame, KeepsKeys, SetsEnds}
+use Rattle.held_blocks.specs.LabelChains.{first_of, last_of, first_at, last_at, is_live}
 use Rattle.held_blocks.proofs.ChainSteps.{serves_from, serves_less, serves_push, serves_same}
 
 pub dead_at : {T : Type 0} (slots : List (Option T)) (at : ℕ) (read : Option T)
@@ -31,23 +31,29 @@ chained_same old new slots r s =
 
 -- the chain of a key begins where a walk has come to
 pub chained_begin : {T : Type 0} (old new : LabelChains) (slots : List (Option T)) (key at : ℕ)
-    → Chained old slots
-    → new.keys ≡ old.keys → new.next ≡ old.next → first_at new key ≡ at
-    → last_at new key ≡ last_at old key
-    → ((q : ℕ) → (q ≡ key → ⊥) → get nat_cmp new.ends q ≡ get nat_cmp old.ends q)
-    → WalksOn old slots key at → Chained new slots
-chained_begin old new slots key at r keys next here last other walk =
+    → Chained old slots → SetsEnds key at (last_at old key) old new → WalksOn old slots key at
+    → Chained new slots
+chained_begin old new slots key at r ends walk =
     let lasts : (q : ℕ) → last_at new q ≡ last_at old q =
     λ q. elim (cases_eq q key) [
-      | inl same ↦ ap (last_at new) same ∙ last ∙ sym (ap (last_at old) same)
-      | inr ne ↦ ap last_of (other q ne)
+      | inl same ↦ ap (last_at new) same ∙ ends.last ∙ sym (ap (last_at old) same)
+      | inr ne ↦ ap last_of (ends.other q ne)
     ] in
-    let serves = serves_from r.serves key at walk (first_at new) (last_at new) here (λ q ne. ap first_of (other q ne)) lasts in
+    let serves =
+    serves_from r.serves key at walk (first_at new) (last_at new) ends.first (λ q ne. ap first_of (ends.other q ne)) lasts in
     record {
-      key_len = ap (λ v. length v.items) keys ∙ r.key_len;
-      next_len = ap (λ v. length v.items) next ∙ r.next_len;
-      serves = rw (keys, next) serves;
+      key_len = ap (λ v. length v.items) ends.keys ∙ r.key_len;
+      next_len = ap (λ v. length v.items) ends.next ∙ r.next_len;
+      serves = rw (ends.keys, ends.next) serves;
     }
+
+-- other ends of one chain change neither the keys, nor the room, nor what is known
+pub keeps_keys : {key from to : ℕ} {old new : LabelChains} → SetsEnds key from to old new → KeepsKeys old new
+keeps_keys {key} e = record {
+  keys = ap (λ v. v.items) e.keys;
+  room = λ n h. rw (e.keys, e.next) h;
+  known = λ q h. elim (cases_eq q key) [ inl same ↦ rw same e.knows | inr ne ↦ rw (e.other q ne) h ];
+}
 
 -- one more place, to which the chain of its key leads
 pub chained_push : {T : Type 0} (old new : LabelChains) (slots : List (Option T)) (x : T) (key : ℕ) → Chained old slots
@@ -118,10 +124,10 @@ chained_none chains b = record {
       record {
         starts = λ i within alive. absurd (omega arith);
         starts_at = λ k within. absurd (omega arith);
-        firsts = λ k. inr (b.first k);
+        firsts = λ k past. b.first k;
         known = λ i within. absurd (omega arith);
         most = λ i within. absurd (omega arith);
-        lasts = λ k. inr (b.last k);
+        lasts = λ k past. b.last k;
         ends_at = λ k within. absurd (omega arith);
         onward = λ i within. absurd (omega arith);
         same = λ i within below. absurd (omega arith);
@@ -129,4 +135,13 @@ chained_none chains b = record {
         goes_on = λ i within apart. absurd (omega arith);
         stops = λ i within. absurd (omega arith);
       };
+}
+
+-- blank chains stay blank
+pub blank_same : {old new : LabelChains} → IsSame old new → IsBlank old → IsBlank new
+blank_same s b = record {
+  keys = s.keys ∙ b.keys;
+  next = s.next ∙ b.next;
+  first = λ k. s.first k ∙ b.first k;
+  last = λ k. s.last k ∙ b.last k;
 }

@@ -43,10 +43,10 @@ module _ {nowhere n : ℕ} {key next : ℕ → ℕ} {live : ℕ → Bool} {first
           | inl e ↦ let f : first' q ≡ at = ap first' e ∙ here in let b : at < n = rw f at below in ap key f ∙ w.here b ∙ sym e
           | inr ne ↦ let f = other q ne in let b : first q < n = rw f at below in ap key f ∙ s.starts_at q b
         ];
-    firsts = λ q.
+    firsts = λ q past.
         elim (cases_eq q k) [
-          | inl e ↦ let f : first' q ≡ at = ap first' e ∙ here in rw f w.stop
-          | inr ne ↦ rw (other q ne) (s.firsts q)
+          | inl e ↦ let f : first' q ≡ at = ap first' e ∙ here in f ∙ w.stop (omega arith)
+          | inr ne ↦ let f = other q ne in f ∙ s.firsts q (omega arith)
         ];
     known = λ i within. rw (lasts (key i)) (s.known i within);
     most = λ i within. rw (lasts (key i)) (s.most i within);
@@ -140,28 +140,24 @@ module _ {nowhere n : ℕ} {key next : ℕ → ℕ} {live : ℕ → Bool} {first
               ]
           | inr ne ↦
               let f = first_other q ne in
-              elim (s.firsts q) [
+              elim (cases_lt (first q) n) [
                 | inl b ↦ ap key' f ∙ key_below (first q) b ∙ s.starts_at q b
-                | inr b ↦ absurd (omega arith)
+                | inr b ↦ let h = s.firsts q b in absurd (omega arith)
               ]
         ]
 
-    push_firsts : (q : ℕ) → (first' q < n + 1) ⊎ (first' q ≡ nowhere)
-    push_firsts q =
+    push_firsts : (q : ℕ) → n + 1 ≤ first' q → first' q ≡ nowhere
+    push_firsts q past =
         elim (cases_eq q k) [
-          | inl e ↦ let f : first' q ≡ min (first k) n = ap first' e ∙ first_at in inl (omega arith)
-          | inr ne ↦
-              let f = first_other q ne in
-              elim (s.firsts q) [ inl b ↦ inl (omega arith) | inr b ↦ inr (f ∙ b) ]
+          | inl e ↦ let f : first' q ≡ min (first k) n = ap first' e ∙ first_at in absurd (omega arith)
+          | inr ne ↦ let f = first_other q ne in f ∙ s.firsts q (omega arith)
         ]
 
-    push_lasts : (q : ℕ) → (last' q < n + 1) ⊎ (last' q ≡ nowhere)
-    push_lasts q =
+    push_lasts : (q : ℕ) → n + 1 ≤ last' q → last' q ≡ nowhere
+    push_lasts q past =
         elim (cases_eq q k) [
-          | inl e ↦ let f : last' q ≡ n = ap last' e ∙ last_at in inl (omega arith)
-          | inr ne ↦
-              let f = last_other q ne in
-              elim (s.lasts q) [ inl b ↦ inl (omega arith) | inr b ↦ inr (f ∙ b) ]
+          | inl e ↦ let f : last' q ≡ n = ap last' e ∙ last_at in absurd (omega arith)
+          | inr ne ↦ let f = last_other q ne in f ∙ s.lasts q (omega arith)
         ]
 
     push_most : (i : ℕ) → i < n + 1 → (last' (key' i) < n + 1) × (i ≤ last' (key' i))
@@ -181,9 +177,9 @@ module _ {nowhere n : ℕ} {key next : ℕ → ℕ} {live : ℕ → Bool} {first
           | inl e ↦ ap (λ x. key' (last' x)) e ∙ ap key' last_at ∙ key_at ∙ sym e
           | inr ne ↦
               let f = last_other q ne in
-              elim (s.lasts q) [
+              elim (cases_lt (last q) n) [
                 | inl b ↦ ap key' f ∙ key_below (last q) b ∙ s.ends_at q b
-                | inr b ↦ absurd (omega arith)
+                | inr b ↦ let h = s.lasts q b in absurd (omega arith)
               ]
         ]
 
@@ -195,16 +191,16 @@ module _ {nowhere n : ℕ} {key next : ℕ → ℕ} {live : ℕ → Bool} {first
           | inr e ↦ let f : next' i ≡ nowhere = ap next' e ∙ next_at in omega arith
         ]
 
-    push_stops : (i : ℕ) → i < n + 1 → (next' i < n + 1) ⊎ (next' i ≡ nowhere)
+    push_stops : (i : ℕ) → i < n + 1 → n + 1 ≤ next' i → next' i ≡ nowhere
     unfolding Steps
-    push_stops i within =
+    push_stops i within past =
         elim (below_or_at i n within) [
           | inl b ↦
               elim (steps i b) [
-                | inl w ↦ let x = w.2 in inl (omega arith)
-                | inr w ↦ let x = w.1 in elim (s.stops i b) [ inl y ↦ inl (omega arith) | inr y ↦ inr (x ∙ y) ]
+                | inl w ↦ let x = w.2 in absurd (omega arith)
+                | inr w ↦ let x = w.1 in x ∙ s.stops i b (omega arith)
               ]
-          | inr e ↦ inr (ap next' e ∙ next_at)
+          | inr e ↦ ap next' e ∙ next_at
         ]
 
     push_same : (i : ℕ) → i < n + 1 → next' i < n + 1 → key' (next' i) ≡ key' i
@@ -216,9 +212,9 @@ module _ {nowhere n : ℕ} {key next : ℕ → ℕ} {live : ℕ → Bool} {first
                 | inl w ↦ ap key' w.2 ∙ key_at ∙ sym w.1 ∙ sym (key_below i b)
                 | inr w ↦
                     let x = w.1 in
-                    elim (s.stops i b) [
+                    elim (cases_lt (next i) n) [
                       | inl y ↦ ap key' x ∙ key_below (next i) y ∙ s.same i b y ∙ sym (key_below i b)
-                      | inr y ↦ absurd (omega arith)
+                      | inr y ↦ let h = s.stops i b y in absurd (omega arith)
                     ]
               ]
           | inr e ↦ let f : next' i ≡ nowhere = ap next' e ∙ next_at in absurd (omega arith)

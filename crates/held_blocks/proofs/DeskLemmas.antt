@@ -8,7 +8,7 @@ use Rattle.frame_model.specs.declared.key.Key.{Key}
 use Rattle.frame_words.specs.declared.fault.Fault.{Fault}
 use Rattle.frame_words.specs.declared.fault.Fault.TheVariants as fault
 use Rattle.held_blocks.specs.Desk.{blocks_of, PutsLast, TakesUnder, GivesFirst, GivesExactly}
-use Rattle.held_blocks.specs.Desk.{pair_block, MayRefuse, MustRefuse}
+use Rattle.held_blocks.specs.Desk.{pair_block}
 use Rattle.held_blocks.specs.LabelledBlocks.{IsTheBlock}
 use Rattle.held_blocks.specs.declared.labelled_block.LabelledBlock.{LabelledBlock}
 use Rattle.held_blocks.proofs.HeldLemmas.{less_lawful, more_lawful}
@@ -56,13 +56,3 @@ gives_exactly_lawful key old frame order r new lawful step = by_order (nat_le or
     by_order false e =
         let high : 9 < order = grind (arith, common_steps) in
         rw (step.0 high).1 lawful
-
--- a take that is refused only where it must be is one that may be refused
-pub may_take : (key : Key) (old : List LabelledBlock) (label : List ℕ) (order : ℕ)
-    (r : Result (ℕ × ℕ) Fault) (new : List LabelledBlock)
-    → TakesUnder MustRefuse key old label order r new → TakesUnder MayRefuse key old label order r new
-unfolding TakesUnder
-may_take key old label order (Ok b) new step = step
-may_take key old label order (Err fault.BadOrder) new step = step
-may_take key old label order (Err fault.NoBlock) new step = (step.0, tt, step.2)
-may_take key old label order (Err f) new step = absurd step.1

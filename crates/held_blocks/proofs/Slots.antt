@@ -12,7 +12,7 @@ use Rattle.std.proofs.lemmas.List.{drop_more}
 use Rattle.std.proofs.lemmas.List.Concat.{flat_map-append}
 use Rattle.std.proofs.lemmas.List.Elements.{All-from_recursion, recursion_from_All}
 use Rattle.held_blocks.specs.LabelledBlocks.{HasNone, TakesFirst}
-use Rattle.held_blocks.specs.BlockStore.{held, StandsAt, IsFirstAt}
+use Rattle.held_blocks.specs.Slots.{held, StandsAt, IsFirstAt}
 
 pub held_push : {T : Type 0} (slots : List (Option T)) (x : T)
     → held (slots ++ Some x ∷ []) ≡ held slots ++ x ∷ []

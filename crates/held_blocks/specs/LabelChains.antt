@@ -1,5 +1,5 @@
 -- What chains through the places of a list say. No public clause cites this module.
-use Rattle.std.specs.Prelude.{ℕ, ◌+◌, ◌≡◌, ◌≢◌, ◌<◌, ◌≤◌, ◌⊎◌, Bool, true, false, List, [], length}
+use Rattle.std.specs.Prelude.{ℕ, ◌+◌, ◌≡◌, ◌≢◌, ◌<◌, ◌≤◌, Bool, true, false, List, [], length}
 use Rattle.std.specs.Prelude.{Option, Some, None, is_some, IsSome, slice_index_or}
 use Rattle.std.specs.Prelude.{vec_len, vec_capacity}
 use Rattle.std.specs.Ordering.{nat_cmp}
@@ -12,22 +12,22 @@ pub record Serves (nowhere n : ℕ) (key next : ℕ → ℕ) (live : ℕ → Boo
     Type 0 where
   pub starts : (i : ℕ) → i < n → live i ≡ true → first (key i) ≤ i
   pub starts_at : (k : ℕ) → first k < n → key (first k) ≡ k
-  pub firsts : (k : ℕ) → (first k < n) ⊎ (first k ≡ nowhere)
+  pub firsts : (k : ℕ) → n ≤ first k → first k ≡ nowhere
   pub known : (i : ℕ) → i < n → last (key i) < n
   pub most : (i : ℕ) → i < n → i ≤ last (key i)
-  pub lasts : (k : ℕ) → (last k < n) ⊎ (last k ≡ nowhere)
+  pub lasts : (k : ℕ) → n ≤ last k → last k ≡ nowhere
   pub ends_at : (k : ℕ) → last k < n → key (last k) ≡ k
   pub onward : (i : ℕ) → i < n → i < next i
   pub same : (i : ℕ) → i < n → next i < n → key (next i) ≡ key i
   pub skips : (i j : ℕ) → i < j → j < n → key i ≡ key j → live j ≡ true → next i ≤ j
   pub goes_on : (i : ℕ) → i < n → i ≢ last (key i) → next i < n
-  pub stops : (i : ℕ) → i < n → (next i < n) ⊎ (next i ≡ nowhere)
+  pub stops : (i : ℕ) → i < n → n ≤ next i → next i ≡ nowhere
 
 -- on the way through the chain of k to this place, no live place of k was passed
 pub record Walks (nowhere n : ℕ) (key : ℕ → ℕ) (live : ℕ → Bool) (k at : ℕ) : Type 0 where
   pub here : at < n → key at ≡ k
   pub least : (j : ℕ) → j < n → key j ≡ k → live j ≡ true → at ≤ j
-  pub stop : (at < n) ⊎ (at ≡ nowhere)
+  pub stop : n ≤ at → at ≡ nowhere
 
 -- the number of no place
 abbrev pub no_place : ℕ
@@ -55,16 +55,35 @@ last_at chains key = last_of (get nat_cmp chains.ends key)
 abbrev pub Knows : LabelChains → ℕ → Type 0
 Knows chains key = IsSome (get nat_cmp chains.ends key)
 
+-- so many more places take no more memory
+abbrev pub ChainsHaveRoom : LabelChains → ℕ → Type 0
+ChainsHaveRoom chains n =
+    (vec_len chains.keys + n ≤ vec_capacity chains.keys)
+    × (vec_len chains.next + n ≤ vec_capacity chains.next)
+
 -- the same chains, perhaps with more room and more keys
 pub record IsSame (old new : LabelChains) : Type 0 where
   pub keys : new.keys.items ≡ old.keys.items
   pub next : new.next.items ≡ old.next.items
   pub first : (k : ℕ) → first_at new k ≡ first_at old k
   pub last : (k : ℕ) → last_at new k ≡ last_at old k
+  pub room : (n : ℕ) → ChainsHaveRoom old n → ChainsHaveRoom new n
+  pub known : (k : ℕ) → Knows old k → Knows new k
 
--- the ends of the chains of other keys stay
-abbrev pub SameBut : ℕ → LabelChains → LabelChains → Type 0
-SameBut key old new = (q : ℕ) → q ≢ key → get nat_cmp new.ends q ≡ get nat_cmp old.ends q
+-- the places have the same keys; there is as much room, and as many keys are known
+pub record KeepsKeys (old new : LabelChains) : Type 0 where
+  pub keys : new.keys.items ≡ old.keys.items
+  pub room : (n : ℕ) → ChainsHaveRoom old n → ChainsHaveRoom new n
+  pub known : (k : ℕ) → Knows old k → Knows new k
+
+-- the chain of the key begins and ends there, and all else stays
+pub record SetsEnds (key from to : ℕ) (old new : LabelChains) : Type 0 where
+  pub keys : new.keys ≡ old.keys
+  pub next : new.next ≡ old.next
+  pub first : first_at new key ≡ from
+  pub last : last_at new key ≡ to
+  pub knows : Knows new key
+  pub other : (k : ℕ) → k ≢ key → get nat_cmp new.ends k ≡ get nat_cmp old.ends k
 
 -- the place holds something
 abbrev pub is_live : {T : Type 0} → List (Option T) → ℕ → Bool
@@ -77,12 +96,6 @@ pub record Chained {T : Type 0} (chains : LabelChains) (slots : List (Option T))
   pub serves :
       Serves no_place (length slots) (λ i. slice_index_or chains.keys.items i 0)
       (λ i. slice_index_or chains.next.items i 0) (is_live slots) (first_at chains) (last_at chains)
-
--- so many more places take no more memory
-abbrev pub ChainsHaveRoom : LabelChains → ℕ → Type 0
-ChainsHaveRoom chains n =
-    (vec_len chains.keys + n ≤ vec_capacity chains.keys)
-    × (vec_len chains.next + n ≤ vec_capacity chains.next)
 
 -- a chain through no place for each key
 pub record IsBlank (chains : LabelChains) : Type 0 where

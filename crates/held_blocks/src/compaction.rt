@@ -1,81 +1,77 @@
 //! The move of all entries into new slots, none of them empty.
 
 ghost use Rattle.std.specs.Prelude.{◌≡◌, ◌+◌, [], ℕ, length, IfOk, OnOk, OnErr};
-ghost use Rattle.held_blocks.specs.LabelChains.{IsBlank, Knows};
-ghost use Rattle.held_blocks.specs.LabelChains.{ChainsHaveRoom};
-ghost use Rattle.held_blocks.specs.FramePlaces.{HasSpare};
-ghost use Rattle.held_blocks.specs.BlockStore.{held, entries_of, FindsEntries, HasRoom, IsReadyFor};
-ghost use Rattle.held_blocks.specs.BlockStore.{KnowsAll, CanMove};
+ghost use Rattle.held_blocks.specs.LabelChains.{IsBlank, Knows, ChainsHaveRoom};
+ghost use Rattle.held_blocks.specs.SlotPages.{HasSpare};
+ghost use Rattle.held_blocks.specs.Slots.{held, KnowsAll, CanMove};
+ghost use Rattle.held_blocks.specs.BlockStore.{entries_of, HasRoom, IsReadyFor};
 
-use crate::block_store::{BlockStore, put_last};
-use crate::frame_places;
-use crate::label_chains::{self, LabelChains};
+use crate::block_store::BlockStore;
+use crate::label_chains::LabelChains;
 use crate::labelled_block::LabelledBlock;
 use crate::removals::take_slot;
+use crate::slot_pages::SlotPages;
 use std::alloc::{AllocError, Global};
 use std::mem;
 
-/// Moves the entries into new slots, none of them empty, with chains for their labels alone.
-pub(crate) fn compact(store: &mut BlockStore, key: u128, alloc: Global) -> Result<(), AllocError>
-    requires fits { FindsEntries store.old }
-    requires spare { HasSpare store.old.places }
-    ensures fits { FindsEntries store.new }
-    ensures entries { entries_of store.new ≡ entries_of store.old }
-    ensures ready { OnOk result (IsReadyFor store.new key) }
-    ensures kept { OnErr result (store.new ≡ store.old) }
-{
-    let chains = needed_chains(store, key, alloc)?;
-    let slots = Vec::with_capacity(alloc, store.live + 1)?;
-    let fresh = BlockStore {
-        slots,
-        chains,
-        places: frame_places::no_places(alloc),
-        live: 0,
-    };
-    let BlockStore {
-        slots,
-        chains: _,
-        places,
-        live: _,
-    } = mem::replace(store, fresh);
-    store.places = places;
-    move_all(slots, store);
-    Ok(())
-}
-
-// Chains through no place, for the labels of all entries and one more.
-fn needed_chains(store: &BlockStore, key: u128, alloc: Global) -> Result<LabelChains, AllocError>
-    requires { FindsEntries store.now }
-    ensures blank { IfOk result IsBlank }
-    ensures room { IfOk result (λ chains. ChainsHaveRoom chains (store.now.live + 1)) }
-    ensures knows { IfOk result (λ chains. Knows chains key) }
-    ensures labels { IfOk result (KnowsAll store.now.slots.items) }
-{
-    let mut chains = label_chains::no_chains(alloc);
-    label_chains::make_ready(&mut chains, store.live + 1, key)?;
-    for place in 0..store.slots.len() {
-        if store.slots[place].is_some() {
-            label_chains::know(&mut chains, store.chains.keys[place])?;
-        }
+impl BlockStore {
+    /// Moves the entries into new slots, none of them empty, with chains for their labels alone.
+    pub(crate) fn compact(&mut self, key: u128, alloc: Global) -> Result<(), AllocError>
+        requires { HasSpare self.old.pages }
+        ensures entries { entries_of self.new ≡ entries_of self.old }
+        ensures ready { OnOk result (IsReadyFor self.new key) }
+        ensures kept { OnErr result (self.new ≡ self.old) }
+    {
+        let chains = self.needed_chains(key, alloc)?;
+        let slots = Vec::with_capacity(alloc, self.live + 1)?;
+        let fresh = BlockStore {
+            slots,
+            chains,
+            pages: SlotPages::new(alloc),
+            live: 0,
+        };
+        let BlockStore {
+            slots,
+            chains: _,
+            pages,
+            live: _,
+        } = mem::replace(self, fresh);
+        self.pages = pages;
+        self.move_all(slots);
+        Ok(())
     }
-    Ok(chains)
-}
 
-// Puts the entries of these slots last, in order.
-fn move_all(slots: Vec<Option<LabelledBlock>>, store: &mut BlockStore)
-    requires fits { FindsEntries store.old }
-    requires none { entries_of store.old ≡ [] }
-    requires room { HasRoom store.old (length (held slots.items) + 1) }
-    requires spare { HasSpare store.old.places }
-    requires can { CanMove slots.items store.old }
-    ensures fits { FindsEntries store.new }
-    ensures entries { entries_of store.new ≡ held slots.items }
-    ensures ready { (q : ℕ) → Knows store.old.chains q → IsReadyFor store.new q }
-{
-    let mut slots = slots;
-    for place in 0..slots.len() {
-        if slots[place].is_some() {
-            put_last(store, take_slot(&mut slots, place));
+    // Chains through no place, for the labels of all entries and one more.
+    fn needed_chains(&self, key: u128, alloc: Global) -> Result<LabelChains, AllocError>
+        ensures blank { IfOk result IsBlank }
+        ensures room { IfOk result (λ chains. ChainsHaveRoom chains (self.now.live + 1)) }
+        ensures knows { IfOk result (λ chains. Knows chains key) }
+        ensures labels { IfOk result (KnowsAll self.now.slots.items) }
+    {
+        let mut chains = LabelChains::new(alloc);
+        chains.make_ready(self.live + 1, key)?;
+        for slot in 0..self.slots.len() {
+            if self.slots[slot].is_some() {
+                chains.know(self.chains.keys[slot])?;
+            }
+        }
+        Ok(chains)
+    }
+
+    // Puts the entries of these slots last, in order.
+    fn move_all(&mut self, slots: Vec<Option<LabelledBlock>>)
+        requires none { entries_of self.old ≡ [] }
+        requires room { HasRoom self.old (length (held slots.items) + 1) }
+        requires spare { HasSpare self.old.pages }
+        requires can { CanMove slots.items self.old.chains self.old.pages }
+        ensures entries { entries_of self.new ≡ held slots.items }
+        ensures ready { (q : ℕ) → Knows self.old.chains q → IsReadyFor self.new q }
+    {
+        let mut slots = slots;
+        for slot in 0..slots.len() {
+            if slots[slot].is_some() {
+                self.put_last(take_slot(&mut slots, slot));
+            }
         }
     }
 }

@@ -6,10 +6,10 @@ ghost use Rattle.std.specs.Bool.{OnTrue, OnFalse};
 ghost use Rattle.held_blocks.specs.LabelledBlocks.{IsUnder, IsTheBlock, BeginsAt};
 ghost use Rattle.held_blocks.specs.LabelledBlocks.{HasNone, TakesFirst};
 
-use crate::block_store::{self, BlockStore};
+use crate::block_store::BlockStore;
 use crate::label::{Label, key_of};
 use crate::labelled_block::LabelledBlock;
-use crate::{lookups, removals};
+use crate::lookups;
 use std::alloc::{AllocError, Global};
 use std::marker::Model;
 
@@ -29,11 +29,11 @@ impl Model for LabelledBlocks {
     ghost Value = { LabelledList };
 
     ghost use Rattle.std.specs.Prelude.{IfSome};
-    ghost use Rattle.held_blocks.specs.BlockStore.{entries_of, FindsEntries, IsReadyUnder};
+    ghost use Rattle.held_blocks.specs.BlockStore.{entries_of, IsReadyUnder};
 
     ghost view = { λ list. record { entries = entries_of list.store; room = list.room } };
 
-    ghost invariant = { λ list. FindsEntries list.store × IfSome list.room (IsReadyUnder list.store) };
+    ghost invariant = { λ list. IfSome list.room (IsReadyUnder list.store) };
 }
 
 impl LabelledBlocks {
@@ -43,7 +43,7 @@ impl LabelledBlocks {
         ensures room { result.room ≡ None }
     {
         LabelledBlocks {
-            store: block_store::empty_store(alloc),
+            store: BlockStore::new(alloc),
             room: None,
             alloc,
         }
@@ -69,7 +69,7 @@ impl LabelledBlocks {
         ensures yes { OnTrue result (¬ HasNone (BeginsAt frame) self.now.entries) }
         ensures no { OnFalse result (HasNone (BeginsAt frame) self.now.entries) }
     {
-        lookups::frame_place(&self.store, frame).is_some()
+        self.store.frame_slot(frame).is_some()
     }
 
     /// Makes room for one more block under a label. No other call takes memory.
@@ -78,7 +78,7 @@ impl LabelledBlocks {
         ensures ok { OnOk result (self.new.room ≡ Some label.now) }
         ensures err { OnErr result (self.new.room ≡ self.old.room) }
     {
-        block_store::make_ready(&mut self.store, key_of(label), self.alloc)?;
+        self.store.make_ready(key_of(label), self.alloc)?;
         self.room = Some(label.again());
         Ok(())
     }
@@ -91,7 +91,7 @@ impl LabelledBlocks {
         ensures entries { self.new.entries ≡ self.old.entries ++ entry ∷ [] }
         ensures room { self.new.room ≡ None }
     {
-        block_store::add_entry(&mut self.store, entry);
+        self.store.add_entry(entry);
         self.room = None;
     }
 
@@ -102,7 +102,7 @@ impl LabelledBlocks {
         ensures unchanged { IfNone result (self.new.entries ≡ self.old.entries) }
         ensures room { self.new.room ≡ self.old.room }
     {
-        removals::take_oldest(&mut self.store, label)
+        self.store.take_oldest(label)
     }
 
     /// Takes out the block with this first frame and this order; `None` where there is none.
@@ -112,6 +112,6 @@ impl LabelledBlocks {
         ensures unchanged { IfNone result (self.new.entries ≡ self.old.entries) }
         ensures room { self.new.room ≡ self.old.room }
     {
-        removals::take_exact(&mut self.store, frame, order)
+        self.store.take_exact(frame, order)
     }
 }

@@ -3,13 +3,13 @@
 
 mod block_store;
 mod compaction;
-mod frame_places;
 mod label;
 mod label_chains;
 mod labelled_block;
 mod labelled_blocks;
 mod lookups;
 mod removals;
+mod slot_pages;
 
 pub use label::Label;
 pub use labelled_block::LabelledBlock;

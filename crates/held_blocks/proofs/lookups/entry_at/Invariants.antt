@@ -1,5 +1,5 @@
 use Rattle.std.proofs.Common.{◌≡◌, ◌≤◌, length, take}
-use Rattle.held_blocks.specs.BlockStore.{held}
+use Rattle.held_blocks.specs.Slots.{held}
 use Rattle.held_blocks.proofs.lookups.entry_at.Given as goal
 
 abbrev pub invariant-loop-slot : goal.invariant-loop-slot

@@ -6,13 +6,12 @@ use Rattle.held_blocks.proofs.labelled_blocks.LabelledBlocks.begins_at.Goals as 
 pub returns-clause-yes : goal.returns-clause-yes
 returns-clause-yes c =
     let store = c.self.inside.store in
-    let fits = c.self.invariant.0 in
     let begins =
-    true_if_some c.frame_place.result c.is_some.result _ _ c.is_some.ensures
-    (λ place h. some_begins store fits c.args.frame place h) c.frame_place.ensures.found in
+    true_if_some c.frame_slot.result c.is_some.result _ _ c.is_some.ensures
+    (λ place h. some_begins store.finds c.args.frame place h) c.frame_slot.ensures.found in
     rw (ap (λ list. list.entries) c.self.view_is) at begins
 
 pub returns-clause-no : goal.returns-clause-no
 returns-clause-no c =
-    let none = false_if_none c.frame_place.result c.is_some.result _ c.is_some.ensures c.frame_place.ensures.none in
+    let none = false_if_none c.frame_slot.result c.is_some.result _ c.is_some.ensures c.frame_slot.ensures.none in
     rw (ap (λ list. list.entries) c.self.view_is) at none

@@ -1,8 +1,0 @@
-use Rattle.std.proofs.Common.{arith}
-use Rattle.held_blocks.proofs.Slots.{length-held}
-use Rattle.held_blocks.proofs.block_store.is_sparse.Goals as goal
-
-pub overflow_add-most : goal.overflow_add-most
-overflow_add-most c =
-    let slots = c.args.store.now.slots in
-    omega (arith, c.requires.count, length-held slots.items, slots.ok, slots.small)
