@@ -9,7 +9,7 @@ use Rattle.std.proofs.lemmas.List.{get_or_default, get_or_append_left, get_or_pu
 use Rattle.std.proofs.lemmas.List.{get_or-set_same, get_or-set_other, length-set, length_push}
 use Rattle.std.proofs.lemmas.List.{set_past}
 use Rattle.held_blocks.specs.declared.label_chains.LabelChains.{LabelChains}
-use Rattle.held_blocks.specs.LabelChains.{no_place, WalksOn, Chained, IsBlank, IsSame, KeepsKeys, SetsEnds}
+use Rattle.held_blocks.specs.LabelChains.{no_place, WalksOn, Chained, IsBlank, IsSame, SetsEnds}
 use Rattle.held_blocks.specs.LabelChains.{first_of, last_of, first_at, last_at, is_live}
 use Rattle.held_blocks.proofs.ChainSteps.{serves_from, serves_less, serves_push, serves_same}
 
@@ -46,14 +46,6 @@ chained_begin old new slots key at r ends walk =
       next_len = ap (λ v. length v.items) ends.next ∙ r.next_len;
       serves = rw (ends.keys, ends.next) serves;
     }
-
--- other ends of one chain change neither the keys, nor the room, nor what is known
-pub keeps_keys : {key from to : ℕ} {old new : LabelChains} → SetsEnds key from to old new → KeepsKeys old new
-keeps_keys {key} e = record {
-  keys = ap (λ v. v.items) e.keys;
-  room = λ n h. rw (e.keys, e.next) h;
-  known = λ q h. elim (cases_eq q key) [ inl same ↦ rw same e.knows | inr ne ↦ rw (e.other q ne) h ];
-}
 
 -- one more place, to which the chain of its key leads
 pub chained_push : {T : Type 0} (old new : LabelChains) (slots : List (Option T)) (x : T) (key : ℕ) → Chained old slots

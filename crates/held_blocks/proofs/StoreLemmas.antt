@@ -8,13 +8,13 @@ use Rattle.held_blocks.specs.declared.labelled_block.LabelledBlock.{LabelledBloc
 use Rattle.held_blocks.specs.declared.label_chains.LabelChains.{LabelChains}
 use Rattle.held_blocks.specs.declared.slot_pages.SlotPages.{SlotPages}
 use Rattle.held_blocks.specs.Label.{is_label, packed}
-use Rattle.held_blocks.specs.LabelChains.{Chained, IsBlank, IsFirstLive, NoneLive, is_live}
+use Rattle.held_blocks.specs.LabelChains.{Chained, IsFirstLive, NoneLive, is_live}
 use Rattle.held_blocks.specs.SlotPages.{HasPage, KeepsSlots, slot_at}
 use Rattle.held_blocks.specs.LabelledBlocks.{IsUnder, IsTheBlock, BeginsAt, HasNone}
 use Rattle.held_blocks.specs.Slots.{held, FindsEntries, IsFound, StandsAt, IsFirstAt, HoldsAt}
 use Rattle.held_blocks.specs.Slots.{KnowsAll, CanMove}
 use Rattle.held_blocks.proofs.LabelLemmas.{same_label}
-use Rattle.held_blocks.proofs.ChainLists.{chained_less, chained_none}
+use Rattle.held_blocks.proofs.ChainLists.{chained_less}
 use Rattle.held_blocks.proofs.Slots.{held_push, held_less, none_held, all_at, below_from_some}
 use Rattle.held_blocks.proofs.Slots.{some_from, still, old_or_new}
 
@@ -168,15 +168,6 @@ module _ {slots : List (Option LabelledBlock)} {chains : LabelChains} {pages : S
     pages = λ i e h. let p = (fits.each i e (rw same at h)).page in rw kept p;
     apart = λ i j e f x y. frames_apart i j e f (rw same at x) (rw same at y);
   }
-
--- no slot
-pub fits_none : {slots : List (Option LabelledBlock)} {chains : LabelChains} {pages : SlotPages}
-    → slots ≡ [] → IsBlank chains → FindsEntries slots chains pages 0
-fits_none {chains = chains} none blank = record {
-  chained = rw none (chained_none chains blank);
-  each = λ i e h. let nothing = rw none at h in cc;
-  count = rw none refl;
-}
 
 -- pages that stay as they are
 pub keeps_slots : {pages : SlotPages} → KeepsSlots pages pages

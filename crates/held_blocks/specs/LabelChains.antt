@@ -1,5 +1,5 @@
 -- What chains through the places of a list say. No public clause cites this module.
-use Rattle.std.specs.Prelude.{ℕ, ◌+◌, ◌≡◌, ◌≢◌, ◌<◌, ◌≤◌, Bool, true, false, List, [], length}
+use Rattle.std.specs.Prelude.{ℕ, ◌+◌, ◌≡◌, ◌≢◌, ◌<◌, ◌≤◌, Bool, true, false, List, [], ◌∷◌, ◌++◌, length}
 use Rattle.std.specs.Prelude.{Option, Some, None, is_some, IsSome, slice_index_or}
 use Rattle.std.specs.Prelude.{vec_len, vec_capacity}
 use Rattle.std.specs.Ordering.{nat_cmp}
@@ -74,6 +74,12 @@ pub record IsSame (old new : LabelChains) : Type 0 where
 pub record KeepsKeys (old new : LabelChains) : Type 0 where
   pub keys : new.keys.items ≡ old.keys.items
   pub room : (n : ℕ) → ChainsHaveRoom old n → ChainsHaveRoom new n
+  pub known : (k : ℕ) → Knows old k → Knows new k
+
+-- one more place has the key; there is room for one less, and as many keys are known
+pub record AddsPlace (key : ℕ) (old new : LabelChains) : Type 0 where
+  pub keys : new.keys.items ≡ old.keys.items ++ key ∷ []
+  pub room : (n : ℕ) → ChainsHaveRoom old (n + 1) → ChainsHaveRoom new n
   pub known : (k : ℕ) → Knows old k → Knows new k
 
 -- the chain of the key begins and ends there, and all else stays

@@ -6,7 +6,7 @@ use Rattle.held_blocks.specs.declared.labelled_block.LabelledBlock.{LabelledBloc
 use Rattle.held_blocks.specs.declared.label_chains.LabelChains.{LabelChains}
 use Rattle.held_blocks.specs.declared.slot_pages.SlotPages.{SlotPages}
 use Rattle.held_blocks.specs.Label.{is_label, packed}
-use Rattle.held_blocks.specs.LabelChains.{Chained, Knows}
+use Rattle.held_blocks.specs.LabelChains.{Chained, ChainsHaveRoom, IsBlank, Knows}
 use Rattle.held_blocks.specs.SlotPages.{HasPage, slot_at}
 
 -- what the slots hold, in order
@@ -49,6 +49,14 @@ pub record FindsEntries (slots : List (Option LabelledBlock)) (chains : LabelCha
 abbrev pub KnowsAll : List (Option LabelledBlock) → LabelChains → Type 0
 KnowsAll slots chains =
     (i : ℕ) (e : LabelledBlock) → StandsAt slots i e → Knows chains (packed e.label)
+
+-- chains through no place, with room for so many, for this key and the labels of all these entries
+pub record AreChainsFor (slots : List (Option LabelledBlock)) (count key : ℕ)
+    (chains : LabelChains) : Type 0 where
+  pub blank : IsBlank chains
+  pub room : ChainsHaveRoom chains count
+  pub knows : Knows chains key
+  pub labels : KnowsAll slots chains
 
 -- the entries of these slots can move to where none stands yet
 pub record CanMove (slots : List (Option LabelledBlock)) (chains : LabelChains)

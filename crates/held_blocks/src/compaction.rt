@@ -1,9 +1,9 @@
 //! The move of all entries into new slots, none of them empty.
 
 ghost use Rattle.std.specs.Prelude.{◌≡◌, ◌+◌, [], ℕ, length, IfOk, OnOk, OnErr};
-ghost use Rattle.held_blocks.specs.LabelChains.{IsBlank, Knows, ChainsHaveRoom};
+ghost use Rattle.held_blocks.specs.LabelChains.{Knows};
 ghost use Rattle.held_blocks.specs.SlotPages.{HasSpare};
-ghost use Rattle.held_blocks.specs.Slots.{held, KnowsAll, CanMove};
+ghost use Rattle.held_blocks.specs.Slots.{held, AreChainsFor, CanMove};
 ghost use Rattle.held_blocks.specs.BlockStore.{entries_of, HasRoom, IsReadyFor};
 
 use crate::block_store::BlockStore;
@@ -43,10 +43,7 @@ impl BlockStore {
 
     // Chains through no place, for the labels of all entries and one more.
     fn needed_chains(&self, key: u128, alloc: Global) -> Result<LabelChains, AllocError>
-        ensures blank { IfOk result IsBlank }
-        ensures room { IfOk result (λ chains. ChainsHaveRoom chains (self.now.live + 1)) }
-        ensures knows { IfOk result (λ chains. Knows chains key) }
-        ensures labels { IfOk result (KnowsAll self.now.slots.items) }
+        ensures { IfOk result (AreChainsFor self.now.slots.items (self.now.live + 1) key) }
     {
         let mut chains = LabelChains::new(alloc);
         chains.make_ready(self.live + 1, key)?;

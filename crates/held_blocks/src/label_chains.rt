@@ -1,11 +1,11 @@
 //! Chains through the places of a list: from each place to a later one with the same key.
 //! A step of a chain passes no live place with its key, so a place that dies changes no chain.
 
-ghost use Rattle.std.specs.Prelude.{◌≡◌, ◌<◌, ◌+◌, ◌++◌, ◌∷◌, [], true, ℕ, min, length};
+ghost use Rattle.std.specs.Prelude.{◌≡◌, ◌<◌, ◌++◌, ◌∷◌, [], true, min, length};
 ghost use Rattle.std.specs.Prelude.{IfSome, IfNone, OnOk, Some, slice_set, vec_len, vec_capacity};
 ghost use Rattle.held_blocks.specs.LabelChains.{Chained, ChainsHaveRoom, Knows, IsFirstLive, NoneLive};
-ghost use Rattle.held_blocks.specs.LabelChains.{IsBlank, IsSame, KeepsKeys, SetsEnds, WalksOn};
-ghost use Rattle.held_blocks.specs.LabelChains.{is_live, first_at, last_at};
+ghost use Rattle.held_blocks.specs.LabelChains.{AddsPlace, IsBlank, IsSame, KeepsKeys, SetsEnds};
+ghost use Rattle.held_blocks.specs.LabelChains.{WalksOn, is_live, first_at, last_at};
 
 use std::alloc::{AllocError, Global};
 use std::collections::BTreeMap;
@@ -114,9 +114,7 @@ impl LabelChains {
         requires room { ChainsHaveRoom self.old 1 }
         requires knows { Knows self.old key }
         ensures chained { (x : T) → Chained self.new (slots.now ++ Some x ∷ []) }
-        ensures keys { self.new.keys.items ≡ self.old.keys.items ++ key ∷ [] }
-        ensures room { (n : ℕ) → ChainsHaveRoom self.old (n + 1) → ChainsHaveRoom self.new n }
-        ensures known { (q : ℕ) → Knows self.old q → Knows self.new q }
+        ensures adds { AddsPlace key self.old self.new }
     {
         let last = self.end_at(key, slots.len());
         lead_on(&mut self.next, last, slots.len());

@@ -17,7 +17,7 @@ invariant_of-self c =
     let chains = c.put_last in
     let table = c.put_slot.ensures in
     let chained : Chained chains.new.self (old.slots.items ++ Some x ∷ []) = rw c.as_slice.ensures.value at (chains.ensures.chained x) in
-    let keys = rw k.key at chains.ensures.keys in
+    let keys = rw k.key at chains.ensures.adds.keys in
     let frame = c.frame.ensures in
     let here = rw frame at table.here ∙ c.len.ensures ∙ old.slots.ok.0 in
     record { finds = fits_push old.finds x k.lawful c.push_reserved.ensures.items chained keys (table.pages.pages x.block.frame c.requires.page) here table.pages.pages (rw frame at table.others) c.requires.apart }
@@ -28,7 +28,7 @@ returns-clause-room c =
     let chains = c.put_last.ensures in
     let table = c.put_slot.ensures in
     record {
-      room = λ n h. (omega (arith, p.len, p.capacity, h.0), chains.room n h.1);
-      known = chains.known;
+      room = λ n h. (omega (arith, p.len, p.capacity, h.0), chains.adds.room n h.1);
+      known = chains.adds.known;
       pages = table.pages;
     }
