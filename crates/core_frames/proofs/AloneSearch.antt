@@ -8,11 +8,9 @@ use Rattle.std.proofs.Math.ListN.{length-set}
 use Rattle.std.proofs.lemmas.List.{set-set, set-get_or, get_or-set_same, get_or-set_other, get_or_past}
 use Rattle.frame_words.specs.Words.{entry_word, free_in, flag_in, rest_in, local_word}
 use Rattle.frame_words.proofs.WordLemmas.{rest_in-local_none, rest_in-zero}
-use Rattle.frame_model.specs.declared.block.FrameBlock.{FrameBlock}
 use Rattle.frame_model.specs.declared.key.Key.{Key}
 use Rattle.frame_model.specs.declared.view.View.{View}
 use Rattle.frame_core.specs.Key.{tree_count}
-use Rattle.frame_core.specs.Block.{IsBlock}
 use Rattle.frame_core.specs.Words.{tree_place, local_place, word_count, tree_word_of, tree_free_of, reserved_of, rest_of, AreInRange}
 use Rattle.frame_core.specs.Steps.{Kind, place, reserve, unreserve, swap_local}
 use Rattle.frame_core.specs.Moves.{Changes, Exchanges}
@@ -20,14 +18,13 @@ use Rattle.frame_core.specs.View.{IsIdle}
 use Rattle.frame_model.proofs.Words.{tree-lt-local}
 use Rattle.frame_model.proofs.Steps.Shared.{free_is, flag_is, tree_free_is, reserved_is, rest_of_is}
 use Rattle.frame_model.specs.Steps.{words_after}
-use Rattle.low_frames.specs.Alone.{Turns, FindsOf, WordsTake, HasNoneOfTree}
+use Rattle.low_frames.specs.Alone.{Turns, FindsOf, HasNoneOfTree}
 use Rattle.low_frames.proofs.AloneLemmas.{if_known, at_known, IsFirstTry, IsSeen, exchange_made, made_first, then_found}
 use Rattle.low_frames.proofs.RoomLemmas.{FitsAlone, range_alone}
-use Rattle.core_frames.specs.Search.{IsBlockOf}
 use Rattle.core_frames.specs.Alone.{SameFrames, KeepsFrames, IsPassedBy, IsReserved, WasTried, WereTried, IsDrainedOf, IsDrained}
 use Rattle.core_frames.specs.Alone.{FindsNoBlock}
 use Rattle.core_frames.proofs.KeptFrames.{IsUpper, upper_tree, upper_local, kept_after, same_frames, same_held, frames_then, turns_then}
-use Rattle.core_frames.proofs.KeptFrames.{turns_as, covered_inside, keeps_then, keeps_found, keeps_then_taken}
+use Rattle.core_frames.proofs.KeptFrames.{turns_as, covered_inside}
 use Rattle.core_frames.proofs.Exhausted.{exhausted}
 
 -- where nobody else steps, no try is lost
@@ -53,11 +50,6 @@ swap_changes key kind A (Some ws) new h = h.1
 tree_word_is : (key : Key) (ws : List ℕ) (t : ℕ) → tree_word_of key ws t ≡ get_or ws (tree_place key t) 0
 unfolding tree_word_of
 tree_word_is key ws t = refl
-
--- a tree word that was seen
-seen_there : (key mid was : Key) (ws : List ℕ) (tree seen : ℕ) → key ≡ mid → mid ≡ was → slice_index ws (tree_place mid tree) ≡ seen
-    → get_or ws (tree_place was tree) 0 ≡ seen
-seen_there key mid was ws tree seen k j e = ap (λ (i : Key). get_or ws (tree_place i tree) 0) (sym j) ∙ e
 
 -- a reservation at the first try
 pub reserved_first : (key mid was : Key) (tree seen free : ℕ) (made : Bool) (old now new : Option (List ℕ)) → key ≡ mid → mid ≡ was
@@ -184,11 +176,6 @@ tried_more key now E order from i least most old mid new k bounds below here =
     (cases_lt t i))
     below here
 
-pub tried_none : (key : Key) (E : Type 0) (order from : ℕ) (old : Option (List ℕ))
-    → FindsOf (λ ws. E → WereTried key order from from ws) old old
-tried_none key E order from None = tt
-tried_none key E order from (Some ws) = (refl, λ e t l h. absurd (omega arith))
-
 -- as far as was tried
 pub tried_as_far : (key : Key) (E : Type 0) (order from i to : ℕ) (old new : Option (List ℕ)) → to ≤ i
     → FindsOf (λ ws. E → WereTried key order from i ws) old new → FindsOf (λ ws. E → WereTried key order from to ws) old new
@@ -215,10 +202,6 @@ tried_all key mid E order start trees old one two k all high low =
 pub record IsDrainedBelow (key : Key) (core : ℕ) (old new : List ℕ) : Type 0 where
   pub frames : SameFrames key old new
   pub below : (k : ℕ) → k < core → k < key.cores → rest_of key new k ≡ None
-
-pub drained_none : (key : Key) (old : Option (List ℕ)) → Turns (IsDrainedBelow key 0) old old
-drained_none key None = tt
-drained_none key (Some ws) = (ws, (refl, record { frames = same_frames key ws; below = λ k h l. absurd (omega arith) }))
 
 pub drained_more : (key now : Key) (core : ℕ) (old mid new : Option (List ℕ)) → now ≡ key → Turns (IsDrainedBelow key core) old mid
     → Turns (IsDrainedOf now core) mid new → Turns (IsDrainedBelow key (core + 1)) old new
@@ -323,17 +306,6 @@ drained_then key now core kind tree (Some ws) mid new k h at a b =
         },
       ),
     )
-
--- a pass that found no block leaves the frames as they were
-pub kept_pass : (key : Key) (P : List ℕ → Type 0) (old one two : Option (List ℕ)) → KeepsFrames key old one → FindsOf P one two
-    → KeepsFrames key old two
-kept_pass key P old one two a f = keeps_then key old one two a (keeps_found key P one two f)
-
--- a block that a pass took
-pub kept_taken : (key mid : Key) (order : ℕ) (b : FrameBlock) (old one two : Option (List ℕ)) → mid ≡ key → IsBlockOf mid order b
-    → KeepsFrames key old one → WordsTake mid one two b → WordsTake key old two b
-kept_taken key mid order b old one two k is a h =
-    keeps_then_taken key old one two b (subst (λ i. IsBlock i b) k is.is_block) a (subst (λ i. WordsTake i one two b) k h)
 
 pub drained_keeps : (key now : Key) (old new : Option (List ℕ)) → now ≡ key → Turns (IsDrained now) old new → KeepsFrames key old new
 drained_keeps key now old new k a =

@@ -200,12 +200,6 @@ pub put_down_idle : (v w : View) → IsIdle v → HasPutDown v w → IsAsBefore 
 put_down_idle v w idle e =
     settled v w None v.paid None v.reserving v.lent v.lent e (sym idle.paid) (sym idle.reserving) refl
 
--- a view that is left as it was, and then pays
-pub then_paid : (v u w : View) (tree n : ℕ) → IsAsBefore v u → HasPaid tree n u w → HasPaid tree n v w
-then_paid v u w tree n e f =
-    changed v u w v.paid (counted tree n) (counted tree n) v.reserving u.reserving v.reserving v.lent u.lent v.lent w.moves w.lost e f refl
-    (ap (λ x. x.reserving) e) (ap (λ x. x.lent) e)
-
 -- an idle view paid, and refunded
 pub refunded_idle : (v u w : View) (tree n : ℕ) → IsIdle v → HasPaid tree n v u → HasRefunded u w → IsAsBefore v w
 refunded_idle v u w tree n idle e f =

@@ -111,16 +111,6 @@ unfolding holders
 free_beside key a d b is apart = λ x c.
     omega (arith, is.keeps (λ e. covers e x), apart.disjoint x, sum_by-cons (λ e. covers e x) b (kept_by (core_of d)), c)
 
--- another core that keeps the same, and other room, make no difference
-pub same_desk : (a : Allocator) (d : Desk) (after : LabelledList) (c : Core) → IsDeskOf a d
-    → after.entries ≡ list_of d → IsCoreOf a c → kept_by c ≡ kept_by (core_of d)
-    → IsDeskOf a (record { core = c; list = after })
-same_desk a d after c is same core kept = record {
-  is_core = core;
-  keeps = λ f. rw (same, kept) (is.keeps f);
-  apart = rw same is.apart;
-}
-
 -- a block that is lifted and then given is given
 pub given_ok : {B : Type 0} (in_b : B → FrameBlock) (kind : LabelledBlock → Type 0)
     (old new : List LabelledBlock) (b : B) (answer : ℕ × ℕ)

@@ -28,10 +28,6 @@ pub if_some : {X : Type 0} (o : Option X) (P Q : X → Type 0) → IfSome o P �
 if_some None P Q h f = tt
 if_some (Some x) P Q h f = f x h
 
-pub both_some : {X : Type 0} (o : Option X) (P Q R : X → Type 0) → IfSome o P → IfSome o Q → ((x : X) → P x → Q x → R x) → IfSome o R
-both_some None P Q R h k f = tt
-both_some (Some x) P Q R h k f = f x h k
-
 pub turns_then : (R S T : List ℕ → List ℕ → Type 0) (old mid new : Option (List ℕ))
     → ((ws us vs : List ℕ) → R ws us → S us vs → T ws vs) → Turns R old mid → Turns S mid new → Turns T old new
 turns_then R S T None mid new f a b = tt

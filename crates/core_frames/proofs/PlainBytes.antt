@@ -1,5 +1,5 @@
 -- What is read off a list of bytes when one of them is written.
-use Rattle.std.proofs.Common.{◌≡◌, ◌≢◌, ◌⊎◌, ⊎_elim, inl, inr, ℕ, zero, suc, ◌+◌, ◌-◌, ◌<◌, ◌≤◌, List, [], ◌∷◌, ◌++◌, length, get_or, set}
+use Rattle.std.proofs.Common.{◌≡◌, ◌⊎◌, ⊎_elim, inl, inr, ℕ, zero, suc, ◌+◌, ◌-◌, ◌<◌, ◌≤◌, List, [], ◌∷◌, ◌++◌, length, get_or, set}
 use Rattle.std.proofs.Common.{refl, ap, sym, subst, ◌∙◌, append_assoc, arith}
 use Rattle.std.specs.Prelude.{true, false, nat_le, nat_lt}
 use Rattle.std.specs.List.{sum_by, Contains}
@@ -328,73 +328,7 @@ pub kept_none : (bytes : List ℕ) → ((i : ℕ) → i < length bytes → get_o
 unfolding kept_of
 kept_none bytes all = none_named first_kept (omega arith) bytes all
 
--- No block is named twice.
-
--- no block of the list stands in it twice
-abbrev pub IsEachOnce : List FrameBlock → Type 0
-IsEachOnce [] = Unit {0}
-IsEachOnce (b ∷ bs) = ((d : FrameBlock) → Contains bs d → d ≢ b) × IsEachOnce bs
-
-contains_none : (d : FrameBlock) → Contains [] d → ⊥
-contains_none d (k, h, e) = omega arith
-
-contains_one : (a b : FrameBlock) → Contains (a ∷ []) b → a ≡ b
-contains_one a b (zero, h, e) = e
-contains_one a b (suc k, h, e) = absurd (omega arith)
-
-begun_frame : (first frame byte : ℕ) (d : FrameBlock) → Contains (begun first frame byte) d → d.frame ≡ frame
-begun_frame first frame byte d has =
-    ⊎_elim
-    (λ (e : begun first frame byte ≡ []). absurd (contains_none d (subst (λ (xs : List FrameBlock). Contains xs d) e has)))
-    (λ (s : (first ≤ byte) × (byte - first ≤ 9) × (begun first frame byte ≡ block frame (byte - first) ∷ [])).
-    let it : block frame (byte - first) ≡ d =
-    contains_one (block frame (byte - first)) d (subst (λ (xs : List FrameBlock). Contains xs d) s.2 has) in
-    sym (ap (λ (c : FrameBlock). c.frame) it))
-    (begun_cases first frame byte)
-
--- what is gathered from a place on begins there or behind
-gathered_from : (first from : ℕ) (bytes : List ℕ) (d : FrameBlock) → Contains (gathered (begun first) from bytes) d → from ≤ d.frame
-gathered_from first from bytes d has =
-    let t = Contains-gathered (begun first) from bytes d has in
-    omega (arith, begun_frame first (from + t.0) (get_or bytes t.0 0) d t.2)
-
-once_gathered : (first from : ℕ) (bytes : List ℕ) → IsEachOnce (gathered (begun first) from bytes)
-once_gathered first from [] = tt
-once_gathered first from (byte ∷ bytes) =
-    let rest : List FrameBlock = gathered (begun first) (from + 1) bytes in
-    ⊎_elim
-    (λ (e : begun first from byte ≡ []). subst (λ (xs : List FrameBlock). IsEachOnce (xs ++ rest)) (sym e)
-    (once_gathered first (from + 1) bytes))
-    (λ (s : (first ≤ byte) × (byte - first ≤ 9) × (begun first from byte ≡ block from (byte - first) ∷ [])).
-    subst (λ (xs : List FrameBlock). IsEachOnce (xs ++ rest)) (sym s.2) (
-      (λ d has e. omega (arith, gathered_from first (from + 1) bytes d has, ap (λ (c : FrameBlock). c.frame) e)),
-      once_gathered first (from + 1) bytes,
-    ))
-    (begun_cases first from byte)
-
-once_both : (bs cs : List FrameBlock) → IsEachOnce bs → IsEachOnce cs
-    → ((d : FrameBlock) → Contains bs d → Contains cs d → ⊥) → IsEachOnce (bs ++ cs)
-once_both [] cs one two apart = two
-once_both (b ∷ bs) cs one two apart = (
-  (λ d has e. ⊎_elim (λ l. one.0 d l e) (λ (r : Contains cs d). apart b (0, omega arith, refl)
-      (subst (λ (x : FrameBlock). Contains cs x) e r)) (Contains-append_cases bs cs d has)),
-  once_both bs cs one.1 two (λ d l r. apart d (suc l.0, omega (arith, l.1), l.2) r),
-)
-
 pub kept_byte : (bytes : List ℕ) (b : FrameBlock) → Contains (kept_of bytes) b → (b.frame < length bytes) × (b.order ≤ 9)
     × (get_or bytes b.frame 0 ≡ first_kept + b.order)
 unfolding kept_of
 kept_byte bytes b has = byte_of first_kept bytes b has
-
-outs_once : (bytes : List ℕ) → IsEachOnce (out_of bytes)
-unfolding out_of
-outs_once bytes = once_gathered first_out 0 bytes
-
-kepts_once : (bytes : List ℕ) → IsEachOnce (kept_of bytes)
-unfolding kept_of
-kepts_once bytes = once_gathered first_kept 0 bytes
-
--- a block is named once
-pub named_once : (bytes : List ℕ) → IsEachOnce (out_of bytes ++ kept_of bytes)
-named_once bytes = once_both (out_of bytes) (kept_of bytes) (outs_once bytes) (kepts_once bytes)
-    (λ d l r. omega (arith, out_byte bytes d l, kept_byte bytes d r))

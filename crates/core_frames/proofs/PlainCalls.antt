@@ -303,26 +303,6 @@ pub ranged : {m : Mover Company FrameBlock} {ws bytes : List ℕ} {habits : List
 ranged {m} {ws} {bytes} {habits} {least} g rs ss e agree =
     subst (λ (x : List (ℕ × ℕ)). AgreeWith (sealed_key g x) m ws bytes habits least) e agree
 
--- under equal words
-pub reread : {key : Key} {m : Mover Company FrameBlock} {bytes : List ℕ} {habits : List Habit} {least : ℕ} (ws us : List ℕ)
-    → ◌≡◌ {A = Option (List ℕ)} (Some us) (Some ws) → AgreeWith key m ws bytes habits least → AgreeWith key m us bytes habits least
-reread {key} {m} {bytes} {habits} {least} ws us e agree =
-    let same : ws ≡ us = cc in
-    subst (λ (l : List ℕ). AgreeWith key m l bytes habits least) same agree
-
--- an opening under the geometry of its image
-pub begins_as : {m : Mover Company FrameBlock} (g h : Geometry) (rs : List (ℕ × ℕ)) (ws us : List ℕ) → g ≡ h → m.words ≡ Some us
-    → Begins (plain_key g false) ws m → Begins (unsealed (sealed_key h rs)) us m
-begins_as {m} g h rs ws us e known begins =
-    subst (λ (x : Geometry). Begins (unsealed (sealed_key x rs)) us m) e
-    (record { key = begins.key; view = begins.view; words = known; alone = begins.alone })
-
-pub opens_as : (key : Key) (ws us : List ℕ) → ◌≡◌ {A = Option (List ℕ)} (Some us) (Some ws)
-    → IsSealedOpening key ws → IsSealedOpening key us
-opens_as key ws us e opens =
-    let same : ws ≡ us = cc in
-    subst (IsSealedOpening key) same opens
-
 -- the state that the bytes name
 abbrev pub state_of : Geometry → List (ℕ × ℕ) → List ℕ → PlainState
 state_of g rs bytes = record { geometry = g; ranges = rs; out = out_of bytes; kept = kept_of bytes }

@@ -1,6 +1,6 @@
 -- What the parts of the search bring, step by step: what no step changes, counts, views and frames at once.
 use Rattle.std.proofs.Common.{◌≡◌, ℕ, ◌+◌, ◌*◌, ◌^◌, ◌<◌, ◌≤◌, List, Option, refl, ap, sym, subst, ◌∙◌, arith}
-use Rattle.std.specs.Prelude.{ℤ, Bool, false, ◌||◌, nat_lt, IfSome, Some, None, slice_index}
+use Rattle.std.specs.Prelude.{ℤ, Bool, IfSome, Some, None, slice_index}
 use Rattle.frame_model.specs.declared.block.FrameBlock.{FrameBlock}
 use Rattle.frame_model.specs.declared.key.Key.{Key}
 use Rattle.frame_model.specs.declared.place.Place.{Place}
@@ -13,7 +13,7 @@ use Rattle.frame_words.specs.Words.{rest_in}
 use Rattle.frame_core.specs.Words.{local_place}
 use Rattle.frame_core.specs.Steps.{Kind, place, swap_local}
 use Rattle.frame_core.specs.Moves.{place_of, Changes}
-use Rattle.frame_core.specs.Mover.{Mover, LiesInside, Keeps, Clears, Ticks, Loads, Tries, Makes, Swaps}
+use Rattle.frame_core.specs.Mover.{Mover, LiesInside, Keeps, Ticks, Loads, Tries, Makes, Swaps}
 use Rattle.low_frames.specs.Bounds.{attempt}
 use Rattle.low_frames.specs.Takes.{Counts, IsAsBefore, IsSure, StaysSure}
 use Rattle.low_frames.specs.Alone.{FindsOf, WordsTake, NoneIsFree}
@@ -25,7 +25,7 @@ use Rattle.low_frames.proofs.Sure.{sure_none, sure_both, sure_load, sure_make}
 use Rattle.core_frames.specs.Bounds.{most_to_drain, most_in_pass}
 use Rattle.core_frames.specs.Alone.{SameFrames, KeepsFrames, IsPassedBy, IsDrained}
 use Rattle.core_frames.specs.Search.{IsBlockOf, HasLentOne, HasReserved}
-use Rattle.core_frames.specs.Searches.{GivesBy, IsKnown, HasMade, Brings, Misses, Searches, TriesTree, cleared, MayRefund, MaySearch}
+use Rattle.core_frames.specs.Searches.{GivesBy, IsKnown, HasMade, Brings, Misses, Searches, TriesTree, MayRefund, MaySearch}
 use Rattle.core_frames.proofs.KeptFrames.{if_some, if_none, IsUpper, upper_local, keeps_load, keeps_then, keeps_found, keeps_change}
 use Rattle.core_frames.proofs.KeptFrames.{keeps_exchange, keeps_then_taken, taken_then_keeps, given_then_keeps}
 use Rattle.core_frames.proofs.SureSteps.{sure_try, sure_swap}
@@ -339,33 +339,6 @@ may_search {T} {H} {a} {b} {core} {order} may keeps before = record {
   order = may.order;
   idle = idle_still a.view b.view may.idle before;
 }
-
--- After what was known of losses was forgotten.
-
-module _ {T H : Type 0} {exact : ℕ → Type 0} {a b c : Mover T H} (e : Clears a b) where
-  pub cleared_counts : (n : ℕ) → Counts exact n b c → Counts exact n (cleared a) c
-  cleared_counts n f = record {
-    moves = subst (λ (v : View). c.view.moves ≤ v.moves + n) e.view f.moves;
-    lost = subst (λ (v : View). c.view.lost ≤ v.lost + n) e.view f.lost;
-    rises = subst (λ (v : View). exact (v.moves + n) → v.moves ≤ c.view.moves) e.view f.rises;
-    risen = subst (λ (v : View). exact (v.lost + n) → v.lost ≤ c.view.lost) e.view f.risen;
-    missed = subst (λ (v : View). exact (v.lost + n) → c.missed ≡ (false || nat_lt v.lost c.view.lost)) e.view
-        (subst (λ x. exact (b.view.lost + n) → c.missed ≡ (x || nat_lt b.view.lost c.view.lost)) e.missed f.missed);
-  }
-
-  pub cleared_misses : {least n : ℕ} {R : Option (List ℕ) → Option (List ℕ) → Type 0}
-      → Misses exact least n R b c → Misses exact least n R a c
-  cleared_misses {least} {n} {R} f = record {
-    view = subst (λ v. IsAsBefore v c.view) e.view f.view;
-    made = subst (λ (v : View). exact (v.moves + n) → v.moves + least ≤ c.view.moves) e.view f.made;
-    alone = λ alone. subst (λ w. R w c.words) e.words (f.alone (e.keeps.stays_alone alone));
-  }
-
-pub cleared_out : {T H : Type 0} {a b c : Mover T H} {block_of : H → FrameBlock} {order : ℕ} {held : H} → Clears a b
-    → TakesOut block_of (IsBlockOf b.key order) HasLentOne held b c → TakesOut block_of (IsBlockOf a.key order) HasLentOne held a c
-cleared_out {T} {H} {a} {b} {c} e out =
-    out_then e.keeps (subst (IsAsBefore a.view) (sym e.view) refl)
-    (λ alone. subst (KeepsFrames a.key a.words) (sym e.words) (kept.keeps_none a.key a.words)) out
 
 -- A give, and what comes after it.
 

@@ -286,11 +286,6 @@ none_lost key b None new low e = tt
 none_lost key b (Some ws) new low e =
     (ws, (e, record { frames = λ x h. refl; flags = λ c h. omega (arith, not_whole c b low) }))
 
--- nothing was filled yet
-pub none_filled : (key : Key) (old : Option (List ℕ)) → Turns (KeepsFlags key) old old
-none_filled key None = tt
-none_filled key (Some ws) = (ws, (refl, record { frames = λ x h. refl; flags = λ c h. refl }))
-
 -- a child as a whole that was taken in is broken up
 pub then_lost : (key now : Key) (b : FrameBlock) (c : ℕ) (old mid new : Option (List ℕ)) → now ≡ key → mid ≡ old → b ≡ block (512 * c) 9
     → Turns (LosesFlag now (block (512 * c) 9)) mid new → Turns (LosesFlag key b) old new

@@ -1,16 +1,16 @@
 -- Who is sure of the words loses no exchange on a word that is still as it was seen.
-use Rattle.std.proofs.Common.{◌≡◌, ℕ, Option, Some, refl, ap, sym, subst, ◌∙◌}
+use Rattle.std.proofs.Common.{◌≡◌, ℕ, Option, Some, refl, ap, sym, subst}
 use Rattle.std.specs.Prelude.{Bool, true, false}
 use Rattle.frame_model.specs.declared.key.Key.{Key}
 use Rattle.frame_model.specs.declared.place.Place.{Place}
 use Rattle.frame_model.specs.Steps.{words_after}
 use Rattle.frame_core.specs.Steps.{Kind, place, swap_local}
 use Rattle.frame_core.specs.Moves.{place_of}
-use Rattle.frame_core.specs.Mover.{Mover, Clears, Loads, Tries, Swaps}
+use Rattle.frame_core.specs.Mover.{Mover, Loads, Tries, Swaps}
 use Rattle.low_frames.specs.Takes.{IsSure, StaysSure}
 use Rattle.low_frames.proofs.AloneLemmas.{at_known}
 use Rattle.low_frames.proofs.Sure.{loses_both, sure_made}
-use Rattle.core_frames.specs.Searches.{IsKnown, cleared}
+use Rattle.core_frames.specs.Searches.{IsKnown}
 
 module _ {T H : Type 0} where
   -- a word that was loaded was read
@@ -48,14 +48,3 @@ module _ {T H : Type 0} where
         (m.keeps.stays_alone s.0, (words_after a.key (swap_local core put) s.1.0, here.1));
     loses_none = λ s. record { missed = m.missed; lost = ap (λ v. v.lost) m.view.2 };
   }
-
-  -- after what was known of losses was forgotten
-  pub sure_cleared : {a b c : Mover T H} → Clears a b → StaysSure b c → StaysSure (cleared a) c
-  sure_cleared {a} {b} {c} e f =
-      let then : IsSure (cleared a) → IsSure b = (λ s. (e.keeps.stays_alone s.0, (s.1.0, e.words ∙ s.1.1))) in
-      record {
-        is_sure = λ s. f.is_sure (then s);
-        loses_none = λ s.
-            let none = f.loses_none (then s) in
-            record { missed = none.missed ∙ e.missed; lost = none.lost ∙ ap (λ v. v.lost) e.view };
-      }
