@@ -13,6 +13,8 @@ pub mod SearchSteps
 pub mod SplitLemmas
 pub mod SplitAlone
 pub mod RangeLemmas
+mod EntriesRead
+mod FreePlain
 mod CoreLemmas
 mod LeftLemmas
 mod DeskLemmas

@@ -19,7 +19,7 @@ bit_same : (key : Key) (ws : List ℕ) (x : ℕ) → bit_of (unsealed key) ws x 
 unfolding bit_of bit_word_of bits_place
 bit_same key ws x = refl
 
-held_same : (key : Key) (ws : List ℕ) (x : ℕ) → held_at (unsealed key) ws x ≡ held_at key ws x
+pub held_same : (key : Key) (ws : List ℕ) (x : ℕ) → held_at (unsealed key) ws x ≡ held_at key ws x
 unfolding held_at bit_of bit_word_of bits_place
 held_same key ws x = refl
 

@@ -15,3 +15,4 @@ pub mod Habits
 pub mod Left
 pub mod Refusals
 pub mod WrongAnswers
+pub mod FreeCounts

@@ -1,18 +1,19 @@
 //! An allocator for one thread: the moves over its words, which nobody else steps, and a byte a frame
 //! for the block that begins there.
 
-ghost use Rattle.std.specs.Prelude.{◌≡◌, ◌⊎◌, ◌↔◌, ◌<◌, [], ◌∷◌, OnOk, OnErr, IfOk, IfErr, IfSome, IfNone};
+ghost use Rattle.std.specs.Prelude.{◌≡◌, ◌+◌, ◌⊎◌, ◌↔◌, ◌<◌, [], ◌∷◌, OnOk, OnErr, IfOk, IfErr, IfSome, IfNone};
 ghost use Rattle.std.specs.List.{Contains};
 ghost use Rattle.std.specs.List.Sorted.{IsPermutation};
 ghost use Rattle.frame_core.specs.Block.{block as block_at};
 ghost use Rattle.frame_core.specs.Holding.{IsHolding};
-ghost use Rattle.frame_core.specs.Key.{AreRanges, sealed_key};
+ghost use Rattle.frame_core.specs.Key.{AreRanges, sealed_key, frame_count};
 ghost use Rattle.frame_core.specs.Laws.{AddsUp};
 ghost use Rattle.frame_core.specs.Openings.{IsSealedOpening};
 ghost use Rattle.frame_core.specs.QuietTake.{QuietTake};
 ghost use Rattle.frame_core.specs.Stops.{unsealed};
 ghost use Rattle.plain_moves.specs.Plain.{Begins};
 ghost use Rattle.plain_moves.specs.PlainState.{words_by, IsByItself};
+ghost use Rattle.core_frames.specs.FreeCounts.{frames_together, clear_children};
 ghost use Rattle.core_frames.specs.PlainAgree.{AreOfCores};
 ghost use Rattle.core_frames.specs.Ranges.{MayHoldBack, IsUnopenedFor};
 ghost use Rattle.core_frames.specs.PlainState.{memory_by, held_by, HoldsExactly, Splits};
@@ -20,6 +21,7 @@ ghost use Rattle.core_frames.specs.PlainState.{memory_by, held_by, HoldsExactly,
 mod starts;
 
 use super::drain::drain;
+use super::free_counts::free_counts_by;
 use super::gives::give_by;
 use super::habit::Habit;
 use super::ranges::may_hold_back;
@@ -223,6 +225,22 @@ impl PlainAllocator {
         self.starts[lower.frame() as usize] = byte;
         self.starts[upper.frame() as usize] = byte;
         Ok((lower, upper))
+    }
+
+    /// How many frames are free. No memory is needed.
+    pub fn free_frames(&mut self) -> u32
+        ensures exact { result + frames_together (held_by self.old) ≡ frame_count (memory_by self.old) }
+        ensures unchanged { self.new ≡ self.old }
+    {
+        free_counts_by(&mut self.moves).frames
+    }
+
+    /// How many huge frames are free: children of which no frame is held. No memory is needed.
+    pub fn free_huge(&mut self) -> u32
+        ensures exact { result ≡ clear_children (memory_by self.old) (held_by self.old) }
+        ensures unchanged { self.new ≡ self.old }
+    {
+        free_counts_by(&mut self.moves).huge
     }
 
     /// The image of the memory. Blocks that are still out count as held. What rests with a core rests
