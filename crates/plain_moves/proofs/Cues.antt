@@ -125,13 +125,13 @@ past_one : (key : Key) (begun : ℕ) (now : View) (i : ℕ) (cues : List Cue) (h
     → ShowsStop key begun now i cues has_stopped ws → ShowsStop key begun now (suc i) cues has_stopped ws
 past_one key begun now i cues has_stopped ws not s =
     let back : (k : ℕ) (cue : Cue) → slice_get cues k ≡ Some cue → cue.what ≡ Stop → ComesBefore (now.moves - begun) (suc i) k cue
-        → ComesBefore (now.moves - begun) i k cue = λ k cue get stops is. ⊎_elim
-        (λ lt. inl lt)
-        (λ (same : (cue.at ≡ now.moves - begun) × (k < suc i)). ⊎_elim
-        (λ (e : k ≡ i). absurd (not cue (subst (λ (j : ℕ). slice_get cues j ≡ Some cue) e get) stops same.0))
-        (λ ne. inr (same.0, omega (arith, same.1, ne)))
-        (cases_eq k i))
-        is in
+    → ComesBefore (now.moves - begun) i k cue = λ k cue get stops is. ⊎_elim
+    (λ lt. inl lt)
+    (λ (same : (cue.at ≡ now.moves - begun) × (k < suc i)). ⊎_elim
+    (λ (e : k ≡ i). absurd (not cue (subst (λ (j : ℕ). slice_get cues j ≡ Some cue) e get) stops same.0))
+    (λ ne. inr (same.0, omega (arith, same.1, ne)))
+    (cases_eq k i))
+    is in
     record {
       counted = s.counted;
       stopped = λ yes. let stop = s.stopped yes in record {
@@ -161,13 +161,13 @@ pub stepped : (key : Key) (begun : ℕ) (now next : View) (cues : List Cue) (has
     → ShowsStop key begun now (length cues) cues has_stopped ws → ShowsStop key begun next 0 cues has_stopped ws
 stepped key begun now next cues has_stopped ws limit ticks step s =
     let back : (k : ℕ) (cue : Cue) → slice_get cues k ≡ Some cue → ComesBefore (next.moves - begun) 0 k cue
-        → ComesBefore (now.moves - begun) (length cues) k cue = λ k cue get is. ⊎_elim
-        (λ (lt : cue.at < next.moves - begun). ⊎_elim
-        (λ (e : cue.at ≡ now.moves - begun). inr (e, slice_get_within cues k cue get))
-        (λ ne. inl (omega (arith, lt, ne, ticks)))
-        (cases_eq cue.at (now.moves - begun)))
-        (λ (none : (cue.at ≡ next.moves - begun) × (k < 0)). absurd (omega (arith, none.1)))
-        is in
+    → ComesBefore (now.moves - begun) (length cues) k cue = λ k cue get is. ⊎_elim
+    (λ (lt : cue.at < next.moves - begun). ⊎_elim
+    (λ (e : cue.at ≡ now.moves - begun). inr (e, slice_get_within cues k cue get))
+    (λ ne. inl (omega (arith, lt, ne, ticks)))
+    (cases_eq cue.at (now.moves - begun)))
+    (λ (none : (cue.at ≡ next.moves - begun) × (k < 0)). absurd (omega (arith, none.1)))
+    is in
     record {
       counted = omega (arith, s.counted, ticks, limit);
       stopped = λ yes. let stop = s.stopped yes in record {

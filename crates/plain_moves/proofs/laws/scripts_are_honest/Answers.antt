@@ -8,11 +8,16 @@ use Rattle.plain_moves.proofs.laws.scripts_are_honest.Goals as goal
 
 pub returns-clause-stopped : goal.returns-clause-stopped
 returns-clause-stopped c = λ m ws is exact.
-    ∥∥₁_map is (λ (s : StopsAt (key_by (plain_by m)) m.stage.begun (view_by (plain_by m)) 0 (cues_by m) ws).
-    (s.cue, ((s.place, s.is_cue), (
-      ⊎_elim (λ lt. lt) (λ none. absurd (omega (arith, none.1))) (s.reached exact),
-      s.stops,
-    ))))
+    ∥∥₁_map is (λ (s : StopsAt (key_by (plain_by m)) m.stage.begun (view_by (plain_by m)) 0 (cues_by m) ws). (
+      s.cue,
+      (
+        (s.place, s.is_cue),
+        (
+          ⊎_elim (λ lt. lt) (λ none. absurd (omega (arith, none.1))) (s.reached exact),
+          s.stops,
+        ),
+      ),
+    ))
 
 pub returns-clause-unstopped : goal.returns-clause-unstopped
 returns-clause-unstopped c = λ m k cue none is stops.

@@ -36,13 +36,15 @@ returns-clause-plays c =
 pub invariant_of-self-3 : goal.invariant_of-self-3
 invariant_of-self-3 c =
     let own : PlainMoves → PlainMoves → Type 0 = λ a b. OfRun c.args.mask (λ from order. TriesIt (claim c.args.word c.args.seen from order) c.args.seen c.claim-made.result a b) in
-    record { shows = shown_on true own c.args.self.now.stage _ c.args.self.now.shows
-    (played true own c.args.self.now.stage c.loses.new.self c.find.new.self c.claim-made.new.self (c.loses.ensures.met c.if-loses.false)
-    (λ from order e. own_try c.args.self.now.stage c.loses.new.self c.claim-made.new.self (claim c.args.word c.args.seen from order)
-    c.args.seen c.claim-made.result (c.loses.ensures.ready c.if-loses.false) (c.loses.ensures.stands c.if-loses.false)
-    (c.claim-made.ensures from order e))
-    c.find.ensures.found.plain c.find.ensures.silent)
-    (λ a b is. try_steps (claim c.args.word c.args.seen c.requires.0 c.requires.1.0) c.args.seen (λ v. refl) c.claim-made.result a b (is c.requires.0 c.requires.1.0 c.requires.1.1.0)) }
+    record {
+      shows = shown_on true own c.args.self.now.stage _ c.args.self.now.shows
+          (played true own c.args.self.now.stage c.loses.new.self c.find.new.self c.claim-made.new.self (c.loses.ensures.met c.if-loses.false)
+          (λ from order e. own_try c.args.self.now.stage c.loses.new.self c.claim-made.new.self (claim c.args.word c.args.seen from order)
+          c.args.seen c.claim-made.result (c.loses.ensures.ready c.if-loses.false) (c.loses.ensures.stands c.if-loses.false)
+          (c.claim-made.ensures from order e))
+          c.find.ensures.found.plain c.find.ensures.silent)
+          (λ a b is. try_steps (claim c.args.word c.args.seen c.requires.0 c.requires.1.0) c.args.seen (λ v. refl) c.claim-made.result a b (is c.requires.0 c.requires.1.0 c.requires.1.1.0));
+    }
 
 pub invariant_of-self : goal.invariant_of-self
 invariant_of-self c =

@@ -20,7 +20,9 @@ returns-clause-plays c =
 pub invariant_of-self-2 : goal.invariant_of-self-2
 invariant_of-self-2 c =
     let own : PlainMoves → PlainMoves → Type 0 = MakesIt (fill_word c.args.word) in
-    record { shows = shown_on false own c.args.self.now.stage _ c.args.self.now.shows
-    (played false own c.args.self.now.stage c.prompt.new.self c.find.new.self c.fill_word.new.self c.prompt.ensures.met
-    c.fill_word.ensures c.find.ensures.found.plain c.find.ensures.silent)
-    (make_steps (fill_word c.args.word) (λ v. refl)) }
+    record {
+      shows = shown_on false own c.args.self.now.stage _ c.args.self.now.shows
+          (played false own c.args.self.now.stage c.prompt.new.self c.find.new.self c.fill_word.new.self c.prompt.ensures.met
+          c.fill_word.ensures c.find.ensures.found.plain c.find.ensures.silent)
+          (make_steps (fill_word c.args.word) (λ v. refl));
+    }

@@ -20,7 +20,9 @@ returns-clause-plays c =
 pub invariant_of-self-2 : goal.invariant_of-self-2
 invariant_of-self-2 c =
     let own : PlainMoves → PlainMoves → Type 0 = MakesIt (give_whole c.args.child) in
-    record { shows = shown_on false own c.args.self.now.stage _ c.args.self.now.shows
-    (played false own c.args.self.now.stage c.prompt.new.self c.find.new.self c.give_huge.new.self c.prompt.ensures.met
-    c.give_huge.ensures c.find.ensures.found.plain c.find.ensures.silent)
-    (make_steps (give_whole c.args.child) (λ v. refl)) }
+    record {
+      shows = shown_on false own c.args.self.now.stage _ c.args.self.now.shows
+          (played false own c.args.self.now.stage c.prompt.new.self c.find.new.self c.give_huge.new.self c.prompt.ensures.met
+          c.give_huge.ensures c.find.ensures.found.plain c.find.ensures.silent)
+          (make_steps (give_whole c.args.child) (λ v. refl));
+    }

@@ -20,8 +20,10 @@ returns-clause-plays c =
 pub invariant_of-self-2 : goal.invariant_of-self-2
 invariant_of-self-2 c =
     let own : PlainMoves → PlainMoves → Type 0 = LoadsIt c.args.place c.find.result in
-    record { shows = shown_on false own c.args.self.now.stage _ c.args.self.now.shows
-    (played false own c.args.self.now.stage c.prompt.new.self c.find.new.self c.load.new.self c.prompt.ensures.met
-    (own_load c.prompt.new.self.plain c.load.new.self c.args.place c.load.result c.find.result _ refl c.find.ensures.value
-    c.load.ensures) c.find.ensures.found.plain c.find.ensures.silent)
-    (load_steps c.args.place c.find.result) }
+    record {
+      shows = shown_on false own c.args.self.now.stage _ c.args.self.now.shows
+          (played false own c.args.self.now.stage c.prompt.new.self c.find.new.self c.load.new.self c.prompt.ensures.met
+          (own_load c.prompt.new.self.plain c.load.new.self c.args.place c.load.result c.find.result _ refl c.find.ensures.value
+          c.load.ensures) c.find.ensures.found.plain c.find.ensures.silent)
+          (load_steps c.args.place c.find.result);
+    }

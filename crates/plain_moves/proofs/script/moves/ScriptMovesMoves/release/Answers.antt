@@ -20,7 +20,9 @@ returns-clause-plays c =
 pub invariant_of-self-2 : goal.invariant_of-self-2
 invariant_of-self-2 c =
     let own : PlainMoves → PlainMoves → Type 0 = λ a b. OfRun c.args.mask (λ from order. MakesIt (release_run c.args.word from order) a b) in
-    record { shows = shown_on false own c.args.self.now.stage _ c.args.self.now.shows
-    (played false own c.args.self.now.stage c.prompt.new.self c.find.new.self c.release.new.self c.prompt.ensures.met
-    c.release.ensures c.find.ensures.found.plain c.find.ensures.silent)
-    (λ a b is. make_steps (release_run c.args.word c.requires.0 c.requires.1.0) (λ v. refl) a b (is c.requires.0 c.requires.1.0 c.requires.1.1.0)) }
+    record {
+      shows = shown_on false own c.args.self.now.stage _ c.args.self.now.shows
+          (played false own c.args.self.now.stage c.prompt.new.self c.find.new.self c.release.new.self c.prompt.ensures.met
+          c.release.ensures c.find.ensures.found.plain c.find.ensures.silent)
+          (λ a b is. make_steps (release_run c.args.word c.requires.0 c.requires.1.0) (λ v. refl) a b (is c.requires.0 c.requires.1.0 c.requires.1.1.0));
+    }

@@ -19,7 +19,9 @@ returns-clause-plays c =
 pub invariant_of-self-2 : goal.invariant_of-self-2
 invariant_of-self-2 c =
     let own : PlainMoves → PlainMoves → Type 0 = SwapsIt c.args.core c.args.put c.swap_local-rest.result in
-    record { shows = shown_on false own c.args.self.now.stage _ c.args.self.now.shows
-    (played false own c.args.self.now.stage c.prompt.new.self c.find.new.self c.swap_local-rest.new.self c.prompt.ensures.met
-    c.swap_local-rest.ensures c.find.ensures.found.plain c.find.ensures.silent)
-    (swap_steps c.args.core c.args.put c.swap_local-rest.result) }
+    record {
+      shows = shown_on false own c.args.self.now.stage _ c.args.self.now.shows
+          (played false own c.args.self.now.stage c.prompt.new.self c.find.new.self c.swap_local-rest.new.self c.prompt.ensures.met
+          c.swap_local-rest.ensures c.find.ensures.found.plain c.find.ensures.silent)
+          (swap_steps c.args.core c.args.put c.swap_local-rest.result);
+    }

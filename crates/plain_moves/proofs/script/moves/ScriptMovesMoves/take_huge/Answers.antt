@@ -32,12 +32,14 @@ returns-clause-plays c =
 pub invariant_of-self-3 : goal.invariant_of-self-3
 invariant_of-self-3 c =
     let own : PlainMoves → PlainMoves → Type 0 = TriesIt (take_huge c.args.child c.args.seen) c.args.seen c.take_huge-made.result in
-    record { shows = shown_on true own c.args.self.now.stage _ c.args.self.now.shows
-    (played true own c.args.self.now.stage c.loses.new.self c.find.new.self c.take_huge-made.new.self (c.loses.ensures.met c.if-loses.false)
-    (own_try c.args.self.now.stage c.loses.new.self c.take_huge-made.new.self (take_huge c.args.child c.args.seen) c.args.seen c.take_huge-made.result
-    (c.loses.ensures.ready c.if-loses.false) (c.loses.ensures.stands c.if-loses.false) c.take_huge-made.ensures)
-    c.find.ensures.found.plain c.find.ensures.silent)
-    (try_steps (take_huge c.args.child c.args.seen) c.args.seen (λ v. refl) c.take_huge-made.result) }
+    record {
+      shows = shown_on true own c.args.self.now.stage _ c.args.self.now.shows
+          (played true own c.args.self.now.stage c.loses.new.self c.find.new.self c.take_huge-made.new.self (c.loses.ensures.met c.if-loses.false)
+          (own_try c.args.self.now.stage c.loses.new.self c.take_huge-made.new.self (take_huge c.args.child c.args.seen) c.args.seen c.take_huge-made.result
+          (c.loses.ensures.ready c.if-loses.false) (c.loses.ensures.stands c.if-loses.false) c.take_huge-made.ensures)
+          c.find.ensures.found.plain c.find.ensures.silent)
+          (try_steps (take_huge c.args.child c.args.seen) c.args.seen (λ v. refl) c.take_huge-made.result);
+    }
 
 pub invariant_of-self : goal.invariant_of-self
 invariant_of-self c =

@@ -20,7 +20,9 @@ returns-clause-plays c =
 pub invariant_of-self-2 : goal.invariant_of-self-2
 invariant_of-self-2 c =
     let own : PlainMoves → PlainMoves → Type 0 = MakesIt (unreserve c.args.tree c.args.n) in
-    record { shows = shown_on false own c.args.self.now.stage _ c.args.self.now.shows
-    (played false own c.args.self.now.stage c.prompt.new.self c.find.new.self c.unreserve.new.self c.prompt.ensures.met
-    c.unreserve.ensures c.find.ensures.found.plain c.find.ensures.silent)
-    (make_steps (unreserve c.args.tree c.args.n) (λ v. refl)) }
+    record {
+      shows = shown_on false own c.args.self.now.stage _ c.args.self.now.shows
+          (played false own c.args.self.now.stage c.prompt.new.self c.find.new.self c.unreserve.new.self c.prompt.ensures.met
+          c.unreserve.ensures c.find.ensures.found.plain c.find.ensures.silent)
+          (make_steps (unreserve c.args.tree c.args.n) (λ v. refl));
+    }
