@@ -1,5 +1,5 @@
 -- What the readers of an image say once a part of it was written.
-use Rattle.std.proofs.Common.{◌≡◌, ◌≢◌, ℕ, ◌+◌, ◌*◌, ◌/◌, ◌<◌, ◌≤◌, List, Bool, true, false, Option, None, Some, refl, sym, ◌∙◌, arith}
+use Rattle.std.proofs.Common.{◌≡◌, ℕ, ◌+◌, ◌*◌, ◌<◌, ◌≤◌, List, Bool, true, false, Option, None, Some, refl, ◌∙◌, arith}
 use Rattle.std.specs.Option.{ForSome}
 use Rattle.frame_words.specs.Words.{flag, entry_word, local_word, rest_in}
 use Rattle.frame_words.proofs.WordLemmas.{flag-le, free_in-entry_word, flag_in-entry_word, entry_word-lt, rest_in-local_word, rest_in-local_none}

@@ -7,8 +7,8 @@ use Rattle.frame_core.specs.Image.{SetsPastEnd}
 use Rattle.frame_model.specs.Words.{free_of, huge_of, tree_free_of, reserved_of, rest_of, bit_word_of}
 
 -- the bits of the child are as before
-abbrev pub HasSameBits : Key → List ℕ → List ℕ → ℕ → Type 0
-HasSameBits key old new child =
+abbrev pub HasSameBitWords : Key → List ℕ → List ℕ → ℕ → Type 0
+HasSameBitWords key old new child =
     (w : ℕ) → w < 8 → bit_word_of key new (8 * child + w) ≡ bit_word_of key old (8 * child + w)
 
 -- the entry of the child says what it said
@@ -19,12 +19,13 @@ HasSameEntry old new child =
 -- the word of the tree says what it said
 abbrev pub HasSameTree : Key → List ℕ → List ℕ → ℕ → Type 0
 HasSameTree key old new tree =
-    (tree_free_of key new tree ≡ tree_free_of key old tree) × (reserved_of key new tree ≡ reserved_of key old tree)
+    (tree_free_of key new tree ≡ tree_free_of key old tree)
+    × (reserved_of key new tree ≡ reserved_of key old tree)
 
 -- each child is as before
 abbrev pub AreSameChildren : Key → List ℕ → List ℕ → Type 0
 AreSameChildren key old new =
-    (c : ℕ) → c < key.children → HasSameEntry old new c × HasSameBits key old new c
+    (c : ℕ) → c < key.children → HasSameEntry old new c × HasSameBitWords key old new c
 
 -- each tree is as before
 abbrev pub AreSameTrees : Key → List ℕ → List ℕ → Type 0
@@ -38,13 +39,14 @@ AreSameCores key old new = (k : ℕ) → k < key.cores → rest_of key new k ≡
 abbrev pub AreBits : Key → ℕ → List ℕ → Type 0
 AreBits key child bits =
     (length bits ≡ 8)
-    × ((w : ℕ) → w < 8 → (slice_index bits w < 2 ^ 64) × SetsPastEnd key (8 * child + w) (slice_index bits w))
+    × ((w : ℕ) → w < 8
+    → (slice_index bits w < 2 ^ 64) × SetsPastEnd key (8 * child + w) (slice_index bits w))
 
 -- the entry of the child says this, and all else is as before
 pub record ReadsEntry (key : Key) (child free : ℕ) (huge : Bool) (old new : List ℕ) : Type 0 where
   pub count : free_of new child ≡ free
   pub is_huge : huge_of new child ≡ flag huge
-  pub same_bits : (c : ℕ) → c < key.children → HasSameBits key old new c
+  pub same_bits : (c : ℕ) → c < key.children → HasSameBitWords key old new c
   pub others : (c : ℕ) → c < key.children → c ≢ child → HasSameEntry old new c
   pub trees : AreSameTrees key old new
   pub cores : AreSameCores key old new
@@ -62,7 +64,8 @@ pub record ReadsChild (key : Key) (child free : ℕ) (huge : Bool) (bits old new
   pub count : free_of new child ≡ free
   pub is_huge : huge_of new child ≡ flag huge
   pub here : (w : ℕ) → w < 8 → bit_word_of key new (8 * child + w) ≡ slice_index bits w
-  pub others : (c : ℕ) → c < key.children → c ≢ child → HasSameEntry old new c × HasSameBits key old new c
+  pub others : (c : ℕ) → c < key.children → c ≢ child
+      → HasSameEntry old new c × HasSameBitWords key old new c
   pub trees : AreSameTrees key old new
   pub cores : AreSameCores key old new
 

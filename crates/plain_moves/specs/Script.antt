@@ -38,8 +38,8 @@ LosesAt at cues = (cue : Cue) × (HasCue cues cue × (cue.at ≡ at) × (cue.wha
 abbrev pub ComesBefore : ℕ → ℕ → ℕ → Cue → Type 0
 ComesBefore at i k cue = (cue.at < at) ⊎ ((cue.at ≡ at) × (k < i))
 
--- one step of a view's own: a word changed, or was loaded, an exchange was lost, or a block was handed
--- out or taken in
+-- one step of a view's own: a word changed, or was loaded, an exchange was lost, or a block was
+-- handed out or taken in
 abbrev pub StepsOnce : View → View → Type 0
 StepsOnce v w =
     ((kind : Kind) × ((found : ℕ) × (w ≡ effect plain_tick kind found v)))
@@ -55,8 +55,9 @@ StepsTo (suc n) v w = (u : View) × (StepsTo n v u × StepsOnce u w)
 
 -- the words are those just before the move that a cue Stop names, and of the cues before place i of
 -- the next move it is the last that stops. It comes before that place itself, as long as moves are
--- counted exactly: of no move that is still to come. The words fit with a view that had made as many
--- moves since the script began, and with others, and the caller's view of now came of it by its own steps
+-- counted exactly, so it names no move that is still to come. The words fit with a view that had made
+-- so many moves since the script began, and with others; of it the caller's view of now came by steps
+-- of its own
 pub record StopsAt (key : Key) (begun : ℕ) (now : View) (i : ℕ) (cues : List Cue) (ws : List ℕ)
     : Type 0 where
   pub cue : Cue
@@ -80,8 +81,8 @@ abbrev pub NoStop : ℕ → ℕ → List Cue → Type 0
 NoStop at i cues = (k : ℕ) (cue : Cue) → slice_get cues k ≡ Some cue → cue.what ≡ Stop
     → ComesBefore at i k cue → ⊥
 
--- the caller's moves are those since the script began, and once a cue stopped, the words are those of
--- the last that did
+-- the caller's moves go on from those at which the script began, and once a cue stopped, the words
+-- are those of the last that did
 pub record ShowsStop (key : Key) (begun : ℕ) (now : View) (i : ℕ) (cues : List Cue)
     (has_stopped : Bool) (ws : List ℕ) : Type 0 where
   pub counted : begun ≤ now.moves

@@ -1,5 +1,5 @@
 -- What a mover by a script has, by its stage, and what its opening, its moves and its stops leave.
-use Rattle.std.specs.Prelude.{◌≡◌, ℕ, ◌-◌, List, Option, Some, None, if◌then◌else◌, Bool, false, slice_get, vec_len}
+use Rattle.std.specs.Prelude.{◌≡◌, ℕ, List, Option, Some, Bool, false, slice_get, vec_len}
 use Rattle.std.specs.List.{All}
 use Rattle.frame_model.specs.declared.block.FrameBlock.{FrameBlock}
 use Rattle.frame_core.specs.Image.{Contents}

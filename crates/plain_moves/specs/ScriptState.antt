@@ -1,5 +1,5 @@
 -- What moves by a script have, and what its cues and each half of a move leave.
-use Rattle.std.specs.Prelude.{◌≡◌, ◌≢◌, ◌⊎◌, ℕ, ◌+◌, ◌-◌, ◌<◌, min, List, Option, Some, None, if◌then◌else◌, Bool, true, false, MatchBool, slice_get, slice_index, length, vec_len, zero, suc}
+use Rattle.std.specs.Prelude.{◌≡◌, ◌≢◌, ◌⊎◌, ℕ, ◌+◌, ◌-◌, ◌<◌, min, List, Option, Some, None, if◌then◌else◌, Bool, true, MatchBool, slice_get, slice_index, zero, suc}
 use Rattle.std.specs.List.{All}
 use Rattle.frame_model.specs.declared.block.FrameBlock.{FrameBlock}
 use Rattle.frame_core.specs.Image.{Contents}
@@ -11,9 +11,8 @@ use Rattle.plain_moves.specs.declared.script.cue.Cue.{Cue}
 use Rattle.plain_moves.specs.declared.script.cue.What.{What}
 use Rattle.plain_moves.specs.declared.script.cue.What.TheVariants.{Lose, Stranger, Stop}
 use Rattle.plain_moves.specs.declared.plain.PlainMoves.{PlainMoves}
-use Rattle.plain_moves.specs.declared.plain.party.Party.{Party}
 use Rattle.plain_moves.specs.declared.script.stage.Stage.{Stage}
-use Rattle.plain_moves.specs.Plain.{plain_tick, IsFresh, IsIdleParty, IsOutIn}
+use Rattle.plain_moves.specs.Plain.{plain_tick, IsIdleParty, IsOutIn}
 use Rattle.plain_moves.specs.PlainState.{key_by, words_by, view_by, IsStill, IsUnmoved}
 use Rattle.plain_moves.specs.Acts.{TheyAct}
 use Rattle.plain_moves.specs.Allowed.{TheyMayAct}

@@ -1,4 +1,5 @@
-//! What holds of every mover by a script, and of every image: laws, proved as contracts of a function that does nothing.
+//! What holds of every mover by a script, and of every image: laws, proved as contracts of
+//! functions that do nothing.
 
 ghost use Rattle.std.specs.Prelude.{◌≡◌, ℕ, ◌+◌, ◌*◌, ◌<◌, ◌≤◌, List, [], Option, Some, None, Bool, true, false, slice_get};
 ghost use Rattle.std.specs.Option.{ForSome};
@@ -52,13 +53,15 @@ pub fn scripts_are_honest()
     ensures words { (m : ScriptMoves) → (⟦<ScriptMoves as Moves>⟧.at m).words
         ≡ Some (words_by (plain_by m)) }
     ensures between { (m : ScriptMoves) → ((k : ℕ) (cue : Cue) → slice_get (cues_by m) k ≡ Some cue
-        → cue.at ≡ next_by m → cue.what ≡ What.Stop) → (⟦<ScriptMoves as Moves>⟧.at m).is_undisturbed }
+        → cue.at ≡ next_by m → cue.what ≡ What.Stop)
+        → (⟦<ScriptMoves as Moves>⟧.at m).is_undisturbed }
     ensures over { (m : ScriptMoves) → ((k : ℕ) (cue : Cue) → slice_get (cues_by m) k ≡ Some cue
         → cue.at < next_by m) → ((k : ℕ) (p : Party) → slice_get (strangers_by m) k ≡ Some p
         → (p.paid ≡ None) × (p.charged ≡ None) × (p.reserving ≡ None) × (p.own.items ≡ []))
         → (⟦<ScriptMoves as Moves>⟧.at m).is_alone }
     ensures loses { (m : ScriptMoves) (k : ℕ) (cue : Cue) → slice_get (cues_by m) k ≡ Some cue
-        → cue.at ≡ next_by m → cue.what ≡ What.Lose → (⟦<ScriptMoves as Moves>⟧.at m).loses_at_will }
+        → cue.at ≡ next_by m → cue.what ≡ What.Lose
+        → (⟦<ScriptMoves as Moves>⟧.at m).loses_at_will }
     ensures at_will { (m : ScriptMoves) → (⟦<ScriptMoves as Moves>⟧.at m).loses_at_will
         → (cue : Cue) × (((k : ℕ) × (slice_get (cues_by m) k ≡ Some cue))
         × ((cue.at ≡ next_by m) × (cue.what ≡ What.Lose))) }
@@ -96,16 +99,18 @@ pub fn a_script_is_followed()
 /// What is written into an image is what its readers then say, and all else that they say is as it
 /// was: the other children, the trees, the cores.
 pub fn every_write_is_read_back()
-    ensures entry { (image : Contents) (child free : ℕ) (huge : Bool) → IsImage (key_in image) image.words
-        → child < (key_in image).children → free ≤ 512
+    ensures entry { (image : Contents) (child free : ℕ) (huge : Bool)
+        → IsImage (key_in image) image.words → child < (key_in image).children → free ≤ 512
         → ReadsEntry (key_in image) child free huge image.words
         (with_entry image.words child (entry_word free (flag huge))) }
     ensures word { (image : Contents) (word bits : ℕ) → IsImage (key_in image) image.words
         → word < 8 * (key_in image).children
-        → ReadsWord (key_in image) word bits image.words (with_bits (key_in image) image.words word bits) }
+        → ReadsWord (key_in image) word bits image.words
+        (with_bits (key_in image) image.words word bits) }
     ensures child { (image : Contents) (child free : ℕ) (huge : Bool) (bits : List ℕ)
         → IsImage (key_in image) image.words → child < (key_in image).children → free ≤ 512
-        → (huge ≡ true → 512 * (child + 1) ≤ image.geometry.frames) → AreBits (key_in image) child bits
+        → (huge ≡ true → 512 * (child + 1) ≤ image.geometry.frames)
+        → AreBits (key_in image) child bits
         → ReadsChild (key_in image) child free huge bits image.words
         (with_child (key_in image) image.words child (entry_word free (flag huge)) bits) }
     ensures tree { (image : Contents) (tree free : ℕ) (reserved : Bool)

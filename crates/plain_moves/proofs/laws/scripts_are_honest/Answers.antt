@@ -1,4 +1,4 @@
-use Rattle.std.proofs.Common.{◌≡◌, ⊎_elim, ℕ, ◌-◌, ◌<◌, ◌≤◌, inl, arith}
+use Rattle.std.proofs.Common.{⊎_elim, ◌<◌, ◌≤◌, inl, arith}
 use Rattle.std.proofs.Math.Logic.{∥∥₁_map}
 use Rattle.std.proofs.lemmas.Bool.{cases_lt}
 use Rattle.plain_moves.specs.PlainState.{key_by, view_by}

@@ -1,4 +1,4 @@
-use Rattle.std.proofs.Common.{inl, inr, true, ap, sym, subst, refl, ◌∙◌, arith}
+use Rattle.std.proofs.Common.{inl, inr, ap, sym, subst, ◌∙◌}
 use Rattle.plain_moves.specs.declared.plain.PlainMoves.{PlainMoves}
 use Rattle.plain_moves.specs.declared.script.cue.What.{What}
 use Rattle.plain_moves.specs.PlainState.{IsStill, IsUnmoved}
