@@ -12,3 +12,4 @@ pub mod Checks
 pub mod Cues
 pub mod Scripts
 pub mod Worked
+pub mod Readers

@@ -1,31 +1,33 @@
 -- Each half of a move by a script, joined to what the trait tells of the move.
 use Rattle.std.proofs.Common.{◌≡◌, ◌≢◌, ◌⊎◌, inl, inr, ⊎_elim, ℕ, ◌-◌, ◌≤◌, List, Bool, true, false, ◌||◌, Option}
 use Rattle.std.proofs.Common.{Some, length, refl, ap, sym, subst, ◌∙◌, arith}
-use Rattle.std.specs.Prelude.{slice_get, slice_index}
+use Rattle.std.specs.Prelude.{slice_get, slice_index, vec_len}
 use Rattle.std.specs.List.{All}
+use Rattle.std.proofs.Math.Logic.{∥∥₁_map}
 use Rattle.frame_words.specs.Words.{rest_in}
 use Rattle.frame_model.specs.declared.block.FrameBlock.{FrameBlock}
 use Rattle.frame_model.specs.declared.key.Key.{Key}
 use Rattle.frame_model.specs.declared.place.Place.{Place}
 use Rattle.frame_model.specs.declared.view.View.{View}
 use Rattle.frame_model.specs.Steps.{Kind, swap_local, place, effect, after_load, after_loss}
-use Rattle.frame_model.specs.Words.{IsRest}
+use Rattle.frame_model.specs.Words.{IsRest, word_count}
 use Rattle.frame_core.specs.Moves.{hand_out_block, place_of, HasLayout, ReadsBut, after, Changes}
 use Rattle.frame_core.specs.Mover.{IsApart, Keeps, Loads, Tries, Makes, Swaps, HandsOut, HandsIn}
 use Rattle.frame_model.specs.Seats.{hand_in, left_by, joined_by}
 use Rattle.frame_model.specs.View.{holder}
 use Rattle.plain_moves.specs.declared.plain.PlainMoves.{PlainMoves}
 use Rattle.plain_moves.specs.declared.plain.party.Company.{Company}
-use Rattle.plain_moves.specs.declared.script.ScriptMoves.{ScriptMoves}
+use Rattle.plain_moves.specs.declared.script.stage.Stage.{Stage}
 use Rattle.plain_moves.specs.declared.script.cue.Cue.{Cue}
 use Rattle.plain_moves.specs.declared.script.cue.What.TheVariants.{Lose, Stop}
 use Rattle.plain_moves.specs.Plain.{plain_tick, IsIdleParty, IsOutIn}
 use Rattle.plain_moves.specs.PlainState.{key_by, words_by, view_by, mover_by, Loses}
-use Rattle.plain_moves.specs.Script.{IsPast, NoneAt, LosesAt, ShowsStop}
-use Rattle.plain_moves.specs.ScriptState.{at_by, read_by, scripted, script_mover, IsOver, IsReady, IsLost, FindsWord, MeetsFirst}
-use Rattle.plain_moves.specs.Plays.{Plays, IsSilent, TriesIt, LoadsIt}
+use Rattle.plain_moves.specs.Acts.{MakesIt}
+use Rattle.plain_moves.specs.Script.{IsPast, NoneAt, LosesAt, ShowsStop, StepsOnce}
+use Rattle.plain_moves.specs.ScriptState.{at_by, read_by, scripted, stage_mover, IsOver, IsReady, IsLost, FindsWord, MeetsFirst, ShowsTo}
+use Rattle.plain_moves.specs.Plays.{PlaysOn, IsSilent, TriesIt, LoadsIt, SwapsIt, HandsItOut, HandsItIn}
 use Rattle.plain_moves.specs.ScriptLaws.{over_is_quiet}
-use Rattle.plain_moves.proofs.Cues.{is_not_at, stepped}
+use Rattle.plain_moves.proofs.Cues.{is_not_at, cues_show, stepped}
 use Rattle.plain_moves.proofs.PlainSteps.{apart_known, got}
 
 or_false : (b : Bool) → b ≡ (b || false)
@@ -41,7 +43,7 @@ or_true false = refl
 past_later : (at now : ℕ) (cues : List Cue) → at ≤ now → All (IsPast at) cues → All (IsPast now) cues
 past_later at now cues more past = λ k cue h. omega (arith, past k cue h, more)
 
-still_over : (m : ScriptMoves) (now : PlainMoves) (cues : List Cue) (begun : ℕ) → now.them ≡ m.plain.them → cues ≡ m.cues.items
+still_over : (m : Stage) (now : PlainMoves) (cues : List Cue) (begun : ℕ) → now.them ≡ m.plain.them → cues ≡ m.cues.items
     → at_by m ≤ now.moves - begun → IsOver (at_by m) m.cues.items m.plain → IsOver (now.moves - begun) cues now
 still_over m now cues begun them same at over = record {
   past = subst (λ (l : List Cue). All (IsPast (now.moves - begun)) l) (sym same)
@@ -50,14 +52,14 @@ still_over m now cues begun them same at over = record {
 }
 
 -- An exchange was lost.
-module _ (m n : ScriptMoves) (kind : Kind) (p seen : ℕ) (is : IsLost p seen m n) (here : p ≡ place (key_by m.plain) kind) where
+module _ (m n : Stage) (kind : Kind) (p seen : ℕ) (is : IsLost p seen m n) (here : p ≡ place (key_by m.plain) kind) where
   lost_at : at_by m ≤ at_by n
   lost_at = omega (arith, ap (λ (v : View). v.moves) is.view, is.begun, m.plain.counted)
 
   told : LosesAt (at_by m) m.cues.items ⊎ ((found : ℕ) × ((found ≢ seen) × (read_by n p ≡ Some found)))
   told = ⊎_elim (λ at_will. inl at_will) (λ other. inr (is.found, (other, is.here))) is.lost
 
-  pub lost_by : Tries plain_tick kind seen false (script_mover m) (script_mover n)
+  pub lost_by : Tries plain_tick kind seen false (stage_mover m) (stage_mover n)
   lost_by = record {
     keeps = record {
       same_tie = λ i. ((is.cues i).items, is.begun i);
@@ -78,7 +80,7 @@ module _ (m n : ScriptMoves) (kind : Kind) (p seen : ℕ) (is : IsLost p seen m 
   }
 
 -- The cues were made and the exchange is lost: a cue says so, or another word stands there.
-module _ (m r w n : ScriptMoves) (place seen word : ℕ) (ready : IsReady m r) (lose : Loses r.plain w.plain)
+module _ (m r w n : Stage) (place seen word : ℕ) (ready : IsReady m r) (lose : Loses r.plain w.plain)
     (cues : w.cues ≡ r.cues) (begun : w.begun ≡ r.begun) (missed : w.missed ≡ true) (read : w.read ≡ r.read)
     (finds : FindsWord place w n) (value : slice_index (words_by w.plain) place ≡ word) (here : read_by n place ≡ Some word)
     (why : LosesAt (at_by m) m.cues.items ⊎ (slice_index (words_by r.plain) place ≢ seen)) where
@@ -112,7 +114,7 @@ module _ (m r w n : ScriptMoves) (place seen word : ℕ) (ready : IsReady m r) (
     );
   }
 
-module _ (m r w n : ScriptMoves) (spot : Place) (seen word : ℕ) (ready : IsReady m r) (lose : Loses r.plain w.plain)
+module _ (m r w n : Stage) (spot : Place) (seen word : ℕ) (ready : IsReady m r) (lose : Loses r.plain w.plain)
     (finds : FindsWord (place_of (key_by w.plain) spot) w n)
     (value : slice_index (words_by w.plain) (place_of (key_by w.plain) spot) ≡ word)
     (here : read_by n (place_of (key_by w.plain) spot) ≡ Some word)
@@ -131,7 +133,7 @@ module _ (m r w n : ScriptMoves) (spot : Place) (seen word : ℕ) (ready : IsRea
       ready.still.key why)
 
 -- The plain step of a move was made between its two halves.
-module _ (m r : ScriptMoves) (p now : PlainMoves) (cs : List Cue) (begun : ℕ) (ready : IsReady m r) (tie : p.them ≡ r.plain.them)
+module _ (m r : Stage) (p now : PlainMoves) (cs : List Cue) (begun : ℕ) (ready : IsReady m r) (tie : p.them ≡ r.plain.them)
     (key : key_by p ≡ key_by r.plain) (moves : p.moves ≡ plain_tick r.plain.moves) (plain : now ≡ p)
     (cues : cs ≡ r.cues.items) (same_begun : begun ≡ r.begun) where
   same_key : key_by now ≡ key_by m.plain
@@ -158,7 +160,7 @@ module _ (m r : ScriptMoves) (p now : PlainMoves) (cs : List Cue) (begun : ℕ) 
       (out (subst (λ l. IsOutIn l.items b) (sym ready.still.outs) o))
 
   pub keeps_by : (read : List ℕ) (missed : Bool) → ((b : FrameBlock) → IsOutIn r.plain.outs.items b → IsOutIn p.outs.items b)
-      → Keeps (script_mover m) (scripted now cs read begun missed)
+      → Keeps (stage_mover m) (scripted now cs read begun missed)
   keeps_by read missed out = record {
     same_tie = λ i. ((cues ∙ ap (λ v. v.items) ready.untold.cues) i, (same_begun ∙ ready.untold.begun) i);
     same_key = same_key;
@@ -167,7 +169,7 @@ module _ (m r : ScriptMoves) (p now : PlainMoves) (cs : List Cue) (begun : ℕ) 
   }
 
 -- the words before and after the plain step, as the caller has them
-module _ (m r : ScriptMoves) (p now : PlainMoves) (ready : IsReady m r) (plain : now ≡ p) (kind : Kind) where
+module _ (m r : Stage) (p now : PlainMoves) (ready : IsReady m r) (plain : now ≡ p) (kind : Kind) where
   pub changed : Changes (key_by r.plain) kind (Some (words_by r.plain)) (Some (words_by p))
       → NoneAt (at_by m) m.cues.items → Changes (key_by m.plain) kind (Some (words_by m.plain)) (Some (words_by now))
   changed is none =
@@ -176,14 +178,14 @@ module _ (m r : ScriptMoves) (p now : PlainMoves) (ready : IsReady m r) (plain :
       (subst (λ (k : Key). Changes k kind (Some (words_by r.plain)) (Some (words_by p))) ready.still.key is))
 
 -- but for its plain moves, the state is this one
-pub record IsWith (p : PlainMoves) (r w : ScriptMoves) : Type 0 where
+pub record IsWith (p : PlainMoves) (r w : Stage) : Type 0 where
   pub plain : w.plain ≡ p
   pub cues : w.cues ≡ r.cues
   pub begun : w.begun ≡ r.begun
   pub missed : w.missed ≡ r.missed
   pub read : w.read ≡ r.read
 
-module _ (m r w n : ScriptMoves) (p : PlainMoves) (kind : Kind) (q : ℕ) (ready : IsReady m r) (with : IsWith p r w)
+module _ (m r w n : Stage) (p : PlainMoves) (kind : Kind) (q : ℕ) (ready : IsReady m r) (with : IsWith p r w)
     (found : FindsWord q w n)
     (here : q ≡ place (key_by p) kind) (ticks : (v : View) → (after plain_tick kind v).moves ≡ plain_tick v.moves) where
   now : n.plain ≡ p
@@ -194,7 +196,7 @@ module _ (m r w n : ScriptMoves) (p : PlainMoves) (kind : Kind) (q : ℕ) (ready
       (λ i ne. found.reads i ne ∙ ap (λ l. slice_get l.items i) (with.read ∙ ready.untold.read))
 
   -- a change was made
-  pub made_by : Makes plain_tick kind (mover_by r.plain) (mover_by p) → Makes plain_tick kind (script_mover m) (script_mover n)
+  pub made_by : Makes plain_tick kind (mover_by r.plain) (mover_by p) → Makes plain_tick kind (stage_mover m) (stage_mover n)
   made_by is = record {
     keeps = keeps_by m r p n.plain n.cues.items n.begun ready is.keeps.same_tie is.keeps.same_key
         (ap (λ (v : View). v.moves) is.view ∙ ticks (view_by r.plain)) now (ap (λ v. v.items) (found.cues ∙ with.cues))
@@ -211,7 +213,7 @@ module _ (m r w n : ScriptMoves) (p : PlainMoves) (kind : Kind) (q : ℕ) (ready
   -- an exchange was made, which no cue loses
   won_true : (seen : ℕ) → (LosesAt (at_by m) m.cues.items → true ≡ false)
       → Tries plain_tick kind seen true (mover_by r.plain) (mover_by p)
-      → Tries plain_tick kind seen true (script_mover m) (script_mover n)
+      → Tries plain_tick kind seen true (stage_mover m) (stage_mover n)
   won_true seen none is = record {
     keeps = keeps_by m r p n.plain n.cues.items n.begun ready is.keeps.same_tie is.keeps.same_key
         (ap (λ (v : View). v.moves) is.view ∙ ticks (view_by r.plain)) now (ap (λ v. v.items) (found.cues ∙ with.cues))
@@ -235,17 +237,17 @@ module _ (m r w n : ScriptMoves) (p : PlainMoves) (kind : Kind) (q : ℕ) (ready
   pub won_by : {loses : Bool} (seen : ℕ) (made : Bool) → slice_get (words_by r.plain) (place (key_by m.plain) kind) ≡ Some seen
       → loses ≡ false → (LosesAt (at_by m) m.cues.items → loses ≡ true)
       → Tries plain_tick kind seen made (mover_by r.plain) (mover_by p)
-      → Tries plain_tick kind seen made (script_mover m) (script_mover n)
+      → Tries plain_tick kind seen made (stage_mover m) (stage_mover n)
   won_by seen true stands wins obeys is = won_true seen (λ by. sym (obeys by) ∙ wins) is
   won_by seen false stands wins obeys is = absurd ((is.words tt).0 (got (words_by r.plain) (place (key_by r.plain) kind) seen
       (subst (λ (k : Key). slice_get (words_by r.plain) (place k kind) ≡ Some seen) (sym ready.still.key) stands)))
 
 -- A local word was put in the place of another.
-module _ (m r w n : ScriptMoves) (p : PlainMoves) (core : ℕ) (put answer : Option (ℕ × ℕ)) (q : ℕ) (ready : IsReady m r)
+module _ (m r w n : Stage) (p : PlainMoves) (core : ℕ) (put answer : Option (ℕ × ℕ)) (q : ℕ) (ready : IsReady m r)
     (with : IsWith p r w)
     (found : FindsWord q w n) (here : q ≡ place (key_by p) (swap_local core put)) where
   pub swapped_by : Swaps plain_tick core put answer (mover_by r.plain) (mover_by p)
-      → Swaps plain_tick core put answer (script_mover m) (script_mover n)
+      → Swaps plain_tick core put answer (stage_mover m) (stage_mover n)
   swapped_by is = let now : n.plain ≡ p = found.plain ∙ with.plain in record {
     keeps = keeps_by m r p n.plain n.cues.items n.begun ready is.keeps.same_tie is.keeps.same_key
         (ap (λ (v : View). v.moves) is.view.2) now (ap (λ v. v.items) (found.cues ∙ with.cues))
@@ -269,11 +271,11 @@ module _ (m r w n : ScriptMoves) (p : PlainMoves) (core : ℕ) (put answer : Opt
   }
 
 -- A word was loaded.
-module _ (m r w n : ScriptMoves) (p : PlainMoves) (word : Place) (answer result q : ℕ) (ready : IsReady m r) (with : IsWith p r w)
+module _ (m r w n : Stage) (p : PlainMoves) (word : Place) (answer result q : ℕ) (ready : IsReady m r) (with : IsWith p r w)
     (found : FindsWord q w n) (here_p : q ≡ place_of (key_by p) word) (reads_as : read_by n q ≡ Some result)
     (value : slice_index (words_by p) q ≡ result) where
   pub loaded_by : Loads plain_tick word answer (mover_by r.plain) (mover_by p)
-      → Loads plain_tick word result (script_mover m) (script_mover n)
+      → Loads plain_tick word result (stage_mover m) (stage_mover n)
   loaded_by is =
       let now : n.plain ≡ p = found.plain ∙ with.plain in
       let here : q ≡ place_of (key_by m.plain) word = here_p ∙ ap (λ k. place_of k word) (is.keeps.same_key ∙ ready.still.key) in
@@ -302,7 +304,7 @@ module _ (m r w n : ScriptMoves) (p : PlainMoves) (word : Place) (answer result 
       }
 
 -- A block left or came, with no word.
-module _ (m r : ScriptMoves) (p : PlainMoves) (ready : IsReady m r) (b : FrameBlock) where
+module _ (m r : Stage) (p : PlainMoves) (ready : IsReady m r) (b : FrameBlock) where
   reads_on : read_by r ≡ read_by m
   reads_on = λ k i. slice_get (ready.untold.read k).items i
 
@@ -311,7 +313,7 @@ module _ (m r : ScriptMoves) (p : PlainMoves) (ready : IsReady m r) (b : FrameBl
   words_on same none = same ∙ ap (λ ws. Some ws.items) (ready.quiet none).words
 
   pub out_by : (held : FrameBlock) → HandsOut plain_tick (λ d. d) b held (mover_by r.plain) (mover_by p)
-      → HandsOut plain_tick (λ d. d) b held (script_mover m) (scripted p r.cues.items r.read.items r.begun r.missed)
+      → HandsOut plain_tick (λ d. d) b held (stage_mover m) (scripted p r.cues.items r.read.items r.begun r.missed)
   out_by held is = record {
     keeps = keeps_by m r p p r.cues.items r.begun ready is.keeps.same_tie is.keeps.same_key (ap (λ (v : View). v.moves) is.view)
         refl refl refl _ _ is.keeps.stay_out;
@@ -324,7 +326,7 @@ module _ (m r : ScriptMoves) (p : PlainMoves) (ready : IsReady m r) (b : FrameBl
   }
 
   pub in_by : HandsIn plain_tick (λ d. d) b (mover_by r.plain) (mover_by p)
-      → HandsIn plain_tick (λ d. d) b (script_mover m) (scripted p r.cues.items r.read.items r.begun r.missed)
+      → HandsIn plain_tick (λ d. d) b (stage_mover m) (scripted p r.cues.items r.read.items r.begun r.missed)
   in_by is =
       let moves = ap (λ (v : View). v.moves) is.view in
       record {
@@ -341,18 +343,10 @@ module _ (m r : ScriptMoves) (p : PlainMoves) (ready : IsReady m r) (b : FrameBl
         words = λ none. words_on (is.words tt) none;
       }
 
--- An exchange was tried: the script shows the last stop of all moves so far.
-module _ (m r : ScriptMoves) (p : PlainMoves) (kind : Kind) (seen : ℕ) (ready : IsReady m r)
-    (ticks : (v : View) → (after plain_tick kind v).moves ≡ plain_tick v.moves) where
-  pub tried : (made : Bool) → Tries plain_tick kind seen made (mover_by r.plain) (mover_by p)
-      → ∥ ShowsStop (key_by p) r.begun (p.moves - r.begun) 0 r.cues.items r.has_stopped r.stop.words ∥₁
-  tried true is = stepped m r p _ ready is.keeps.same_key is.view (ticks (view_by r.plain))
-  tried false is = stepped m r p _ ready is.keeps.same_key is.view refl
-
 -- The caller's own step.
 
 -- where the word is as it was seen, the exchange is made
-pub own_try : (m r : ScriptMoves) (p : PlainMoves) (kind : Kind) (seen : ℕ) (made : Bool) → IsReady m r
+pub own_try : (m r : Stage) (p : PlainMoves) (kind : Kind) (seen : ℕ) (made : Bool) → IsReady m r
     → slice_get (words_by r.plain) (place (key_by m.plain) kind) ≡ Some seen
     → Tries plain_tick kind seen made (mover_by r.plain) (mover_by p) → TriesIt kind seen made r.plain p
 own_try m r p kind seen true ready stands is = is
@@ -372,12 +366,89 @@ own_load a b word answer result q here value is =
     subst (λ (x : ℕ). LoadsIt word x a b) told is
 
 -- the cues, and then the caller's own step
-pub played : (is_exchange : Bool) (Own : PlainMoves → PlainMoves → Type 0) (m r n : ScriptMoves) (p : PlainMoves)
+pub played : (is_exchange : Bool) (Own : PlainMoves → PlainMoves → Type 0) (m r n : Stage) (p : PlainMoves)
     → MeetsFirst m.cues.items is_exchange (length m.cues.items) m r → Own r.plain p → n.plain ≡ p → IsSilent r n
-    → Plays is_exchange Own m n
+    → PlaysOn is_exchange Own m n
 played is_exchange Own m r n p met own now silent = record {
   ready = r;
   met = met;
   own = subst (Own r.plain) (sym now) own;
   silent = silent;
+}
+
+-- What the script shows behind a move.
+
+-- a step of the caller's own keeps its memory, is counted, and is a step of its view
+abbrev pub IsStepOf : PlainMoves → PlainMoves → Type 0
+IsStepOf a b =
+    (key_by b ≡ key_by a) × (((view_by b).moves ≡ plain_tick a.moves) × StepsOnce (view_by a) (view_by b))
+
+pub make_steps : (kind : Kind) → ((v : View) → (after plain_tick kind v).moves ≡ plain_tick v.moves) → (a b : PlainMoves)
+    → MakesIt kind a b → IsStepOf a b
+make_steps kind ticks a b is =
+    (is.keeps.same_key, (ap (λ (v : View). v.moves) is.view ∙ ticks (view_by a), inl (kind, (0, is.view))))
+
+pub loss_steps : (a b : PlainMoves) → Loses a b → IsStepOf a b
+loss_steps a b is = (is.own.key, (ap (λ (v : View). v.moves) is.view, inr (inr (inl is.view))))
+
+pub try_steps : (kind : Kind) (seen : ℕ) → ((v : View) → (after plain_tick kind v).moves ≡ plain_tick v.moves) → (made : Bool)
+    → (a b : PlainMoves) → TriesIt kind seen made a b → IsStepOf a b
+try_steps kind seen ticks true a b is =
+    (is.keeps.same_key, (ap (λ (v : View). v.moves) is.view ∙ ticks (view_by a), inl (kind, (0, is.view))))
+try_steps kind seen ticks false a b is = loss_steps a b is
+
+pub load_steps : (word : Place) (found : ℕ) (a b : PlainMoves) → LoadsIt word found a b → IsStepOf a b
+load_steps word found a b is = (is.keeps.same_key, (ap (λ (v : View). v.moves) is.view, inr (inl is.view)))
+
+pub swap_steps : (core : ℕ) (put answer : Option (ℕ × ℕ)) (a b : PlainMoves) → SwapsIt core put answer a b → IsStepOf a b
+swap_steps core put answer a b is =
+    (is.keeps.same_key, (ap (λ (v : View). v.moves) is.view.2, inl (swap_local core put, (is.view.0, is.view.2))))
+
+pub out_steps : (d held : FrameBlock) (a b : PlainMoves) → HandsItOut d held a b → IsStepOf a b
+out_steps d held a b is =
+    (is.keeps.same_key, (ap (λ (v : View). v.moves) is.view, inr (inr (inr (d, inl is.view)))))
+
+pub in_steps : (held : FrameBlock) (a b : PlainMoves) → HandsItIn held a b → IsStepOf a b
+in_steps held a b is =
+    (is.keeps.same_key, (ap (λ (v : View). v.moves) is.view, inr (inr (inr (held, inr is.view)))))
+
+-- behind the caller's own step it shows the last stop of all moves so far
+pub shown_on : (is_exchange : Bool) (Own : PlainMoves → PlainMoves → Type 0) (m n : Stage) → ShowsTo 0 m → PlaysOn is_exchange Own m n
+    → ((a b : PlainMoves) → Own a b → IsStepOf a b) → ShowsTo 0 n
+shown_on is_exchange Own m n shows plays steps =
+    let r = plays.ready in
+    let is = steps r.plain n.plain plays.own in
+    ∥∥₁_map (cues_show m r is_exchange plays.met shows)
+    (λ (s : ShowsStop (key_by r.plain) r.begun (view_by r.plain) (length r.cues.items) r.cues.items r.has_stopped r.stop.words).
+    let next = stepped (key_by r.plain) r.begun (view_by r.plain) (view_by n.plain) r.cues.items r.has_stopped r.stop.words
+    (omega (arith, r.plain.counted)) is.1.0 is.1.1 s in
+    let P : Key → ℕ → List Cue → Bool → List ℕ → Type 0 = λ k b cs has ws. ShowsStop k b (view_by n.plain) 0 cs has ws in
+    subst (λ (k : Key). P k n.begun n.cues.items n.has_stopped n.stop.words) (sym is.0)
+    (subst (λ (b : ℕ). P (key_by r.plain) b n.cues.items n.has_stopped n.stop.words) (sym plays.silent.1)
+    (subst (λ cs. P (key_by r.plain) r.begun cs.items n.has_stopped n.stop.words) (sym plays.silent.0)
+    (subst (λ (has : Bool). P (key_by r.plain) r.begun r.cues.items has n.stop.words) (sym plays.silent.3)
+    (subst (λ i. P (key_by r.plain) r.begun r.cues.items r.has_stopped i.words) (sym plays.silent.4) next)))))
+
+-- with other plain moves of the same memory and company the stage is one
+pub stage_on : (r : Stage) (p : PlainMoves) → key_by p ≡ key_by r.plain → p.them ≡ r.plain.them
+    → (vec_len r.read ≡ vec_len p.words) × ((length r.stop.words ≡ vec_len p.words) × ((vec_len p.them.parties ≡ 8) × Unit {0}))
+unfolding word_count
+stage_on r p key them =
+    let same : vec_len p.words ≡ vec_len r.plain.words = omega (arith, p.length, r.plain.length, ap (λ (k : Key). word_count k) key) in
+    (r.reads ∙ sym same, (r.stop_length ∙ sym same, (ap (λ (t : Company). vec_len t.parties) them ∙ r.strangers, tt)))
+
+-- the stage with these plain moves
+abbrev pub with_plain : (r : Stage) (p : PlainMoves) → key_by p ≡ key_by r.plain → p.them ≡ r.plain.them → Stage
+with_plain r p key them = let are = stage_on r p key them in record {
+  plain = p;
+  cues = r.cues;
+  read = r.read;
+  begun = r.begun;
+  missed = r.missed;
+  skipped = r.skipped;
+  stop = r.stop;
+  has_stopped = r.has_stopped;
+  reads = are.0;
+  stop_length = are.1.0;
+  strangers = are.1.1.0;
 }

@@ -9,19 +9,19 @@ use Rattle.frame_core.specs.Image.{Contents}
 use Rattle.plain_moves.specs.declared.act.Act.{Act}
 use Rattle.plain_moves.specs.declared.act.Act.TheVariants.{TreePay}
 use Rattle.plain_moves.specs.declared.plain.PlainMoves.{PlainMoves}
-use Rattle.plain_moves.specs.declared.script.ScriptMoves.{ScriptMoves}
+use Rattle.plain_moves.specs.declared.script.stage.Stage.{Stage}
 use Rattle.plain_moves.specs.declared.script.cue.Cue.{Cue}
 use Rattle.plain_moves.specs.declared.script.cue.What.TheVariants.{Lose, Stranger, Stop}
 use Rattle.plain_moves.specs.Acts.{TheyAct}
 use Rattle.plain_moves.specs.Plain.{plain_key}
 use Rattle.plain_moves.specs.PlainState.{key_by, words_by, Loses}
-use Rattle.plain_moves.specs.Plays.{Plays, LoadsIt}
-use Rattle.plain_moves.specs.ScriptState.{at_by, skipped_by, stop_by, Meets, MeetsFirst, MeetsNext, StrangerMay}
+use Rattle.plain_moves.specs.Plays.{PlaysOn, LoadsIt}
+use Rattle.plain_moves.specs.ScriptState.{at_by, stop_in, Meets, MeetsFirst, MeetsNext, StrangerMay}
 use Rattle.plain_moves.specs.Worked.{worked_script, first_tree, five_less, five_paid, StandsFirst, StandsSecond}
 use Rattle.plain_moves.proofs.Cues.{one_cue, same_at}
 
 -- the cue at this place of the script was met
-met_at : (i : ℕ) (cue : Cue) (is_exchange : Bool) (a b : ScriptMoves) → slice_get worked_script i ≡ Some cue
+met_at : (i : ℕ) (cue : Cue) (is_exchange : Bool) (a b : Stage) → slice_get worked_script i ≡ Some cue
     → MeetsNext worked_script is_exchange i a b → Meets cue is_exchange a b
 met_at i cue is_exchange a b is next =
     subst (λ (c : Cue). Meets c is_exchange a b) (one_cue worked_script i cue next.0 is next.1.0) next.1.1
@@ -30,16 +30,16 @@ abbrev five : Act
 five = TreePay 0 5
 
 -- what the cues of move 0 leave
-record First (a r : ScriptMoves) : Type 0 where
+record First (a r : Stage) : Type 0 where
   skipped : r.skipped ≡ 1
   has_stopped : r.has_stopped ≡ true
   stop : r.stop.words ≡ words_by a.plain
-  paid : ScriptMoves
+  paid : Stage
   acts : TheyAct 0 five a.plain paid.plain
   words : words_by r.plain ≡ words_by paid.plain
   key : key_by r.plain ≡ key_by paid.plain
 
-first_cues : (a r : ScriptMoves) → StandsFirst a → StrangerMay 0 five a.plain
+first_cues : (a r : Stage) → StandsFirst a → StrangerMay 0 five a.plain
     → MeetsFirst a.cues.items false (length a.cues.items) a r → First a r
 first_cues a r stands may all =
     let met : MeetsFirst worked_script false 4 a r =
@@ -50,7 +50,7 @@ first_cues a r stands may all =
     let b3 = met.0 in
     let b2 = m3.0 in
     let b1 = m2.0 in
-    let s0 = subst (λ (m : ScriptMoves). Meets (record { at = 0; what = Stop }) false m b1) m1.1.0
+    let s0 = subst (λ (m : Stage). Meets (record { at = 0; what = Stop }) false m b1) m1.1.0
     (met_at 0 (record { at = 0; what = Stop }) false m1.0 b1 refl m1.1.1) in
     let s1 = met_at 1 (record { at = 0; what = Stranger 0 five }) false b1 b2 refl m2.1.1 in
     let s2 = met_at 2 (record { at = 0; what = Stranger 8 five }) false b2 b3 refl m3.1.1 in
@@ -68,7 +68,7 @@ first_cues a r stands may all =
     let last : r ≡ b3 = s3.passed (λ e. absurd (omega (arith, e, at3))) in
     let goes1 = h1.goes_on (λ e. absurd (cc)) in
     let goes2 = h2.goes_on (λ e. absurd (cc)) in
-    subst (λ (m : ScriptMoves). First a m) (sym last) (record {
+    subst (λ (m : Stage). First a m) (sym last) (record {
       skipped = omega (arith, not.0, made.0, h0.counts, stands.skipped);
       has_stopped = goes2.has_stopped ∙ goes1.has_stopped ∙ copies.has_stopped;
       stop = ap (λ i. i.words) goes2.stop ∙ ap (λ i. i.words) goes1.stop ∙ copies.words;
@@ -97,7 +97,7 @@ unfolding count_in
 none_paid other ne = refl
 
 -- stranger 0 may pay five frames
-may_pay : (m : ScriptMoves) → StandsFirst m → StrangerMay 0 five m.plain
+may_pay : (m : Stage) → StandsFirst m → StrangerMay 0 five m.plain
 may_pay m stands = (
   omega arith,
   (
@@ -114,14 +114,14 @@ may_pay m stands = (
 )
 
 -- Move 0, a load.
-module _ (a b : ScriptMoves) (found : ℕ) (stands : StandsFirst a) (plays : Plays false (LoadsIt (Tree 0) found) a b) where
+module _ (a b : Stage) (found : ℕ) (stands : StandsFirst a) (plays : PlaysOn false (LoadsIt (Tree 0) found) a b) where
   cues : First a plays.ready
   cues = first_cues a plays.ready stands (may_pay a stands) plays.met
 
   pays : (words_by plays.ready.plain ≡ five_paid a.plain) × (key_by plays.ready.plain ≡ key_by a.plain)
   pays = let p = they_pay a.plain cues.paid.plain cues.acts in (cues.words ∙ p.0, cues.key ∙ p.1)
 
-  pub first_skipped : skipped_by b ≡ 1
+  pub first_skipped : b.skipped ≡ 1
   first_skipped = plays.silent.2 ∙ cues.skipped
 
   pub first_words : words_by b.plain ≡ five_paid a.plain
@@ -140,22 +140,22 @@ module _ (a b : ScriptMoves) (found : ℕ) (stands : StandsFirst a) (plays : Pla
       ∙ (λ i. slice_index (pays.0 i) (tree_place (pays.1 i) 0))
       ∙ get_or-set_same (words_by a.plain) (tree_place (key_by a.plain) 0) (five_less (first_tree a.plain)) 0 within
 
-  pub first_stop : (image : Contents) × ((stop_by b ≡ Some image) × (image.words ≡ words_by a.plain))
+  pub first_stop : (image : Contents) × ((stop_in b ≡ Some image) × (image.words ≡ words_by a.plain))
   first_stop =
       let has : b.has_stopped ≡ true = plays.silent.3 ∙ cues.has_stopped in
       (b.stop, (rw has refl, ap (λ i. i.words) plays.silent.4 ∙ cues.stop))
 
 -- Move 1, an exchange that is lost.
-record Second (a r : ScriptMoves) : Type 0 where
+record Second (a r : Stage) : Type 0 where
   skipped : r.skipped ≡ a.skipped
   has_stopped : r.has_stopped ≡ a.has_stopped
   stop : r.stop ≡ a.stop
   plain : r.plain ≡ a.plain
 
-past_cue : (cue : Cue) (a b : ScriptMoves) → Meets cue true a b → at_by a ≡ 1 → cue.at ≡ 0 → b ≡ a
+past_cue : (cue : Cue) (a b : Stage) → Meets cue true a b → at_by a ≡ 1 → cue.at ≡ 0 → b ≡ a
 past_cue cue a b met at past = met.passed (λ e. absurd (omega (arith, e, at, past)))
 
-second_cues : (a r : ScriptMoves) → StandsSecond a → MeetsFirst a.cues.items true (length a.cues.items) a r → Second a r
+second_cues : (a r : Stage) → StandsSecond a → MeetsFirst a.cues.items true (length a.cues.items) a r → Second a r
 second_cues a r stands all =
     let met : MeetsFirst worked_script true 4 a r =
     subst (λ (l : List Cue). MeetsFirst l true (length l) a r) stands.script all in
@@ -169,23 +169,23 @@ second_cues a r stands all =
     let e2 : m3.0 ≡ a = past_cue _ m2.0 m3.0 s1 (ap at_by e1 ∙ stands.at) refl ∙ e1 in
     let s2 = met_at 2 (record { at = 0; what = Stranger 8 five }) true m3.0 met.0 refl m3.1.1 in
     let e3 : met.0 ≡ a = past_cue _ m3.0 met.0 s2 (ap at_by e2 ∙ stands.at) refl ∙ e2 in
-    let s3 = subst (λ (m : ScriptMoves). Meets (record { at = 1; what = Lose }) true m r) e3
+    let s3 = subst (λ (m : Stage). Meets (record { at = 1; what = Lose }) true m r) e3
     (met_at 3 (record { at = 1; what = Lose }) true met.0 r refl met.1.1) in
     let h = s3.here (sym stands.at) in
     let goes = h.goes_on (λ e. absurd (cc)) in
     record { skipped = h.counts; has_stopped = goes.has_stopped; stop = goes.stop; plain = h.loses refl }
 
-module _ (a b : ScriptMoves) (stands : StandsSecond a) (plays : Plays true Loses a b) where
+module _ (a b : Stage) (stands : StandsSecond a) (plays : PlaysOn true Loses a b) where
   left : Second a plays.ready
   left = second_cues a plays.ready stands plays.met
 
-  pub second_skipped : skipped_by b ≡ skipped_by a
+  pub second_skipped : b.skipped ≡ a.skipped
   second_skipped = plays.silent.2 ∙ left.skipped
 
   pub second_words : words_by b.plain ≡ words_by a.plain
   second_words = ap (λ v. v.items) plays.own.words ∙ ap words_by left.plain
 
-  pub second_stop : stop_by b ≡ stop_by a
+  pub second_stop : stop_in b ≡ stop_in a
   second_stop = λ i. stop_of ((plays.silent.3 ∙ left.has_stopped) i) ((plays.silent.4 ∙ left.stop) i)
     where
       stop_of : Bool → Contents → Option Contents

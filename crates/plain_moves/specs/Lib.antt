@@ -7,5 +7,7 @@ pub mod PlainState
 pub mod Script
 pub mod ScriptState
 pub mod Plays
+pub mod ScriptMoves
 pub mod ScriptLaws
+pub mod Readers
 pub mod Worked

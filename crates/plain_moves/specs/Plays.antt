@@ -5,22 +5,22 @@ use Rattle.frame_model.specs.declared.place.Place.{Place}
 use Rattle.frame_model.specs.Steps.{Kind}
 use Rattle.frame_core.specs.Mover.{Loads, Tries, Swaps, HandsOut, HandsIn}
 use Rattle.plain_moves.specs.declared.plain.PlainMoves.{PlainMoves}
-use Rattle.plain_moves.specs.declared.script.ScriptMoves.{ScriptMoves}
+use Rattle.plain_moves.specs.declared.script.stage.Stage.{Stage}
 use Rattle.plain_moves.specs.Acts.{plain_block}
 use Rattle.plain_moves.specs.Plain.{plain_tick}
 use Rattle.plain_moves.specs.PlainState.{mover_by, Loses}
 use Rattle.plain_moves.specs.ScriptState.{MeetsFirst}
 
 -- the script, the count of its cues that were not made, and the words that it shows are as before
-abbrev pub IsSilent : ScriptMoves → ScriptMoves → Type 0
+abbrev pub IsSilent : Stage → Stage → Type 0
 IsSilent old new =
     (new.cues ≡ old.cues) × (new.begun ≡ old.begun) × (new.skipped ≡ old.skipped)
     × (new.has_stopped ≡ old.has_stopped) × (new.stop ≡ old.stop)
 
 -- all cues of a move were made in their order, and then the caller's own step, which tells no more
-pub record Plays (is_exchange : Bool) (Own : PlainMoves → PlainMoves → Type 0) (old new : ScriptMoves)
+pub record PlaysOn (is_exchange : Bool) (Own : PlainMoves → PlainMoves → Type 0) (old new : Stage)
     : Type 0 where
-  pub ready : ScriptMoves
+  pub ready : Stage
   pub met : MeetsFirst old.cues.items is_exchange (length old.cues.items) old ready
   pub own : Own ready.plain new.plain
   pub silent : IsSilent ready new

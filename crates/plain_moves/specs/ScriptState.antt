@@ -1,5 +1,5 @@
 -- What moves by a script have, and what its cues and each half of a move leave.
-use Rattle.std.specs.Prelude.{◌≡◌, ◌≢◌, ◌⊎◌, ℕ, ◌+◌, ◌-◌, ◌<◌, min, List, Option, Some, None, if◌then◌else◌, Bool, true, false, MatchBool, slice_get, slice_index, length, vec_len, zero, suc}
+use Rattle.std.specs.Prelude.{◌≡◌, ◌≢◌, ◌⊎◌, ℕ, ◌+◌, ◌-◌, ◌<◌, min, List, Option, Some, None, if◌then◌else◌, Bool, true, MatchBool, slice_get, slice_index, zero, suc}
 use Rattle.std.specs.List.{All}
 use Rattle.frame_model.specs.declared.block.FrameBlock.{FrameBlock}
 use Rattle.frame_core.specs.Image.{Contents}
@@ -11,40 +11,23 @@ use Rattle.plain_moves.specs.declared.script.cue.Cue.{Cue}
 use Rattle.plain_moves.specs.declared.script.cue.What.{What}
 use Rattle.plain_moves.specs.declared.script.cue.What.TheVariants.{Lose, Stranger, Stop}
 use Rattle.plain_moves.specs.declared.plain.PlainMoves.{PlainMoves}
-use Rattle.plain_moves.specs.declared.plain.party.Party.{Party}
-use Rattle.plain_moves.specs.declared.script.ScriptMoves.{ScriptMoves}
-use Rattle.plain_moves.specs.Plain.{plain_tick, IsFresh, IsIdleParty, IsOutIn}
+use Rattle.plain_moves.specs.declared.script.stage.Stage.{Stage}
+use Rattle.plain_moves.specs.Plain.{plain_tick, IsIdleParty, IsOutIn}
 use Rattle.plain_moves.specs.PlainState.{key_by, words_by, view_by, IsStill, IsUnmoved}
 use Rattle.plain_moves.specs.Acts.{TheyAct}
 use Rattle.plain_moves.specs.Allowed.{TheyMayAct}
-use Rattle.plain_moves.specs.Script.{IsPast, NoneAt, LosesAt, NoStop, ShowsStop, StopsAt}
-
--- the words, and what the caller has in flight
-abbrev pub plain_by : ScriptMoves → PlainMoves
-plain_by m = m.plain
-
--- how many cues were reached and not made
-abbrev pub skipped_by : ScriptMoves → ℕ
-skipped_by m = m.skipped
-
--- the words just before the latest stop, once there was one
-abbrev pub stop_by : ScriptMoves → Option Contents
-stop_by m = if m.has_stopped then Some m.stop else None
+use Rattle.plain_moves.specs.Script.{IsPast, NoneAt, LosesAt, ShowsStop}
 
 -- how many moves the caller has made since the script began
-abbrev pub at_by : ScriptMoves → ℕ
+abbrev pub at_by : Stage → ℕ
 at_by m = m.plain.moves - m.begun
 
--- the script
-abbrev pub cues_by : ScriptMoves → List Cue
-cues_by m = m.cues.items
-
--- what the strangers have
-abbrev pub strangers_by : ScriptMoves → List Party
-strangers_by m = m.plain.them.parties.items
+-- the words just before the latest stop, once there was one
+abbrev pub stop_in : Stage → Option Contents
+stop_in m = if m.has_stopped then Some m.stop else None
 
 -- what the caller last found each word to be
-abbrev pub read_by : ScriptMoves → ℕ → Option ℕ
+abbrev pub read_by : Stage → ℕ → Option ℕ
 read_by m i = slice_get m.read.items i
 
 -- no cue is left, and no stranger has anything in flight
@@ -68,8 +51,8 @@ scripted plain cues read begun missed = record {
 }
 
 -- what the caller's moves have
-abbrev pub script_mover : ScriptMoves → Mover (List Cue × ℕ) FrameBlock
-script_mover m = scripted m.plain m.cues.items m.read.items m.begun m.missed
+abbrev pub stage_mover : Stage → Mover (List Cue × ℕ) FrameBlock
+stage_mover m = scripted m.plain m.cues.items m.read.items m.begun m.missed
 
 -- nobody but the caller changed anything
 pub record IsQuiet (old new : PlainMoves) : Type 0 where
@@ -77,14 +60,14 @@ pub record IsQuiet (old new : PlainMoves) : Type 0 where
   pub them : new.them ≡ old.them
 
 -- the caller knows what it did, of the same script
-pub record IsUntold (old new : ScriptMoves) : Type 0 where
+pub record IsUntold (old new : Stage) : Type 0 where
   pub cues : new.cues ≡ old.cues
   pub read : new.read ≡ old.read
   pub begun : new.begun ≡ old.begun
   pub missed : new.missed ≡ old.missed
 
 -- nothing but the plain moves has changed
-pub record IsButPlain (old new : ScriptMoves) : Type 0 where
+pub record IsButPlain (old new : Stage) : Type 0 where
   pub untold : IsUntold old new
   pub skipped : new.skipped ≡ old.skipped
   pub stop : new.stop ≡ old.stop
@@ -100,7 +83,7 @@ StrangerMay who act m = (who < 8) × TheyMayAct who act m
 
 -- a cue is counted exactly where it is not made: a loss at a move that is no exchange, and an act
 -- that its conditions do not allow, of which nothing is left; an act that they allow is made
-abbrev pub CountsCue : What → Bool → ScriptMoves → ScriptMoves → Type 0
+abbrev pub CountsCue : What → Bool → Stage → Stage → Type 0
 CountsCue Lose is_exchange old new =
     MatchBool is_exchange (new.skipped ≡ old.skipped) (new.skipped ≡ one_skipped old.skipped)
 CountsCue (Stranger who act) is_exchange old new =
@@ -111,19 +94,19 @@ CountsCue (Stranger who act) is_exchange old new =
 CountsCue Stop is_exchange old new = new.skipped ≡ old.skipped
 
 -- the words were copied
-pub record Copies (old new : ScriptMoves) : Type 0 where
+pub record Copies (old new : Stage) : Type 0 where
   pub plain : new.plain ≡ old.plain
   pub has_stopped : new.has_stopped ≡ true
   pub words : new.stop.words ≡ words_by old.plain
 
 -- the words that are shown are as before
-pub record ShowsSame (old new : ScriptMoves) : Type 0 where
+pub record ShowsSame (old new : Stage) : Type 0 where
   pub has_stopped : new.has_stopped ≡ old.has_stopped
   pub stop : new.stop ≡ old.stop
 
 -- the cue happens: only a stranger changes words, only a stop copies them, and what is not made is
 -- counted
-pub record CueHappens (cue : Cue) (is_exchange : Bool) (old new : ScriptMoves) : Type 0 where
+pub record CueHappens (cue : Cue) (is_exchange : Bool) (old new : Stage) : Type 0 where
   pub still : IsStill old.plain new.plain
   pub untold : IsUntold old new
   pub counts : CountsCue cue.what is_exchange old new
@@ -132,40 +115,39 @@ pub record CueHappens (cue : Cue) (is_exchange : Bool) (old new : ScriptMoves) :
   pub goes_on : cue.what ≢ Stop → ShowsSame old new
 
 -- the cue happens where it is for the next move; where it is not, nothing changes
-pub record Meets (cue : Cue) (is_exchange : Bool) (old new : ScriptMoves) : Type 0 where
+pub record Meets (cue : Cue) (is_exchange : Bool) (old new : Stage) : Type 0 where
   pub here : cue.at ≡ at_by old → CueHappens cue is_exchange old new
   pub passed : cue.at ≢ at_by old → new ≡ old
 
 -- the cue loses the next move, an exchange
-abbrev pub LosesBy : Cue → Bool → ScriptMoves → Type 0
+abbrev pub LosesBy : Cue → Bool → Stage → Type 0
 LosesBy cue is_exchange m = (cue.at ≡ at_by m) × ((is_exchange ≡ true) × (cue.what ≡ Lose))
 
 -- the cue at this place of the script was met
-abbrev pub MeetsNext : List Cue → Bool → ℕ → ScriptMoves → ScriptMoves → Type 0
+abbrev pub MeetsNext : List Cue → Bool → ℕ → Stage → Stage → Type 0
 MeetsNext cues is_exchange place old new =
     (cue : Cue) × ((slice_get cues place ≡ Some cue) × Meets cue is_exchange old new)
 
 -- the first n cues of the script were met, one after another, in their order
-abbrev pub MeetsFirst : List Cue → Bool → ℕ → ScriptMoves → ScriptMoves → Type 0
+abbrev pub MeetsFirst : List Cue → Bool → ℕ → Stage → Stage → Type 0
 MeetsFirst cues is_exchange zero old new = new ≡ old
 MeetsFirst cues is_exchange (suc n) old new =
-    (between : ScriptMoves) × (MeetsFirst cues is_exchange n old between
+    (between : Stage) × (MeetsFirst cues is_exchange n old between
     × MeetsNext cues is_exchange n between new)
 
 -- the script shows the words of the last stop before place i of the next move
-abbrev pub ShowsTo : ℕ → ScriptMoves → Type 0
+abbrev pub ShowsTo : ℕ → Stage → Type 0
 ShowsTo i m =
-    ∥ ShowsStop (key_by m.plain) m.begun (at_by m) i m.cues.items m.has_stopped m.stop.words ∥₁
+    ∥ ShowsStop (key_by m.plain) m.begun (view_by m.plain) i m.cues.items m.has_stopped m.stop.words ∥₁
 
 -- all cues of the next move were made, and the caller's part is as before
-pub record IsReady (old new : ScriptMoves) : Type 0 where
+pub record IsReady (old new : Stage) : Type 0 where
   pub still : IsStill old.plain new.plain
   pub untold : IsUntold old new
   pub quiet : NoneAt (at_by old) old.cues.items → IsQuiet old.plain new.plain
-  pub shows : ShowsTo (length new.cues.items) new
 
 -- all cues of an exchange were made, and it was lost
-pub record IsLost (place seen : ℕ) (old new : ScriptMoves) : Type 0 where
+pub record IsLost (place seen : ℕ) (old new : Stage) : Type 0 where
   pub key : key_by new.plain ≡ key_by old.plain
   pub view : view_by new.plain ≡ after_loss plain_tick (view_by old.plain)
   pub outs : new.plain.outs ≡ old.plain.outs
@@ -180,36 +162,9 @@ pub record IsLost (place seen : ℕ) (old new : ScriptMoves) : Type 0 where
       → (slice_index (words_by old.plain) place ≢ seen) × IsQuiet old.plain new.plain
 
 -- the caller's own step was made, and it found the word of that place
-pub record FindsWord (place : ℕ) (old new : ScriptMoves) : Type 0 where
+pub record FindsWord (place : ℕ) (old new : Stage) : Type 0 where
   pub plain : new.plain ≡ old.plain
   pub cues : new.cues ≡ old.cues
   pub begun : new.begun ≡ old.begun
   pub missed : new.missed ≡ old.missed
   pub reads : ReadsBut place (read_by old) (read_by new)
-
--- the script begins over these moves: eight strangers came, each with one share and nothing in flight,
--- who have handed out no block, and no cue was reached
-pub record Follows (plain : PlainMoves) (cues : List Cue) (m : ScriptMoves) : Type 0 where
-  pub key : key_by m.plain ≡ key_by plain
-  pub view : view_by m.plain ≡ view_by plain
-  pub words : words_by m.plain ≡ words_by plain
-  pub outs : m.plain.outs ≡ plain.outs
-  pub reads : (i : ℕ) → read_by m i ≡ slice_get (words_by plain) i
-  pub script : m.cues.items ≡ cues
-  pub at : at_by m ≡ 0
-  pub begun : m.begun ≡ (view_by plain).moves
-  pub skipped : m.skipped ≡ 0
-  pub missed : m.missed ≡ false
-  pub stop : m.has_stopped ≡ false
-  pub tells : (script_mover m).words ≡ Some (words_by plain)
-  pub eight : vec_len m.plain.them.parties ≡ 8
-  pub fresh : All IsFresh (strangers_by m)
-  pub none_out : (b : FrameBlock) → IsOutIn m.plain.them.outs.items b → ⊥
-
--- these words stood just before the move of the last cue Stop of all moves so far
-abbrev pub IsStopOf : ScriptMoves → List ℕ → Type 0
-IsStopOf m ws = ∥ StopsAt (key_by m.plain) m.begun (at_by m) 0 m.cues.items ws ∥₁
-
--- no cue Stop was reached
-abbrev pub IsUnstopped : ScriptMoves → Type 0
-IsUnstopped m = NoStop (at_by m) 0 m.cues.items

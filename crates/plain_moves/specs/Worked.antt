@@ -7,9 +7,9 @@ use Rattle.plain_moves.specs.declared.script.cue.Cue.{Cue}
 use Rattle.plain_moves.specs.declared.script.cue.What.TheVariants.{Lose, Stranger, Stop}
 use Rattle.plain_moves.specs.declared.plain.PlainMoves.{PlainMoves}
 use Rattle.plain_moves.specs.declared.plain.party.Party.{Party}
-use Rattle.plain_moves.specs.declared.script.ScriptMoves.{ScriptMoves}
+use Rattle.plain_moves.specs.declared.script.stage.Stage.{Stage}
 use Rattle.plain_moves.specs.PlainState.{key_by, words_by}
-use Rattle.plain_moves.specs.ScriptState.{at_by, cues_by, plain_by, skipped_by, strangers_by}
+use Rattle.plain_moves.specs.ScriptState.{at_by}
 
 -- just before move 0 a stop, a payment of five frames by stranger 0, and one by stranger 8, whom there
 -- is not; just before move 1 a loss
@@ -34,16 +34,16 @@ abbrev pub five_paid : PlainMoves → List ℕ
 five_paid m = slice_set (words_by m) (tree_place (key_by m) 0) (five_less (first_tree m))
 
 -- the script stands before move 0, tree 0 has five free frames, and stranger 0 has paid none
-pub record StandsFirst (m : ScriptMoves) : Type 0 where
-  pub script : cues_by m ≡ worked_script
+pub record StandsFirst (m : Stage) : Type 0 where
+  pub script : m.cues.items ≡ worked_script
   pub at : at_by m ≡ 0
-  pub skipped : skipped_by m ≡ 0
-  pub enough : 5 ≤ free_in (first_tree (plain_by m))
+  pub skipped : m.skipped ≡ 0
+  pub enough : 5 ≤ free_in (first_tree m.plain)
   pub stranger : Party
-  pub is_first : slice_get (strangers_by m) 0 ≡ Some stranger
+  pub is_first : slice_get m.plain.them.parties.items 0 ≡ Some stranger
   pub idle : stranger.paid ≡ None
 
 -- the script stands before move 1
-pub record StandsSecond (m : ScriptMoves) : Type 0 where
-  pub script : cues_by m ≡ worked_script
+pub record StandsSecond (m : Stage) : Type 0 where
+  pub script : m.cues.items ≡ worked_script
   pub at : at_by m ≡ 1

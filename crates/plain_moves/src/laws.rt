@@ -1,14 +1,38 @@
-//! What holds of every mover by a script: laws, proved as contracts of a function that does nothing.
+//! What holds of every mover by a script, and of every image: laws, proved as contracts of
+//! functions that do nothing.
 
-ghost use Rattle.std.specs.Prelude.{◌≡◌, ◌<◌, ℕ, [], Some, None, true, false, slice_get};
-ghost use Rattle.frame_core.specs.Image.{Contents};
+ghost use Rattle.std.specs.Prelude.{◌≡◌, ℕ, ◌+◌, ◌*◌, ◌<◌, ◌≤◌, List, [], Option, Some, None, Bool, true, false, slice_get};
+ghost use Rattle.std.specs.Option.{ForSome};
+ghost use Rattle.frame_words.specs.Words.{flag, entry_word, local_word};
+ghost use Rattle.frame_core.specs.Image.{Contents, key_in, FitsTree, IsImage, with_child};
+ghost use Rattle.frame_model.specs.Key.{size_of, tree_count};
+ghost use Rattle.frame_model.specs.Words.{with_entry, with_bits, with_tree, with_local};
 ghost use Rattle.frame_model.specs.Steps.{Kind};
 ghost use Rattle.plain_moves.specs.declared.plain.party.Party.{Party};
 ghost use Rattle.plain_moves.specs.declared.script.ScriptMoves.{ScriptMoves};
 ghost use Rattle.plain_moves.specs.declared.script.cue.Cue.{Cue};
 ghost use Rattle.plain_moves.specs.PlainState.{words_by};
-ghost use Rattle.plain_moves.specs.Plays.{Plays, LoadsIt, TriesIt};
-ghost use Rattle.plain_moves.specs.ScriptState.{plain_by, at_by, cues_by, skipped_by, stop_by, strangers_by};
+ghost use Rattle.plain_moves.specs.Readers.{
+  AreBits,
+  ReadsChild,
+  ReadsCore,
+  ReadsEntry,
+  ReadsTree,
+  ReadsWord,
+};
+ghost use Rattle.plain_moves.specs.Plays.{LoadsIt, TriesIt};
+ghost use Rattle.plain_moves.specs.ScriptMoves.{
+  plain_by,
+  cues_by,
+  next_by,
+  skipped_by,
+  stage_by,
+  stop_by,
+  strangers_by,
+  IsStopOf,
+  IsUnstopped,
+  Plays,
+};
 ghost use Rattle.plain_moves.specs.Worked.{
   StandsFirst,
   StandsSecond,
@@ -23,21 +47,30 @@ use frame_model::Place;
 
 /// A mover by a script always knows its words. It is undisturbed where only cues `Stop` stand at
 /// its next move, alone once every cue is past and no stranger has anything in flight, and loses
-/// its next exchange at will exactly where a cue `Lose` stands at it.
+/// its next exchange at will exactly where a cue `Lose` stands at it. A stop that it shows stood at
+/// an earlier move, and where it shows none, none did.
 pub fn scripts_are_honest()
     ensures words { (m : ScriptMoves) → (⟦<ScriptMoves as Moves>⟧.at m).words
         ≡ Some (words_by (plain_by m)) }
     ensures between { (m : ScriptMoves) → ((k : ℕ) (cue : Cue) → slice_get (cues_by m) k ≡ Some cue
-        → cue.at ≡ at_by m → cue.what ≡ What.Stop) → (⟦<ScriptMoves as Moves>⟧.at m).is_undisturbed }
+        → cue.at ≡ next_by m → cue.what ≡ What.Stop)
+        → (⟦<ScriptMoves as Moves>⟧.at m).is_undisturbed }
     ensures over { (m : ScriptMoves) → ((k : ℕ) (cue : Cue) → slice_get (cues_by m) k ≡ Some cue
-        → cue.at < at_by m) → ((k : ℕ) (p : Party) → slice_get (strangers_by m) k ≡ Some p
+        → cue.at < next_by m) → ((k : ℕ) (p : Party) → slice_get (strangers_by m) k ≡ Some p
         → (p.paid ≡ None) × (p.charged ≡ None) × (p.reserving ≡ None) × (p.own.items ≡ []))
         → (⟦<ScriptMoves as Moves>⟧.at m).is_alone }
     ensures loses { (m : ScriptMoves) (k : ℕ) (cue : Cue) → slice_get (cues_by m) k ≡ Some cue
-        → cue.at ≡ at_by m → cue.what ≡ What.Lose → (⟦<ScriptMoves as Moves>⟧.at m).loses_at_will }
+        → cue.at ≡ next_by m → cue.what ≡ What.Lose
+        → (⟦<ScriptMoves as Moves>⟧.at m).loses_at_will }
     ensures at_will { (m : ScriptMoves) → (⟦<ScriptMoves as Moves>⟧.at m).loses_at_will
         → (cue : Cue) × (((k : ℕ) × (slice_get (cues_by m) k ≡ Some cue))
-        × ((cue.at ≡ at_by m) × (cue.what ≡ What.Lose))) }
+        × ((cue.at ≡ next_by m) × (cue.what ≡ What.Lose))) }
+    ensures stopped { (m : ScriptMoves) (ws : List ℕ) → IsStopOf m ws
+        → (plain_by m).moves < 18446744073709551615
+        → ∥ ((cue : Cue) × (((k : ℕ) × (slice_get (cues_by m) k ≡ Some cue))
+        × ((cue.at < next_by m) × (cue.what ≡ What.Stop)))) ∥₁ }
+    ensures unstopped { (m : ScriptMoves) (k : ℕ) (cue : Cue) → IsUnstopped m
+        → slice_get (cues_by m) k ≡ Some cue → cue.what ≡ What.Stop → next_by m ≤ cue.at }
 {}
 
 /// What comes of one script. Just before a load of tree 0 it stops, then stranger 0 pays five
@@ -45,20 +78,49 @@ pub fn scripts_are_honest()
 /// to be lost. So the load finds five free frames less than the words that the stop shows, nothing
 /// else has changed, and one cue is skipped; the lost exchange changes no word, and nothing of this.
 pub fn a_script_is_followed()
-    ensures pays { (old new : ScriptMoves) (found : ℕ) → StandsFirst old
+    ensures pays { (old new : ScriptMoves) (found : ℕ) → StandsFirst (stage_by old)
         → Plays false (LoadsIt (Place.Tree 0) found) old new
         → words_by (plain_by new) ≡ five_paid (plain_by old) }
-    ensures found { (old new : ScriptMoves) (found : ℕ) → StandsFirst old
+    ensures found { (old new : ScriptMoves) (found : ℕ) → StandsFirst (stage_by old)
         → Plays false (LoadsIt (Place.Tree 0) found) old new
         → found ≡ five_less (first_tree (plain_by old)) }
-    ensures stopped { (old new : ScriptMoves) (found : ℕ) → StandsFirst old
+    ensures stopped { (old new : ScriptMoves) (found : ℕ) → StandsFirst (stage_by old)
         → Plays false (LoadsIt (Place.Tree 0) found) old new
         → (image : Contents) × ((stop_by new ≡ Some image)
         × (image.words ≡ words_by (plain_by old))) }
-    ensures skipped { (old new : ScriptMoves) (found : ℕ) → StandsFirst old
+    ensures skipped { (old new : ScriptMoves) (found : ℕ) → StandsFirst (stage_by old)
         → Plays false (LoadsIt (Place.Tree 0) found) old new → skipped_by new ≡ 1 }
-    ensures lost { (old new : ScriptMoves) (kind : Kind) (seen : ℕ) → StandsSecond old
+    ensures lost { (old new : ScriptMoves) (kind : Kind) (seen : ℕ) → StandsSecond (stage_by old)
         → Plays true (TriesIt kind seen false) old new
         → (words_by (plain_by new) ≡ words_by (plain_by old))
         × ((stop_by new ≡ stop_by old) × (skipped_by new ≡ skipped_by old)) }
+{}
+
+/// What is written into an image is what its readers then say, and all else that they say is as it
+/// was: the other children, the trees, the cores.
+pub fn every_write_is_read_back()
+    ensures entry { (image : Contents) (child free : ℕ) (huge : Bool)
+        → IsImage (key_in image) image.words → child < (key_in image).children → free ≤ 512
+        → ReadsEntry (key_in image) child free huge image.words
+        (with_entry image.words child (entry_word free (flag huge))) }
+    ensures word { (image : Contents) (word bits : ℕ) → IsImage (key_in image) image.words
+        → word < 8 * (key_in image).children
+        → ReadsWord (key_in image) word bits image.words
+        (with_bits (key_in image) image.words word bits) }
+    ensures child { (image : Contents) (child free : ℕ) (huge : Bool) (bits : List ℕ)
+        → IsImage (key_in image) image.words → child < (key_in image).children → free ≤ 512
+        → (huge ≡ true → 512 * (child + 1) ≤ image.geometry.frames)
+        → AreBits (key_in image) child bits
+        → ReadsChild (key_in image) child free huge bits image.words
+        (with_child (key_in image) image.words child (entry_word free (flag huge)) bits) }
+    ensures tree { (image : Contents) (tree free : ℕ) (reserved : Bool)
+        → IsImage (key_in image) image.words → tree < tree_count (key_in image)
+        → free ≤ size_of (key_in image) tree
+        → ReadsTree (key_in image) tree free reserved image.words
+        (with_tree (key_in image) image.words tree (entry_word free (flag reserved))) }
+    ensures core { (image : Contents) (core : ℕ) (rest : Option (ℕ × ℕ))
+        → IsImage (key_in image) image.words → core < (key_in image).cores
+        → ForSome rest (FitsTree (key_in image))
+        → ReadsCore (key_in image) core rest image.words
+        (with_local (key_in image) image.words core (local_word rest)) }
 {}

@@ -3,43 +3,32 @@
 mod cue;
 mod cues;
 mod moves;
+mod stage;
 
-ghost use Rattle.std.specs.Prelude.{◌≡◌, ◌<◌, ◌-◌, ℕ, List, [], None, Some, MatchOption, length, vec_len, IfSome, IfOk, IfErr};
+ghost use Rattle.std.specs.Prelude.{◌≡◌, ℕ, List, [], None, Some, MatchOption, IfOk, IfErr};
 ghost use Rattle.frame_model.specs.declared.key.Key.{Key};
-ghost use Rattle.plain_moves.specs.Plain.{plain_key, Begins};
-ghost use Rattle.plain_moves.specs.Script.{ShowsStop};
+ghost use Rattle.plain_moves.specs.Plain.{Begins};
+ghost use Rattle.plain_moves.specs.ScriptState.{ShowsTo};
 
 use super::plain::PlainMoves;
 use super::plain::party::Company;
 pub use cue::{Cue, What};
 use frame_core::{Image, Moves};
+use stage::Stage;
 use std::alloc::Global;
 
 /// The moves of one caller over plain words. A script says at which of them an exchange is lost,
 /// where one of eight strangers makes a move of its own, and where the words are copied.
 #[derive(Drop)]
 pub struct ScriptMoves {
-    plain: PlainMoves,
-    cues: Vec<Cue>,
-    // What the caller last found each word to be.
-    read: Vec<u64>,
-    // How many moves the caller had made when the script began.
-    begun: u64,
-    missed: bool,
-    skipped: u32,
-    // The words just before the latest stop, once there was one.
-    stop: Image,
-    has_stopped: bool,
-    pub ghost reads: { vec_len read ≡ vec_len plain.words },
-    pub ghost stop_length: { length stop.words ≡ vec_len plain.words },
-    pub ghost strangers: { vec_len plain.them.parties ≡ 8 },
-    pub ghost shows: { ∥ ShowsStop (plain_key plain.geometry plain.sealed) begun (plain.moves - begun) 0
-        cues.items has_stopped stop.words ∥₁ },
+    stage: Stage,
+    // Between two moves no cue of the next one was met.
+    pub ghost shows: { ShowsTo 0 stage },
 }
 
 impl ScriptMoves {
     ghost use Rattle.plain_moves.specs.PlainState.{words_by, IsByItself};
-    ghost use Rattle.plain_moves.specs.ScriptState.{
+    ghost use Rattle.plain_moves.specs.ScriptMoves.{
       plain_by,
       skipped_by,
       stop_by,
@@ -71,14 +60,16 @@ impl ScriptMoves {
         plain.admit(them);
         let begun = plain.moves();
         Ok(ScriptMoves {
-            plain,
-            cues,
-            read,
-            begun,
-            missed: false,
-            skipped: 0,
-            stop,
-            has_stopped: false,
+            stage: Stage {
+                plain,
+                cues,
+                read,
+                begun,
+                missed: false,
+                skipped: 0,
+                stop,
+                has_stopped: false,
+            },
         })
     }
 
@@ -87,7 +78,7 @@ impl ScriptMoves {
     pub fn skipped(&self) -> u32
         ensures { result ≡ skipped_by self.now }
     {
-        self.skipped
+        self.stage.skipped
     }
 
     /// The words as they stood just before the move of the latest `Stop`, if one was reached. Of two
@@ -98,16 +89,16 @@ impl ScriptMoves {
         ensures words { MatchOption result (IsUnstopped self.now)
             (λ image. IsStopOf self.now image.now.words) }
     {
-        if !self.has_stopped {
+        if !self.stage.has_stopped {
             return None;
         }
-        Some(&self.stop)
+        Some(&self.stage.stop)
     }
 
     /// The words, and what the caller has in flight.
     pub fn plain(&self) -> &PlainMoves
         ensures { result.now ≡ plain_by self.now }
     {
-        &self.plain
+        &self.stage.plain
     }
 }

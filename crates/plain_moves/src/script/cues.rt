@@ -18,11 +18,12 @@ ghost use Rattle.plain_moves.specs.ScriptState.{
   StrangerMay,
 };
 
-use super::{Cue, ScriptMoves, What};
+use super::stage::Stage;
+use super::{Cue, What};
 use crate::act::Act;
 use crate::plain::party::STRANGERS;
 
-impl ScriptMoves {
+impl Stage {
     // Makes all cues of the next move, in their order; answers whether it is to be lost.
     pub(crate) fn prompt(&mut self, is_exchange: bool) -> bool
         ensures ready { IsReady self.old self.new }

@@ -2,20 +2,21 @@
 
 ghost use Rattle.std.specs.Prelude.{◌≡◌, ℕ, List, Some, true, false, length, slice_get, slice_index};
 ghost use Rattle.frame_core.specs.Moves.{place_of, IsPlace};
-ghost use Rattle.plain_moves.specs.declared.script.ScriptMoves.{ScriptMoves};
+ghost use Rattle.plain_moves.specs.declared.script.stage.Stage.{Stage};
 ghost use Rattle.plain_moves.specs.PlainState.{key_by, words_by, Loses};
-ghost use Rattle.plain_moves.specs.Plays.{Plays, IsSilent};
+ghost use Rattle.plain_moves.specs.Plays.{PlaysOn, IsSilent};
 ghost use Rattle.plain_moves.specs.Script.{LosesAt};
 ghost use Rattle.plain_moves.specs.ScriptState.{at_by, read_by, FindsWord, IsLost, IsReady, MeetsFirst};
 
 use super::ScriptMoves;
+use super::stage::Stage;
 use frame_core::Moves;
 use frame_model::{Place, PlainBlock};
 use frame_words::Geometry;
 
-impl ScriptMoves {
+impl Stage {
     // The word is found as it stands.
-    fn find(&mut self, place: Place) -> u64
+    pub(crate) fn find(&mut self, place: Place) -> u64
         requires { IsPlace (key_by self.old.plain) place }
         ensures found { FindsWord (place_of (key_by self.old.plain) place) self.old self.new }
         ensures value { slice_index (words_by self.old.plain)
@@ -29,7 +30,7 @@ impl ScriptMoves {
     }
 
     // The cues of an exchange are made; answers whether it is lost, on purpose or to a stranger.
-    fn loses(&mut self, place: Place, seen: u64) -> bool
+    pub(crate) fn loses(&mut self, place: Place, seen: u64) -> bool
         requires { IsPlace (key_by self.old.plain) place }
         ensures ready { result ≡ false → IsReady self.old self.new }
         ensures stands { result ≡ false → slice_get (words_by self.new.plain)
@@ -38,7 +39,7 @@ impl ScriptMoves {
             → IsLost (place_of (key_by self.old.plain) place) seen self.old self.new }
         ensures met { result ≡ false → MeetsFirst self.old.cues.items true
             (length self.old.cues.items) self.old self.new }
-        ensures plays { result ≡ true → Plays true Loses self.old self.new }
+        ensures plays { result ≡ true → PlaysOn true Loses self.old self.new }
         ensures obeys { LosesAt (at_by self.old) self.old.cues.items → result ≡ true }
     {
         if !self.prompt(true) && self.plain.stands(place) == seen {
@@ -55,7 +56,7 @@ impl Moves for ScriptMoves {
     ghost use Rattle.plain_moves.specs.Plain.{plain_tick, is_plain_exact};
     ghost use Rattle.plain_moves.specs.PlainLaws.{plain_outs, plain_fills, plain_sizes, plain_ticks};
     ghost use Rattle.plain_moves.specs.ScriptLaws.{script_fits, over_is_quiet};
-    ghost use Rattle.plain_moves.specs.ScriptState.{script_mover, plain_by};
+    ghost use Rattle.plain_moves.specs.ScriptMoves.{script_mover, plain_by, stage_by, Plays};
     ghost use Rattle.plain_moves.specs.declared.script.cue.Cue.{Cue};
     ghost use Rattle.frame_model.specs.Block.{block};
     ghost use Rattle.frame_model.specs.Steps.{
@@ -103,30 +104,30 @@ impl Moves for ScriptMoves {
 
     ghost fits = { script_fits };
 
-    ghost outs_are_blocks = { λ m b o. plain_outs _ _ _ _ b m.plain.agrees o };
+    ghost outs_are_blocks = { λ m b o. plain_outs _ _ _ _ b m.stage.plain.agrees o };
 
-    ghost stays_alone = { over_is_quiet };
+    ghost stays_alone = { λ m. over_is_quiet (stage_by m) };
 
-    ghost sizes = { λ m. plain_sizes m.plain.geometry m.plain.sealed };
+    ghost sizes = { λ m. plain_sizes m.stage.plain.geometry m.stage.plain.sealed };
 
-    ghost fills_own = { λ m none. plain_fills _ _ _ _ m.plain.agrees none };
+    ghost fills_own = { λ m none. plain_fills _ _ _ _ m.stage.plain.agrees none };
 
     ghost ticks = { plain_ticks };
 
     fn geometry(&self) -> Geometry {
-        self.plain.geometry()
+        self.stage.plain.geometry()
     }
 
     fn missed(&self) -> bool {
-        self.missed
+        self.stage.missed
     }
 
     fn clear_missed(&mut self)
         ensures clears { Clears (script_mover self.old) (script_mover self.new) }
-        ensures silent { IsSilent self.old self.new }
+        ensures silent { IsSilent (stage_by self.old) (stage_by self.new) }
         ensures plain { plain_by self.new ≡ plain_by self.old }
     {
-        self.missed = false;
+        self.stage.missed = false;
     }
 
     fn load(&mut self, place: Place) -> u64
@@ -134,9 +135,9 @@ impl Moves for ScriptMoves {
         ensures loads { Loads plain_tick place result (script_mover self.old) (script_mover self.new) }
         ensures plays { Plays false (LoadsIt place result) self.old self.new }
     {
-        self.prompt(false);
-        self.plain.load(place);
-        self.find(place)
+        self.stage.prompt(false);
+        self.stage.plain.load(place);
+        self.stage.find(place)
     }
 
     fn charge(&mut self, child: u32, seen: u64, n: u32) -> bool
@@ -145,11 +146,11 @@ impl Moves for ScriptMoves {
             (script_mover self.old) (script_mover self.new) }
         ensures plays { Plays true (TriesIt (charge child seen n) seen result) self.old self.new }
     {
-        if self.loses(Place::Entry(child), seen) {
+        if self.stage.loses(Place::Entry(child), seen) {
             return false;
         }
-        let made = self.plain.charge(child, seen, n);
-        self.find(Place::Entry(child));
+        let made = self.stage.plain.charge(child, seen, n);
+        self.stage.find(Place::Entry(child));
         made
     }
 
@@ -158,9 +159,9 @@ impl Moves for ScriptMoves {
         ensures makes { Makes plain_tick (refund child n) (script_mover self.old) (script_mover self.new) }
         ensures plays { Plays false (MakesIt (refund child n)) self.old self.new }
     {
-        self.prompt(false);
-        self.plain.refund(child, n);
-        self.find(Place::Entry(child));
+        self.stage.prompt(false);
+        self.stage.plain.refund(child, n);
+        self.stage.find(Place::Entry(child));
     }
 
     fn claim(&mut self, word: u32, seen: u64, mask: u64) -> bool
@@ -171,11 +172,11 @@ impl Moves for ScriptMoves {
         ensures plays { Plays true (λ a b. OfRun mask (λ from order.
             TriesIt (claim word seen from order) seen result a b)) self.old self.new }
     {
-        if self.loses(Place::Bits(word), seen) {
+        if self.stage.loses(Place::Bits(word), seen) {
             return false;
         }
-        let made = self.plain.claim(word, seen, mask);
-        self.find(Place::Bits(word));
+        let made = self.stage.plain.claim(word, seen, mask);
+        self.stage.find(Place::Bits(word));
         made
     }
 
@@ -187,9 +188,9 @@ impl Moves for ScriptMoves {
         ensures plays { Plays false (λ a b. OfRun mask (λ from order.
             MakesIt (release_run word from order) a b)) self.old self.new }
     {
-        self.prompt(false);
-        self.plain.release(word, mask);
-        self.find(Place::Bits(word));
+        self.stage.prompt(false);
+        self.stage.plain.release(word, mask);
+        self.stage.find(Place::Bits(word));
     }
 
     fn take_huge(&mut self, child: u32, seen: u64) -> bool
@@ -198,11 +199,11 @@ impl Moves for ScriptMoves {
             (script_mover self.old) (script_mover self.new) }
         ensures plays { Plays true (TriesIt (take_huge child seen) seen result) self.old self.new }
     {
-        if self.loses(Place::Entry(child), seen) {
+        if self.stage.loses(Place::Entry(child), seen) {
             return false;
         }
-        let made = self.plain.take_huge(child, seen);
-        self.find(Place::Entry(child));
+        let made = self.stage.plain.take_huge(child, seen);
+        self.stage.find(Place::Entry(child));
         made
     }
 
@@ -211,9 +212,9 @@ impl Moves for ScriptMoves {
         ensures makes { Makes plain_tick (give_whole child) (script_mover self.old) (script_mover self.new) }
         ensures plays { Plays false (MakesIt (give_whole child)) self.old self.new }
     {
-        self.prompt(false);
-        self.plain.give_huge(child);
-        self.find(Place::Entry(child));
+        self.stage.prompt(false);
+        self.stage.plain.give_huge(child);
+        self.stage.find(Place::Entry(child));
     }
 
     fn hand_out(&mut self, frame: u32, order: u8) -> PlainBlock
@@ -222,8 +223,8 @@ impl Moves for ScriptMoves {
             (script_mover self.old) (script_mover self.new) }
         ensures plays { Plays false (HandsItOut (block frame order) result) self.old self.new }
     {
-        self.prompt(false);
-        self.plain.hand_out(frame, order)
+        self.stage.prompt(false);
+        self.stage.plain.hand_out(frame, order)
     }
 
     fn hand_in(&mut self, held: PlainBlock)
@@ -231,8 +232,8 @@ impl Moves for ScriptMoves {
         ensures hands_in { HandsIn plain_tick plain_block held (script_mover self.old) (script_mover self.new) }
         ensures plays { Plays false (HandsItIn held) self.old self.new }
     {
-        self.prompt(false);
-        self.plain.hand_in(held);
+        self.stage.prompt(false);
+        self.stage.plain.hand_in(held);
     }
 
     fn tree_pay(&mut self, tree: u32, seen: u64, n: u32) -> bool
@@ -241,11 +242,11 @@ impl Moves for ScriptMoves {
             (script_mover self.old) (script_mover self.new) }
         ensures plays { Plays true (TriesIt (tree_pay tree seen n) seen result) self.old self.new }
     {
-        if self.loses(Place::Tree(tree), seen) {
+        if self.stage.loses(Place::Tree(tree), seen) {
             return false;
         }
-        let made = self.plain.tree_pay(tree, seen, n);
-        self.find(Place::Tree(tree));
+        let made = self.stage.plain.tree_pay(tree, seen, n);
+        self.stage.find(Place::Tree(tree));
         made
     }
 
@@ -254,9 +255,9 @@ impl Moves for ScriptMoves {
         ensures makes { Makes plain_tick (tree_refund tree n) (script_mover self.old) (script_mover self.new) }
         ensures plays { Plays false (MakesIt (tree_refund tree n)) self.old self.new }
     {
-        self.prompt(false);
-        self.plain.tree_refund(tree, n);
-        self.find(Place::Tree(tree));
+        self.stage.prompt(false);
+        self.stage.plain.tree_refund(tree, n);
+        self.stage.find(Place::Tree(tree));
     }
 
     fn reserve(&mut self, tree: u32, seen: u64) -> bool
@@ -265,11 +266,11 @@ impl Moves for ScriptMoves {
             (script_mover self.old) (script_mover self.new) }
         ensures plays { Plays true (TriesIt (reserve tree seen) seen result) self.old self.new }
     {
-        if self.loses(Place::Tree(tree), seen) {
+        if self.stage.loses(Place::Tree(tree), seen) {
             return false;
         }
-        let made = self.plain.reserve(tree, seen);
-        self.find(Place::Tree(tree));
+        let made = self.stage.plain.reserve(tree, seen);
+        self.stage.find(Place::Tree(tree));
         made
     }
 
@@ -278,9 +279,9 @@ impl Moves for ScriptMoves {
         ensures swaps { Swaps plain_tick core put result (script_mover self.old) (script_mover self.new) }
         ensures plays { Plays false (SwapsIt core put result) self.old self.new }
     {
-        self.prompt(false);
-        let rest = self.plain.swap_local(core, put);
-        self.find(Place::Local(core));
+        self.stage.prompt(false);
+        let rest = self.stage.plain.swap_local(core, put);
+        self.stage.find(Place::Local(core));
         rest
     }
 
@@ -289,9 +290,9 @@ impl Moves for ScriptMoves {
         ensures makes { Makes plain_tick (unreserve tree n) (script_mover self.old) (script_mover self.new) }
         ensures plays { Plays false (MakesIt (unreserve tree n)) self.old self.new }
     {
-        self.prompt(false);
-        self.plain.unreserve(tree, n);
-        self.find(Place::Tree(tree));
+        self.stage.prompt(false);
+        self.stage.plain.unreserve(tree, n);
+        self.stage.find(Place::Tree(tree));
     }
 
     fn local_pay(&mut self, core: u32, seen: u64, n: u32) -> bool
@@ -300,11 +301,11 @@ impl Moves for ScriptMoves {
             (script_mover self.old) (script_mover self.new) }
         ensures plays { Plays true (TriesIt (local_pay core seen n) seen result) self.old self.new }
     {
-        if self.loses(Place::Local(core), seen) {
+        if self.stage.loses(Place::Local(core), seen) {
             return false;
         }
-        let made = self.plain.local_pay(core, seen, n);
-        self.find(Place::Local(core));
+        let made = self.stage.plain.local_pay(core, seen, n);
+        self.stage.find(Place::Local(core));
         made
     }
 
@@ -314,11 +315,11 @@ impl Moves for ScriptMoves {
             (script_mover self.old) (script_mover self.new) }
         ensures plays { Plays true (TriesIt (local_refund core seen n) seen result) self.old self.new }
     {
-        if self.loses(Place::Local(core), seen) {
+        if self.stage.loses(Place::Local(core), seen) {
             return false;
         }
-        let made = self.plain.local_refund(core, seen, n);
-        self.find(Place::Local(core));
+        let made = self.stage.plain.local_refund(core, seen, n);
+        self.stage.find(Place::Local(core));
         made
     }
 
@@ -328,11 +329,11 @@ impl Moves for ScriptMoves {
             (script_mover self.old) (script_mover self.new) }
         ensures plays { Plays true (TriesIt (collect tree seen) seen result) self.old self.new }
     {
-        if self.loses(Place::Tree(tree), seen) {
+        if self.stage.loses(Place::Tree(tree), seen) {
             return false;
         }
-        let made = self.plain.collect(tree, seen);
-        self.find(Place::Tree(tree));
+        let made = self.stage.plain.collect(tree, seen);
+        self.stage.find(Place::Tree(tree));
         made
     }
 
@@ -341,9 +342,9 @@ impl Moves for ScriptMoves {
         ensures makes { Makes plain_tick (fill_word word) (script_mover self.old) (script_mover self.new) }
         ensures plays { Plays false (MakesIt (fill_word word)) self.old self.new }
     {
-        self.prompt(false);
-        self.plain.fill_word(word);
-        self.find(Place::Bits(word));
+        self.stage.prompt(false);
+        self.stage.plain.fill_word(word);
+        self.stage.find(Place::Bits(word));
     }
 
     fn drop_flag(&mut self, child: u32)
@@ -351,8 +352,8 @@ impl Moves for ScriptMoves {
         ensures makes { Makes plain_tick (drop_whole child) (script_mover self.old) (script_mover self.new) }
         ensures plays { Plays false (MakesIt (drop_whole child)) self.old self.new }
     {
-        self.prompt(false);
-        self.plain.drop_flag(child);
-        self.find(Place::Entry(child));
+        self.stage.prompt(false);
+        self.stage.plain.drop_flag(child);
+        self.stage.find(Place::Entry(child));
     }
 }

@@ -4,15 +4,10 @@ use Rattle.frame_core.specs.Moves.{place_of}
 use Rattle.plain_moves.specs.PlainState.{key_by, words_by, Loses}
 use Rattle.plain_moves.specs.Script.{LosesAt}
 use Rattle.plain_moves.specs.ScriptState.{at_by}
-use Rattle.plain_moves.proofs.Cues.{stepped}
 use Rattle.plain_moves.proofs.Scripts.{lost_found, played}
-use Rattle.plain_moves.proofs.script.ScriptMoves.loses.Goals.{else-not-prompt-via-then-not-prompt+else-stands-seen}
-use Rattle.plain_moves.proofs.script.ScriptMoves.loses.Goals.{else-not-prompt-via-else-not-prompt}
-use Rattle.plain_moves.proofs.script.ScriptMoves.loses.Goals as goal
-
-pub invariant_of-self-clause-shows : goal.invariant_of-self-clause-shows
-invariant_of-self-clause-shows c =
-    stepped _ _ c.lose.new.self _ c.prompt.ensures.ready c.lose.ensures.own.key c.lose.ensures.view refl
+use Rattle.plain_moves.proofs.script.stage.Stage.loses.Goals.{else-not-prompt-via-then-not-prompt+else-stands-seen}
+use Rattle.plain_moves.proofs.script.stage.Stage.loses.Goals.{else-not-prompt-via-else-not-prompt}
+use Rattle.plain_moves.proofs.script.stage.Stage.loses.Goals as goal
 
 pub returns-clause-lost : goal.returns-clause-lost
 returns-clause-lost c = λ yes.

@@ -1,8 +1,8 @@
 use Rattle.std.proofs.Common.{◌≡◌, ℕ, length, refl, sym, subst, ◌∙◌, arith}
 use Rattle.plain_moves.specs.ScriptState.{at_by, MeetsFirst}
 use Rattle.plain_moves.proofs.Cues.{met_next, loses_now, lost_before, lost_still, loses_at, loses_in, ready_by}
-use Rattle.plain_moves.proofs.script.ScriptMoves.prompt.Goals.{then-meet, else-meet}
-use Rattle.plain_moves.proofs.script.ScriptMoves.prompt.Goals as goal
+use Rattle.plain_moves.proofs.script.stage.Stage.prompt.Goals.{then-meet, else-meet}
+use Rattle.plain_moves.proofs.script.stage.Stage.prompt.Goals as goal
 
 pub loop-i-init : goal.loop-i-init
 loop-i-init c = record { met = refl; loses = λ yes. absurd (cc); all = λ is some. absurd (omega (arith, some.1.1.0)) }

@@ -1,7 +1,7 @@
 use Rattle.std.proofs.Common.{◌≡◌, true}
 use Rattle.plain_moves.specs.ScriptState.{at_by, MeetsFirst}
 use Rattle.plain_moves.proofs.Cues.{LosesIn}
-use Rattle.plain_moves.proofs.script.ScriptMoves.prompt.Given as goal
+use Rattle.plain_moves.proofs.script.stage.Stage.prompt.Given as goal
 
 abbrev pub invariant-loop-i : goal.invariant-loop-i
 invariant-loop-i l = record {

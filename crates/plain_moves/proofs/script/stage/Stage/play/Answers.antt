@@ -1,15 +1,9 @@
-use Rattle.std.proofs.Common.{inl, inr, true, ap, sym, subst, refl, ◌∙◌, arith}
+use Rattle.std.proofs.Common.{inl, inr, ap, sym, subst, ◌∙◌}
 use Rattle.plain_moves.specs.declared.plain.PlainMoves.{PlainMoves}
 use Rattle.plain_moves.specs.declared.script.cue.What.{What}
 use Rattle.plain_moves.specs.PlainState.{IsStill, IsUnmoved}
 use Rattle.plain_moves.specs.ScriptState.{one_skipped, CountsCue}
-use Rattle.plain_moves.proofs.Cues.{stop_shows}
-use Rattle.plain_moves.proofs.script.ScriptMoves.play.Goals as goal
-
-pub invariant_of-self-clause-shows : goal.invariant_of-self-clause-shows
-invariant_of-self-clause-shows c =
-    stop_shows c.args.self.now c.args.cue c.requires.is_cue.0 0 true c.copy_to.new.image.words c.requires.is_cue.1 c.requires.at
-    c.in-Stop.is (omega arith) (ap (λ i. i.words) c.copy_to.ensures) refl
+use Rattle.plain_moves.proofs.script.stage.Stage.play.Goals as goal
 
 pub returns-then-not-acts-clause-happens : goal.returns-then-not-acts-clause-happens
 returns-then-not-acts-clause-happens c =
