@@ -1,11 +1,10 @@
 -- What was read of the entries of the children, word by word, and what it counts where nobody else steps.
-use Rattle.std.proofs.Common.{◌≡◌, ◌≢◌, ⊎_elim, ℕ, zero, suc, ◌+◌, ◌-◌, ◌*◌, ◌/◌, ◌^◌, ◌<◌, ◌≤◌, min, List, Option, None, Some}
+use Rattle.std.proofs.Common.{◌≡◌, ⊎_elim, ℕ, zero, suc, ◌+◌, ◌-◌, ◌*◌, ◌/◌, ◌^◌, ◌<◌, ◌≤◌, min, List, Option, None, Some}
 use Rattle.std.proofs.Common.{refl, ap, sym, subst, ◌∙◌, arith}
 use Rattle.std.specs.Prelude.{IfSome, slice_index, nat_eq, if◌then◌else◌}
 use Rattle.std.specs.List.{sum_by, range_with_len}
 use Rattle.std.proofs.lemmas.Bool.{cases_lt}
 use Rattle.std.proofs.lemmas.Bool.Decides.{nat_tests}
-use Rattle.frame_words.specs.Words.{lane_in}
 use Rattle.frame_model.specs.declared.key.Key.{Key}
 use Rattle.frame_model.specs.declared.place.Place.TheVariants.{Entry}
 use Rattle.frame_model.specs.declared.view.View.{View}
@@ -23,7 +22,7 @@ use Rattle.low_frames.proofs.AloneLemmas.{if_known, at_known}
 use Rattle.low_frames.proofs.RoomLemmas.{FitsAlone, entries_alone, range_alone}
 use Rattle.low_frames.proofs.TakeLemmas.{keeps_both}
 use Rattle.core_frames.specs.declared.free_counts.FreeCounts.{FreeCounts}
-use Rattle.core_frames.specs.FreeCounts.{free_at, shows_whole, word_read, entry_read, frames_read, huge_read, AreExact, after_loads, LooksOver}
+use Rattle.core_frames.specs.FreeCounts.{free_at, is_whole, shows_whole, word_read, entry_read, frames_read, huge_read, AreExact, after_loads, LooksOver}
 use Rattle.core_frames.proofs.PlainSums.{range_cons, range_same, range_parts}
 
 -- The entries of a word, one after another.
@@ -41,14 +40,6 @@ range_last f a c h =
       ap (λ k. sum_by f (range_with_len k 1)) place,
       one,
     )
-
-pub is_whole : (word child : ℕ) → lane_in word child ≡ 512 → shows_whole word child ≡ 1
-unfolding shows_whole
-is_whole word child e = grind (arith, nat_tests, e)
-
-pub not_whole : (word child : ℕ) → lane_in word child ≢ 512 → shows_whole word child ≡ 0
-unfolding shows_whole
-not_whole word child e = grind (arith, nat_tests, e)
 
 -- The words, one after another.
 
@@ -224,7 +215,7 @@ module _ (A : Type 0) (key : Key) (ws : List ℕ) (v : View) (fits : FitsAlone A
   -- an entry shows its child free as a whole just where nothing of it is held
   whole_exact : (c : ℕ) → c < key.children
       → shows_whole (slice_index ws (entry_place c)) c ≡ (if nat_eq (held_within key ws (512 * c) 512) 0 then 1 else 0)
-  unfolding shows_whole entry_of free_of huge_of
+  unfolding is_whole entry_of free_of huge_of
   whole_exact c h =
       let sums = entry_sum c h in
       let held = held_within-child key ws (range_alone A key ws v fits) c h in

@@ -22,9 +22,13 @@ use Rattle.core_frames.specs.declared.free_counts.FreeCounts.{FreeCounts}
 abbrev pub free_at : ℕ → ℕ → ℕ
 free_at word child = free_in (lane_in word child)
 
--- 1 where the entry of a child in a word shows it free as a whole
-unfoldable pub shows_whole : ℕ → ℕ → ℕ
-shows_whole word child = if nat_eq (lane_in word child) child_frames then 1 else 0
+-- 1 where an entry shows its child free as a whole
+unfoldable pub is_whole : ℕ → ℕ
+is_whole entry = if nat_eq entry child_frames then 1 else 0
+
+-- the same of the entry of a child in a word
+abbrev pub shows_whole : ℕ → ℕ → ℕ
+shows_whole word child = is_whole (lane_in word child)
 
 -- the word that was read, or 0, in which no frame is free
 unfoldable pub word_read : Option ℕ → ℕ

@@ -7,7 +7,7 @@ ghost use Rattle.frame_core.specs.View.{IsIdle};
 ghost use Rattle.frame_core.specs.Words.{entry_word_count};
 ghost use Rattle.frame_table.specs.Seats.{reads_of};
 ghost use Rattle.core_frames.specs.Cores.{memory_of, seat_of, view_in, IsCoreOf, StaysCoreOf};
-ghost use Rattle.core_frames.specs.FreeCounts.{free_at, shows_whole, frames_read, huge_read};
+ghost use Rattle.core_frames.specs.FreeCounts.{free_at, is_whole, shows_whole, frames_read, huge_read};
 ghost use Rattle.core_frames.specs.FreeCounts.{LooksOver, AreCountsOf};
 ghost use Rattle.core_frames.specs.Uses.{IsSameAfter};
 
@@ -105,9 +105,16 @@ fn count_entries(counts: FreeCounts, word: u64, first: u32, end: u32) -> FreeCou
     for child in first..end {
         let entry = lane(word, child);
         sum.frames += entry_free(entry);
-        if entry == WHOLE {
-            sum.huge += 1;
-        }
+        sum.huge += whole_in(entry);
     }
     sum
+}
+
+/// 1 where the entry shows its child free as a whole, else 0.
+#[tactic(auto, unfolding(crate::specs::FreeCounts::is_whole))]
+fn whole_in(entry: u64) -> u32
+    ensures value { result ≡ is_whole entry }
+    ensures few { result ≤ 1 }
+{
+    if entry == WHOLE { 1 } else { 0 }
 }

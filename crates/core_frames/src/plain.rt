@@ -21,7 +21,7 @@ ghost use Rattle.core_frames.specs.PlainState.{memory_by, held_by, HoldsExactly,
 mod starts;
 
 use super::drain::drain;
-use super::free_counts::free_counts_by;
+use super::free_counts::{FreeCounts, free_counts_by};
 use super::gives::give_by;
 use super::habit::Habit;
 use super::ranges::may_hold_back;
@@ -232,7 +232,7 @@ impl PlainAllocator {
         ensures exact { result + frames_together (held_by self.old) ≡ frame_count (memory_by self.old) }
         ensures unchanged { self.new ≡ self.old }
     {
-        free_counts_by(&mut self.moves).frames
+        self.free_counts().frames
     }
 
     /// How many huge frames are free: children of which no frame is held. No memory is needed.
@@ -240,7 +240,17 @@ impl PlainAllocator {
         ensures exact { result ≡ clear_children (memory_by self.old) (held_by self.old) }
         ensures unchanged { self.new ≡ self.old }
     {
-        free_counts_by(&mut self.moves).huge
+        self.free_counts().huge
+    }
+
+    // Both counts.
+    fn free_counts(&mut self) -> FreeCounts
+        ensures frames { result.frames + frames_together (held_by self.old)
+            ≡ frame_count (memory_by self.old) }
+        ensures huge { result.huge ≡ clear_children (memory_by self.old) (held_by self.old) }
+        ensures unchanged { self.new ≡ self.old }
+    {
+        free_counts_by(&mut self.moves)
     }
 
     /// The image of the memory. Blocks that are still out count as held. What rests with a core rests
