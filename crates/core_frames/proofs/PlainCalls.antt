@@ -514,14 +514,8 @@ module _ (key : Key) (m n : Mover Company FrameBlock) (ws us bytes : List ℕ) (
 
   module _ (b first second : FrameBlock) (has : Contains (out_of bytes) b) (keeps : KeepsOthers (λ (x : FrameBlock). x) b m n)
       (out : HandsOutHalves (λ (x : FrameBlock). x) b first second m n) where
-    half : ℕ
-    half = b.order - 1
-
     next : b.order ≡ suc (b.order - 1)
     next = omega (arith, out.are_halves.some)
-
-    rest_bytes : List ℕ
-    rest_bytes = set bytes b.frame 0
 
     held_one : IsPermutation (held_with key bytes) (b ∷ held_with key (set bytes b.frame 0))
     held_one = IsPermutation-sym (b ∷ held_with key (set bytes b.frame 0)) (held_with key bytes)

@@ -106,29 +106,6 @@ chained_less chains slots i r =
       serves = rw size (serves_less r.serves (is_live (set slots i None)) (lives slots i));
     }
 
--- blank chains lead through no place
-pub chained_none : {T : Type 0} (chains : LabelChains) → IsBlank chains
-    → Chained chains (let none : List (Option T) = [] in none)
-chained_none chains b = record {
-  key_len = ap length b.keys;
-  next_len = ap length b.next;
-  serves =
-      record {
-        starts = λ i within alive. absurd (omega arith);
-        starts_at = λ k within. absurd (omega arith);
-        firsts = λ k past. b.first k;
-        known = λ i within. absurd (omega arith);
-        most = λ i within. absurd (omega arith);
-        lasts = λ k past. b.last k;
-        ends_at = λ k within. absurd (omega arith);
-        onward = λ i within. absurd (omega arith);
-        same = λ i within below. absurd (omega arith);
-        skips = λ i j before within same alive. absurd (omega arith);
-        goes_on = λ i within apart. absurd (omega arith);
-        stops = λ i within. absurd (omega arith);
-      };
-}
-
 -- blank chains stay blank
 pub blank_same : {old new : LabelChains} → IsSame old new → IsBlank old → IsBlank new
 blank_same s b = record {
