@@ -1,7 +1,8 @@
 #!/usr/bin/env python3
 """Tells which files of `src/` and `specs/` their crate's README.md does not name, where the first sentence of
-`src/lib.rt` (or `src/main.rt`) is not that of the README, and which sizes in the README at the top are not those
-that it counts: lines that are not empty, to 2 percent, and wrong bodies, exactly.
+`src/lib.rt` (or `src/main.rt`) is not that of the README, which sizes in the README at the top are not those that
+it counts: lines that are not empty, to 2 percent, and wrong bodies, exactly; and which lines of docs/PROOFS.md are
+longer than 120 columns.
 
 Run it at the top of the repository. It ends with status 1 where there is one. A file is named in backticks by
 its path from the crate, with or without its ending. The folder `src/tests/` names `src/tests.rt` and all that
@@ -14,6 +15,7 @@ import sys
 
 TOP = pathlib.Path(__file__).resolve().parent.parent
 ROOTS = {"src/lib.rt", "src/main.rt", "specs/Lib.antt"}
+MOST_COLUMNS = 120
 
 
 def names_in(text):
@@ -97,7 +99,11 @@ def main():
     wrong = sizes()
     for line in wrong:
         print("README.md says:", line, file=sys.stderr)
-    return 1 if missing or others or wrong else 0
+    proofs = (TOP / "docs" / "PROOFS.md").read_text().splitlines()
+    long = [number for number, line in enumerate(proofs, 1) if len(line) > MOST_COLUMNS]
+    for number in long:
+        print(f"longer than {MOST_COLUMNS} columns: docs/PROOFS.md:{number}", file=sys.stderr)
+    return 1 if missing or others or wrong or long else 0
 
 
 sys.exit(main())
