@@ -1,6 +1,7 @@
 #!/usr/bin/env python3
 """Writes docs/believe/, what has to be believed: for each kind of promise just the definitions that it rests
-on, in the sentences that stand above them, the promise that needs the fewest first.
+on, in the sentences that stand above them, the promise that needs the fewest first; those on which several pages
+rest stand once, on a page of their own.
 
 Run it at the top of the repository. It ends with status 1 where a definition has no sentence, a contract that is
 named here is missing, or docs/PROOFS.md links to a part that is not there; with `--strict` also where two definitions
@@ -16,6 +17,8 @@ sys.dont_write_bytecode = True
 from spec_files import TOP, Definition, Specs, contract, said_of  # noqa: E402
 
 MOST_FIELDS = 12
+# the page of what more than one page rests on
+COMMON = "common"
 # Each page: its file, its title, and its promises. A promise is a line and the contracts that carry it, as
 # docs/PROOFS.md names them: a function, `Type::function`, `trait Name` or `struct Name`.
 PAGES = [
@@ -89,46 +92,88 @@ def told(d):
     return out
 
 
-def page(specs, title, promises, missing):
-    """The page of some promises, smallest first: for each what it needs beside those before it, in an order in
-    which every definition stands behind those that it uses."""
-    rows, parts, known, others = [], [], [], []
-    needed = [(line, contracts, *specs.closure(roots_of(specs, contracts, missing))) for line, contracts in promises]
-    for line, contracts, seen, beside in sorted(needed, key=lambda one: len(one[2])):
-        new = [d for d in seen if d not in known]
-        known += new
-        others += beside
+class Page:
+    """A page of some promises, smallest first: of each its line, its contracts, all that it rests on, what of this
+    no promise before it needs, and the words of the code and of libraries."""
+
+    def __init__(self, specs, name, title, promises, missing):
+        self.name, self.title = name, title
+        self.promises, self.known, self.others = [], [], []
+        needed = [(line, contracts, *specs.closure(roots_of(specs, contracts, missing)))
+                  for line, contracts in promises]
+        for line, contracts, seen, beside in sorted(needed, key=lambda one: len(one[2])):
+            new = [d for d in seen if d not in self.known]
+            self.known += new
+            self.others += [word for word in beside if word not in self.others]
+            self.promises.append((line, contracts, seen, new))
+
+
+def shared_by(lists):
+    """What stands in more than one of the lists."""
+    found = []
+    for i, words in enumerate(lists):
+        found += [word for word in words if word not in found and any(word in later for later in lists[i + 1:])]
+    return found
+
+
+def text_of(specs, page, shared, shared_others):
+    """The text of a page: what it rests on, in an order in which every definition stands behind those that it uses;
+    of those that another page needs too the names alone."""
+    rows, parts = [], []
+    for line, contracts, seen, new in page.promises:
         names = ", ".join(f"`{name}`" for name in contracts)
         rows.append(f"| {line} | {names} | {len(seen)} | {len(new)} |")
-        parts += part(specs, line, new)
-    head = (f"{len(known)} definitions, in {lines_of(known)} lines of `specs/`, each behind those that it uses."
-            " Whoever believes that they say what is meant, and the checker, has the promises below. For the"
+        parts += part(specs, line, new, shared)
+    elsewhere = [d for d in page.known if d in shared]
+    head = (f"{len(page.known)} definitions, in {lines_of(page.known)} lines of `specs/`, each behind those that it"
+            " uses. Whoever believes that they say what is meant, and the checker, has the promises below. For the"
             " first promise read its part, for another one also what stands before it, as far as it is used."
-            " The page is written by `tools/definitions.py` from the contracts and from `specs/`.")
-    out = [f"# What to believe: {title[0].lower() + title[1:]}", "", wrapped(head, "", ""), "",
+            f" {len(elsewhere)} of them stand on [a page of their own]({COMMON}.md), since other pages rest on them"
+            " too; here they are named. The page is written by `tools/definitions.py` from the contracts and from"
+            " `specs/`.")
+    out = [f"# What to believe: {page.title[0].lower() + page.title[1:]}", "", wrapped(head, "", ""), "",
            "| Promise | Contracts | Definitions | not needed before |", "|---|---|---|---|", *rows, ""]
-    return "\n".join(out + parts + other_words(others))
+    return "\n".join(out + parts + other_words([word for word in page.others if word not in shared_others]))
 
 
-def part(specs, line, definitions):
-    """The definitions that a promise brings, module by module."""
-    if not definitions:
-        return []
-    out = [f"## {line[0].upper() + line[1:]}", ""]
+def common_text(specs, shared, shared_others):
+    """The page of what several pages rest on."""
+    head = (f"{len(shared)} definitions, in {lines_of(shared)} lines of `specs/`, on which more than one of the pages"
+            " beside this one rest, each behind those that it uses. Each page names those that it needs. The page is"
+            " written by `tools/definitions.py`.")
+    out = ["# What to believe: what several pages rest on", "", wrapped(head, "", ""), ""]
+    return "\n".join(out + modules_of(specs, shared, "##") + [""] + other_words(shared_others))
+
+
+def modules_of(specs, definitions, level):
+    """The definitions, module by module, below headings of this level."""
+    out = []
     for module in specs.in_order():
         here = [d for d in module.definitions if d in definitions]
         if here:
             path = f"../../crates/{module.crate}/specs/{module.name}.antt"
-            out.append(f"### [{module.crate}: {module.name}]({path})")
+            out.append(f"{level} [{module.crate}: {module.name}]({path})")
             for d in here:
                 out += told(d)
-    return out + [""]
+    return out
+
+
+def part(specs, line, definitions, shared):
+    """The definitions that a promise brings."""
+    if not definitions:
+        return []
+    out = [f"## {line[0].upper() + line[1:]}", ""]
+    named = [d.name for module in specs.in_order() for d in module.definitions if d in definitions and d in shared]
+    if named:
+        out += [wrapped(f"[{COMMON}.md]({COMMON}.md): " + ", ".join(f"`{name}`" for name in named), "", ""), ""]
+    return out + modules_of(specs, [d for d in definitions if d not in shared], "###") + [""]
 
 
 def other_words(others):
     """Types and constants of the code, and words of libraries."""
-    code = sorted({(crate, name) for kind, crate, name in others if kind == "code"})
-    out = ["## Types and constants of the code", ""]
+    out, code = [], sorted({(crate, name) for kind, crate, name in others if kind == "code"})
+    if code:
+        out += ["## Types and constants of the code", ""]
     for crate, name in code:
         said, path = said_of(crate, name)
         link = f"[`{name}`](../../{path})" if path else f"`{name}`"
@@ -137,7 +182,8 @@ def other_words(others):
     for kind, crate, name in others:
         if kind == "library" and name[:1].isalpha():
             library[crate].add(name)
-    out += ["", "## Words of libraries", ""]
+    if library:
+        out += [""] * bool(code) + ["## Words of libraries", ""]
     for crate in sorted(library):
         names = ", ".join(f"`{name}`" for name in sorted(library[crate], key=str.lower))
         out.append(wrapped(f"`{crate}`: {names}", "- ", "  "))
@@ -172,8 +218,12 @@ def main(words):
     specs, missing = Specs(), []
     docs = TOP / "docs"
     (docs / "believe").mkdir(exist_ok=True)
-    for name, title, promises in PAGES:
-        (docs / "believe" / f"{name}.md").write_text(page(specs, title, promises, missing))
+    pages = [Page(specs, *page, missing) for page in PAGES]
+    shared = shared_by([page.known for page in pages])
+    shared_others = shared_by([page.others for page in pages])
+    for page in pages:
+        (docs / "believe" / f"{page.name}.md").write_text(text_of(specs, page, shared, shared_others))
+    (docs / "believe" / f"{COMMON}.md").write_text(common_text(specs, shared, shared_others))
     bare = [f"{d.crate}/specs/{d.module}: {d.name}" for d in specs.found.values() if not d.sentence]
     double = twice(specs)
     dead = dead_links(docs)

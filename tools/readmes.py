@@ -1,6 +1,8 @@
 #!/usr/bin/env python3
-"""Tells which files of `src/` and `specs/` their crate's README.md does not name, and where the first sentence
-of `src/lib.rt` (or `src/main.rt`) is not that of the README.
+"""Tells which files of `src/` and `specs/` their crate's README.md does not name, where the first sentence of
+`src/lib.rt` (or `src/main.rt`) is not that of the README, which sizes in the README at the top are not those that
+it counts: lines that are not empty, to 2 percent, and wrong bodies, exactly; and which lines of docs/PROOFS.md are
+longer than 120 columns.
 
 Run it at the top of the repository. It ends with status 1 where there is one. A file is named in backticks by
 its path from the crate, with or without its ending. The folder `src/tests/` names `src/tests.rt` and all that
@@ -13,6 +15,7 @@ import sys
 
 TOP = pathlib.Path(__file__).resolve().parent.parent
 ROOTS = {"src/lib.rt", "src/main.rt", "specs/Lib.antt"}
+MOST_COLUMNS = 120
 
 
 def names_in(text):
@@ -53,6 +56,30 @@ def heads(crate):
     return first_sentence(source), first_sentence(parts[1] if len(parts) > 1 else "")
 
 
+def lines_of(paths):
+    """The lines that are not empty."""
+    return sum(bool(line.strip()) for path in paths for line in path.read_text().splitlines())
+
+
+def sizes():
+    """What the README says of sizes, and what they are, where the two differ."""
+    crates = TOP / "crates"
+    counted = {
+        "lines of code": lines_of(crates.glob("*/src/**/*.rt")),
+        "of definitions": lines_of(crates.glob("*/specs/**/*.antt")),
+        "of proofs": lines_of(crates.glob("*/proofs/**/*.antt")),
+        "wrong bodies": len(list(crates.glob("*/must-fail/*.edit"))),
+    }
+    text = (TOP / "README.md").read_text()
+    wrong = []
+    for what, number in counted.items():
+        said = re.search(rf"([\d,]+) {what}", text)
+        value = int(said.group(1).replace(",", "")) if said else 0
+        if abs(value - number) > (0 if what == "wrong bodies" else number / 50):
+            wrong.append(f"{value} {what}, and there are {number}")
+    return wrong
+
+
 def main():
     missing, others = [], []
     for crate in sorted((TOP / "crates").iterdir()):
@@ -69,7 +96,14 @@ def main():
         print("not in its README:", line, file=sys.stderr)
     for line in others:
         print("another first sentence than its README:", line, file=sys.stderr)
-    return 1 if missing or others else 0
+    wrong = sizes()
+    for line in wrong:
+        print("README.md says:", line, file=sys.stderr)
+    proofs = (TOP / "docs" / "PROOFS.md").read_text().splitlines()
+    long = [number for number, line in enumerate(proofs, 1) if len(line) > MOST_COLUMNS]
+    for number in long:
+        print(f"longer than {MOST_COLUMNS} columns: docs/PROOFS.md:{number}", file=sys.stderr)
+    return 1 if missing or others or wrong or long else 0
 
 
 sys.exit(main())
