@@ -1,9 +1,9 @@
 -- Blocks that stay out or wait, while an image is followed.
-use Rattle.std.proofs.Common.{◌≡◌, List, [], ◌∷◌, ◌++◌, length, refl, ap, sym, subst, ◌∙◌, arith}
+use Rattle.std.proofs.Common.{◌≡◌, ℕ, List, [], ◌∷◌, ◌++◌, length, refl, ap, sym, subst, ◌∙◌, arith}
 use Rattle.std.specs.List.{Contains}
 use Rattle.std.proofs.lemmas.List.{append_assoc, append-nil}
 use Rattle.std.specs.List.Sorted.{IsPermutation}
-use Rattle.std.proofs.lemmas.List.Sorted.{Contains-permutation, IsPermutation-sym, IsPermutation-trans}
+use Rattle.std.proofs.lemmas.List.Sorted.{All-permutation, Contains-permutation, IsPermutation-sym, IsPermutation-trans}
 use Rattle.std.proofs.lemmas.List.Sorted.{IsPermutation-cons, IsPermutation-middle, IsPermutation-to_front}
 use Rattle.std.proofs.lemmas.List.Sorted.{sum_by-IsPermutation}
 use Rattle.frame_model.specs.declared.block.FrameBlock.{FrameBlock}
@@ -12,7 +12,9 @@ use Rattle.frame_core.specs.Block.{covers}
 use Rattle.frame_core.specs.Key.{AreRanges}
 use Rattle.core_frames.specs.Ranges.{MayHoldBack}
 use Rattle.frame_core.specs.Holding.{holders}
-use Rattle.frame_places.specs.Claims.{ShareNoFrame}
+use Rattle.frame_places.specs.Claims.{IsHeldAs, ShareNoFrame}
+use Rattle.llfree_c.specs.Reopenings.{claimed_blocks, IsClaimedOf, MayBeClaimed}
+use Rattle.llfree_c.specs.declared.blocks.ClaimedBlock.{ClaimedBlock}
 use Rattle.core_frames.proofs.PlainPermutations.{uncons}
 
 module _ (laid left out : List FrameBlock) (b : FrameBlock) where
@@ -68,6 +70,17 @@ module _ (laid left out : List FrameBlock) (b : FrameBlock) where
 pub apart_still : (bs cs : List FrameBlock) → IsPermutation bs cs → ShareNoFrame bs → ShareNoFrame cs
 unfolding holders
 apart_still bs cs p apart = λ x. omega (arith, sum_by-IsPermutation (λ b. covers b x) bs cs p, apart x)
+
+-- what was claimed may be
+pub may_be_claimed : (frames : ℕ) (numbers : List ℕ) (claims : List ClaimedBlock) (blocks : List FrameBlock)
+    → IsClaimedOf frames numbers claims blocks → MayBeClaimed frames numbers claims
+may_be_claimed frames numbers claims blocks is =
+    let named : List FrameBlock = claimed_blocks claims in
+    let back : IsPermutation blocks named = IsPermutation-sym named blocks is.same in
+    record {
+      held = All-permutation (IsHeldAs frames numbers) blocks named back is.held;
+      apart = apart_still blocks named back is.apart;
+    }
 
 -- a memory may have no ranges
 pub no_ranges : (g : Geometry) → MayHoldBack g []

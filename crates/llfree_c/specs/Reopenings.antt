@@ -6,7 +6,7 @@ use Rattle.std.specs.declared.boxed.Box.{Box}
 use Rattle.frame_model.specs.declared.block.FrameBlock.{FrameBlock}
 use Rattle.frame_core.specs.Block.{block}
 use Rattle.core_frames.specs.PlainState.{PlainState, memory_by}
-use Rattle.frame_places.specs.Claims.{IsHeldAs, ShareNoFrame}
+use Rattle.frame_places.specs.Claims.{Ascend, IsHeldAs, ShareNoFrame}
 use Rattle.frame_places.specs.Numbers.{IsImageOf}
 use Rattle.frame_places.specs.Reopenings.{HasLaidDown}
 use Rattle.frame_places.specs.declared.core_state.CoreState.{CoreState}
@@ -36,15 +36,18 @@ pub record MayBeClaimed (frames : ℕ) (numbers : List ℕ) (claims : List Claim
   pub held : All (IsHeldAs frames numbers) (claimed_blocks claims)
   pub apart : ShareNoFrame (claimed_blocks claims)
 
--- an image was left with these numbers of a memory of so many frames, and these blocks may be claimed
+-- an image was left with these numbers of a memory of so many frames, and just these blocks, which ascend and
+-- share no frame, are claimed
 pub record IsClaimedOf (frames : ℕ) (numbers : List ℕ) (claims : List ClaimedBlock)
     (blocks : List FrameBlock) : Type 0 where
   pub image : IsImageOf frames numbers
   pub held : All (IsHeldAs frames numbers) blocks
   pub same : IsPermutation (claimed_blocks claims) blocks
+  pub ascend : Ascend blocks
+  pub apart : ShareNoFrame blocks
 
 -- why blocks are not claimed: the numbers are no image's, an order is none, a block is not held by
--- itself, or memory was wanting
+-- itself or shares a frame with another one, or memory was wanting
 abbrev pub HasNoClaims : (frames : ℕ) → List ℕ → List ClaimedBlock → (status : ℕ) → Type 0
 HasNoClaims frames numbers claims status =
     ((status ≡ bad_image) × ¬ IsImageOf frames numbers)
@@ -52,18 +55,25 @@ HasNoClaims frames numbers claims status =
     ⊎ ((status ≡ not_held) × ¬ MayBeClaimed frames numbers claims)
     ⊎ (status ≡ no_memory)
 
--- why no memory was opened at an image: there is none of these sizes, blocks are not claimed, or a
--- claimed block was not reached
+-- a block was not reached, of an image's that may be claimed
+abbrev pub IsUnreached : (frames : ℕ) → List ℕ → List ClaimedBlock → (status : ℕ) → Type 0
+IsUnreached frames numbers claims status =
+    (status ≡ contended) × IsImageOf frames numbers × MayBeClaimed frames numbers claims
+
+-- why no memory was opened at an image: there is none of these sizes, blocks are not claimed, or one
+-- that may be claimed was not reached
 abbrev pub IsNotReopened : (frames cores : ℕ) → List ℕ → List ClaimedBlock → (status : ℕ) → Type 0
 IsNotReopened frames cores numbers claims status =
-    HasNoSizes frames cores status ⊎ HasNoClaims frames numbers claims status ⊎ (status ≡ contended)
+    HasNoSizes frames cores status ⊎ HasNoClaims frames numbers claims status
+    ⊎ IsUnreached frames numbers claims status
 
 -- the memory has so many frames and no ranges, was left with these numbers, and holds just the frames that they
--- hold; of these just the claimed blocks are out
+-- hold; of these just the claimed blocks are out, which may be claimed
 pub record Reopens (frames : ℕ) (numbers : List ℕ) (claims : List ClaimedBlock) (state : PlainState)
     : Type 0 where
   pub memory : IsMemoryOf frames [] (memory_by state)
   pub image : IsImageOf frames numbers
+  pub lawful : MayBeClaimed frames numbers claims
   pub all : HoldsAllOf frames numbers (state.out ++ state.kept)
   pub only : HoldsOnly numbers (state.out ++ state.kept)
   pub held : All (IsHeldAs frames numbers) state.out
@@ -74,12 +84,13 @@ abbrev pub ReopensBehind : ℕ → List ℕ → List ClaimedBlock → Option Pla
 ReopensBehind frames numbers claims (Some p) = Reopens frames numbers claims p.allocator
 ReopensBehind frames numbers claims None = ⊥
 
--- an allocator of a memory that was left with these numbers, which laid down just the claimed blocks
--- before any core was handed out
+-- an allocator of a memory that was left with these numbers, which laid down just the claimed blocks, which
+-- may be claimed, before any core was handed out
 pub record IsReopened (frames : ℕ) (numbers : List ℕ) (claims : List ClaimedBlock) (shared : Shared)
     : Type 0 where
   pub memory : HasMemory frames [] shared
   pub image : IsImageOf frames numbers
+  pub lawful : MayBeClaimed frames numbers claims
   pub laid : (blocks : List FrameBlock) × HasLaidDown blocks shared
       × All (IsHeldAs frames numbers) blocks × IsPermutation (claimed_blocks claims) blocks
 

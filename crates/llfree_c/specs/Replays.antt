@@ -1,9 +1,9 @@
 -- What following an image leaves as it is and what it brings about, and why one was not followed.
-use Rattle.std.specs.Prelude.{◌≡◌, ◌⊎◌, ℕ, ◌+◌, ◌^◌, ◌<◌, ◌≤◌, List, ◌++◌}
+use Rattle.std.specs.Prelude.{◌≡◌, ◌⊎◌, ℕ, ◌+◌, ◌/◌, ◌%◌, ◌^◌, ◌<◌, ◌≤◌, List, ◌++◌}
 use Rattle.frame_model.specs.declared.block.FrameBlock.{FrameBlock}
 use Rattle.frame_core.specs.Holding.{IsHeld}
 use Rattle.core_frames.specs.PlainState.{PlainState}
-use Rattle.frame_places.specs.Numbers.{IsHeldBy}
+use Rattle.frame_places.specs.Numbers.{IsHeldBy, IsHugeIn}
 use Rattle.llfree_c.specs.Status.{contended, no_memory}
 
 -- it is the same memory
@@ -14,6 +14,12 @@ pub record StaysMemory (old new : PlainState) : Type 0 where
 -- the image holds all frames of the block
 abbrev pub HoldsBlock : (numbers : List ℕ) → FrameBlock → Type 0
 HoldsBlock numbers b = (x : ℕ) → b.frame ≤ x → x < b.frame + 2 ^ b.order → IsHeldBy numbers x
+
+-- the image holds the block as one: a huge frame by its flag, or a single frame
+abbrev pub IsHeldWhole : (numbers : List ℕ) → FrameBlock → Type 0
+IsHeldWhole numbers b =
+    ((b.order ≡ 9) × (b.frame % 512 ≡ 0) × IsHugeIn numbers (b.frame / 512))
+    ⊎ ((b.order ≡ 0) × IsHeldBy numbers b.frame)
 
 -- each frame of so many that the image holds lies in one of the blocks
 abbrev pub HoldsAllOf : (frames : ℕ) → (numbers : List ℕ) → List FrameBlock → Type 0

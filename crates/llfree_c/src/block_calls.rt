@@ -1,9 +1,10 @@
 //! What C calls of an allocator for several threads by blocks that it carries itself.
 
-ghost use Rattle.std.specs.Prelude.{◌≡◌, ◌≢◌, ◌⊎◌, ◌<◌, ◌≤◌, true, false};
-ghost use Rattle.frame_places.specs.Calls.{SharesOne, GivesFor, FindsNoneFor, LosesFor, LendsNoMore, KeepsCore};
+ghost use Rattle.std.specs.Prelude.{◌≡◌, ◌≢◌, ◌⊎◌, ◌≤◌, true, false};
+ghost use Rattle.frame_places.specs.Calls.{SharesOne, GivesFor, KeepsCore};
 ghost use Rattle.llfree_c.specs.Blocks.{IsOfTheAllocator, TakesHeld, SplitsHeld};
-ghost use Rattle.llfree_c.specs.Status.{ok, no_block, bad_order, not_held, closed, not_closed, contended};
+ghost use Rattle.llfree_c.specs.RefusedCalls.{RefusesBlockAs, RefusesHalvesAs};
+ghost use Rattle.llfree_c.specs.Status.{ok, bad_order, not_held, closed, not_closed, contended};
 ghost use Rattle.llfree_c.specs.SeenCores.{OnCores};
 
 use crate::block_handle::BlockHandle;
@@ -23,17 +24,12 @@ pub extern "C" fn llfree_take_block(
 ) -> u32
     ensures taken { result ≡ ok → (held.old.live ≡ false)
         × OnCores (TakesHeld order held.new) handle.old.state.value handle.new.state.value }
-    ensures none { result ≡ no_block
-        → OnCores (FindsNoneFor order) handle.old.state.value handle.new.state.value }
-    ensures contended { result ≡ contended
-        → OnCores (LosesFor order) handle.old.state.value handle.new.state.value }
-    ensures why { (result ≡ bad_order → 9 < order) × (result ≡ not_closed → held.old.live ≡ true) }
-    ensures lends { result ≢ ok → result ≢ closed
-        → OnCores LendsNoMore handle.old.state.value handle.new.state.value }
+    ensures refused { result ≢ ok → result ≢ closed → OnCores
+        (RefusesBlockAs order held.old result) handle.old.state.value handle.new.state.value }
     ensures shared { result ≢ closed
         → OnCores SharesOne handle.old.state.value handle.new.state.value }
     ensures closed { result ≡ closed → (handle.old.live ≡ false) × (handle.new ≡ handle.old) }
-    ensures refused { result ≢ ok → held.new ≡ held.old }
+    ensures stays { result ≢ ok → held.new ≡ held.old }
     ensures known { (result ≤ bad_order) ⊎ (result ≡ closed) ⊎ (result ≡ not_closed)
         ⊎ (result ≡ contended) }
 {
@@ -54,15 +50,15 @@ pub extern "C" fn llfree_give_block(
     held: &mut BlockHandle,
 ) -> u32
     requires { IsOfTheAllocator handle.old.state.value held.old }
-    ensures given { result ≡ ok → OnCores (GivesFor held.old.order held.old.frame)
+    ensures given { result ≡ ok → (held.old.live ≡ true) × (held.new.live ≡ false)
+        × OnCores (GivesFor held.old.order held.old.frame)
         handle.old.state.value handle.new.state.value }
-    ensures empty { result ≡ ok → (held.old.live ≡ true) × (held.new.live ≡ false) }
     ensures same { result ≡ not_held → (held.old.live ≡ false)
         × OnCores KeepsCore handle.old.state.value handle.new.state.value }
     ensures shared { result ≢ closed
         → OnCores SharesOne handle.old.state.value handle.new.state.value }
     ensures closed { result ≡ closed → (handle.old.live ≡ false) × (handle.new ≡ handle.old) }
-    ensures refused { result ≢ ok → held.new ≡ held.old }
+    ensures stays { result ≢ ok → held.new ≡ held.old }
     ensures known { (result ≡ ok) ⊎ (result ≡ not_held) ⊎ (result ≡ closed) }
 {
     let Some(mut state) = handle.take_out(heap) else {
@@ -86,15 +82,12 @@ pub extern "C" fn llfree_split_block(
     ensures split { result ≡ ok → (held.old.live ≡ true) × (upper.old.live ≡ false)
         × OnCores (SplitsHeld held.old held.new upper.new)
         handle.old.state.value handle.new.state.value }
-    ensures why { (result ≡ bad_order → held.old.order ≡ 0)
-        × (result ≡ not_held → held.old.live ≡ false)
-        × (result ≡ not_closed → upper.old.live ≡ true) }
-    ensures same { result ≢ ok → result ≢ closed
-        → OnCores KeepsCore handle.old.state.value handle.new.state.value }
+    ensures refused { result ≢ ok → result ≢ closed → OnCores
+        (RefusesHalvesAs held.old upper.old result) handle.old.state.value handle.new.state.value }
     ensures shared { result ≢ closed
         → OnCores SharesOne handle.old.state.value handle.new.state.value }
     ensures closed { result ≡ closed → (handle.old.live ≡ false) × (handle.new ≡ handle.old) }
-    ensures refused { result ≢ ok → (held.new ≡ held.old) × (upper.new ≡ upper.old) }
+    ensures stay { result ≢ ok → (held.new ≡ held.old) × (upper.new ≡ upper.old) }
     ensures known { (result ≡ ok) ⊎ (result ≡ bad_order) ⊎ (result ≡ not_held) ⊎ (result ≡ closed)
         ⊎ (result ≡ not_closed) }
 {

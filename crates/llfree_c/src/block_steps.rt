@@ -1,9 +1,10 @@
 //! The calls on a core, by blocks that are carried.
 
-ghost use Rattle.std.specs.Prelude.{◌≡◌, ◌≢◌, ◌⊎◌, ◌<◌, ◌≤◌, true, false};
-ghost use Rattle.llfree_c.specs.Status.{ok, no_block, bad_order, not_held, not_closed, contended};
+ghost use Rattle.std.specs.Prelude.{◌≡◌, ◌≢◌, ◌⊎◌, ◌≤◌, true, false};
+ghost use Rattle.llfree_c.specs.RefusedCalls.{RefusesBlockAs, RefusesHalvesAs};
+ghost use Rattle.llfree_c.specs.Status.{ok, bad_order, not_held, not_closed, contended};
 ghost use Rattle.llfree_c.specs.Blocks.{IsEmptyOrOut, TakesHeld, SplitsHeld};
-ghost use Rattle.frame_places.specs.Calls.{SharesOne, GivesFor, FindsNoneFor, LosesFor, LendsNoMore, KeepsCore};
+ghost use Rattle.frame_places.specs.Calls.{SharesOne, GivesFor, KeepsCore};
 
 use crate::block_handle::BlockHandle;
 use crate::statuses::{BAD_ORDER, CONTENDED, NO_BLOCK, NOT_CLOSED, NOT_HELD, OK};
@@ -12,14 +13,10 @@ use frame_words::TakeFault;
 
 pub(crate) fn take_block(state: &mut CoreState, order: u8, held: &mut BlockHandle) -> u32
     ensures shared { SharesOne state.old state.new }
-    ensures taken { result ≡ ok → TakesHeld order held.new state.old state.new }
-    ensures none { result ≡ no_block → FindsNoneFor order state.old state.new }
-    ensures contended { result ≡ contended → LosesFor order state.old state.new }
-    ensures order { result ≡ bad_order → 9 < order }
-    ensures full { (result ≡ not_closed → held.old.live ≡ true)
-        × (result ≡ ok → held.old.live ≡ false) }
-    ensures lends { result ≢ ok → LendsNoMore state.old state.new }
-    ensures refused { result ≢ ok → held.new ≡ held.old }
+    ensures taken { result ≡ ok → (held.old.live ≡ false)
+        × TakesHeld order held.new state.old state.new }
+    ensures refused { result ≢ ok → RefusesBlockAs order held.old result state.old state.new }
+    ensures stays { result ≢ ok → held.new ≡ held.old }
     ensures known { (result ≤ bad_order) ⊎ (result ≡ not_closed) ⊎ (result ≡ contended) }
 {
     if held.live {
@@ -39,11 +36,11 @@ pub(crate) fn take_block(state: &mut CoreState, order: u8, held: &mut BlockHandl
 pub(crate) fn give_block(state: &mut CoreState, held: &mut BlockHandle) -> u32
     requires { IsEmptyOrOut state.old held.old }
     ensures shared { SharesOne state.old state.new }
-    ensures given { result ≡ ok → GivesFor held.old.order held.old.frame state.old state.new }
-    ensures was { result ≡ ok → held.old.live ≡ true }
+    ensures given { result ≡ ok → (held.old.live ≡ true)
+        × GivesFor held.old.order held.old.frame state.old state.new }
     ensures empty { held.new.live ≡ false }
     ensures same { result ≡ not_held → KeepsCore state.old state.new }
-    ensures refused { result ≡ not_held → held.new ≡ held.old }
+    ensures stays { result ≡ not_held → held.new ≡ held.old }
     ensures known { (result ≡ ok) ⊎ (result ≡ not_held) }
 {
     let Some(block) = held.take_out() else {
@@ -60,13 +57,11 @@ pub(crate) fn split_block(
 ) -> u32
     requires { IsEmptyOrOut state.old held.old }
     ensures shared { SharesOne state.old state.new }
-    ensures split { result ≡ ok → SplitsHeld held.old held.new upper.new state.old state.new }
-    ensures ready { result ≡ ok → (held.old.live ≡ true) × (upper.old.live ≡ false) }
-    ensures why { (result ≡ bad_order → held.old.order ≡ 0)
-        × (result ≡ not_held → held.old.live ≡ false)
-        × (result ≡ not_closed → upper.old.live ≡ true) }
-    ensures same { result ≢ ok → KeepsCore state.old state.new }
-    ensures refused { result ≢ ok → (held.new ≡ held.old) × (upper.new ≡ upper.old) }
+    ensures split { result ≡ ok → (held.old.live ≡ true) × (upper.old.live ≡ false)
+        × SplitsHeld held.old held.new upper.new state.old state.new }
+    ensures refused { result ≢ ok
+        → RefusesHalvesAs held.old upper.old result state.old state.new }
+    ensures stay { result ≢ ok → (held.new ≡ held.old) × (upper.new ≡ upper.old) }
     ensures known { (result ≡ ok) ⊎ (result ≡ bad_order) ⊎ (result ≡ not_held)
         ⊎ (result ≡ not_closed) }
 {

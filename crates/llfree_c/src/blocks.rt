@@ -3,8 +3,9 @@
 ghost use Rattle.std.specs.Prelude.{◌≡◌, ◌⊎◌, ◌≤◌, MatchBool, IfOk, IfErr};
 ghost use Rattle.std.specs.List.{All};
 ghost use Rattle.std.specs.List.Sorted.{IsPermutation};
+ghost use Rattle.frame_places.specs.Claims.{Ascend};
 ghost use Rattle.frame_places.specs.Numbers.{most_frames};
-ghost use Rattle.llfree_c.specs.Reopenings.{claimed_blocks, HasNoClaims, NamesAnOrder, IsClaimedOf};
+ghost use Rattle.llfree_c.specs.Reopenings.{claimed_blocks, HasNoClaims, NamesAnOrder, IsClaimedOf, MayBeClaimed};
 ghost use Rattle.llfree_c.specs.Status.{no_memory};
 
 use crate::statuses::{BAD_IMAGE, BAD_ORDER, NO_MEMORY, NOT_HELD};
@@ -31,6 +32,7 @@ pub(crate) fn claimed_in(
 ) -> Result<Vec<FrameBlock>, u32>
     requires { frames ≤ most_frames }
     ensures claimed { IfOk result (λ blocks. IsClaimedOf frames numbers.now claims.now blocks.items) }
+    ensures lawful { IfOk result (λ _. MayBeClaimed frames numbers.now claims.now) }
     ensures err { IfErr result (HasNoClaims frames numbers.now claims.now) }
 {
     if !is_image(numbers, frames) {
@@ -62,6 +64,7 @@ fn have_orders(claims: &[ClaimedBlock]) -> bool
 
 fn blocks_in(heap: Global, claims: &[ClaimedBlock]) -> Result<Vec<FrameBlock>, u32>
     ensures same { IfOk result (λ blocks. IsPermutation (claimed_blocks claims.now) blocks.items) }
+    ensures ascend { IfOk result (λ blocks. Ascend blocks.items) }
     ensures err { IfErr result (λ e. e ≡ no_memory) }
 {
     let Ok(mut blocks) = Vec::with_capacity(heap, claims.len()) else {

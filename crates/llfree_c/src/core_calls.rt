@@ -1,11 +1,12 @@
 //! What C calls of an allocator for several threads, each with a core of its own.
 
-ghost use Rattle.std.specs.Prelude.{◌≡◌, ◌≢◌, ◌⊎◌, ◌<◌, ◌≤◌, true, false, length};
+ghost use Rattle.std.specs.Prelude.{◌≡◌, ◌≢◌, ◌⊎◌, ◌≤◌, true, false, length};
 ghost use Rattle.std.specs.List.{All};
-ghost use Rattle.frame_places.specs.Calls.{SharesOne, TakesFor, GivesFor, SplitsFor, FindsNoneFor, IsContendedFor, LendsNoMore, CountsOne, KeepsCore};
+ghost use Rattle.frame_places.specs.Calls.{SharesOne, TakesFor, GivesFor, SplitsFor, KeepsCore};
 ghost use Rattle.llfree_c.specs.CoreImages.{LeavesCoreImage, LeavesNoCoreImage};
 ghost use Rattle.llfree_c.specs.Images.{image_words, StaysBehind};
-ghost use Rattle.llfree_c.specs.Status.{ok, no_block, bad_order, not_held, closed, contended};
+ghost use Rattle.llfree_c.specs.RefusedCalls.{RefusesTakeAs, RefusesSplitAs};
+ghost use Rattle.llfree_c.specs.Status.{ok, bad_order, not_held, closed, contended};
 ghost use Rattle.llfree_c.specs.OpenCores.{HasNoCores, IsClosedHandle, OpensCores};
 ghost use Rattle.llfree_c.specs.SeenCores.{OnCores, frames_behind};
 
@@ -50,17 +51,12 @@ pub extern "C" fn llfree_take(
 ) -> u32
     ensures taken { result ≡ ok
         → OnCores (TakesFor order frame.new) handle.old.state.value handle.new.state.value }
-    ensures none { result ≡ no_block
-        → OnCores (FindsNoneFor order) handle.old.state.value handle.new.state.value }
-    ensures contended { result ≡ contended
-        → OnCores (IsContendedFor order) handle.old.state.value handle.new.state.value }
-    ensures order { result ≡ bad_order → 9 < order }
-    ensures lends { result ≢ ok → result ≢ closed
-        → OnCores LendsNoMore handle.old.state.value handle.new.state.value }
+    ensures refused { result ≢ ok → result ≢ closed
+        → OnCores (RefusesTakeAs order result) handle.old.state.value handle.new.state.value }
     ensures shared { result ≢ closed
         → OnCores SharesOne handle.old.state.value handle.new.state.value }
     ensures closed { result ≡ closed → (handle.old.live ≡ false) × (handle.new ≡ handle.old) }
-    ensures refused { result ≢ ok → frame.new ≡ frame.old }
+    ensures stays { result ≢ ok → frame.new ≡ frame.old }
     ensures known { (result ≤ bad_order) ⊎ (result ≡ closed) ⊎ (result ≡ contended) }
 {
     let Some(mut state) = handle.take_out(heap) else {
@@ -96,12 +92,8 @@ pub extern "C" fn llfree_give(handle: &mut CoreHandle, heap: Global, frame: u32,
 pub extern "C" fn llfree_split(handle: &mut CoreHandle, heap: Global, frame: u32, order: u8) -> u32
     ensures split { result ≡ ok
         → OnCores (SplitsFor order frame) handle.old.state.value handle.new.state.value }
-    ensures same { (result ≡ not_held) ⊎ (result ≡ bad_order)
-        → OnCores KeepsCore handle.old.state.value handle.new.state.value }
-    ensures whole { result ≡ bad_order → order ≡ 0 }
-    ensures halves { (result ≡ not_held) ⊎ (result ≡ contended) → 0 < order }
-    ensures counted { result ≡ contended
-        → OnCores CountsOne handle.old.state.value handle.new.state.value }
+    ensures refused { result ≢ ok → result ≢ closed
+        → OnCores (RefusesSplitAs order result) handle.old.state.value handle.new.state.value }
     ensures shared { result ≢ closed
         → OnCores SharesOne handle.old.state.value handle.new.state.value }
     ensures closed { result ≡ closed → (handle.old.live ≡ false) × (handle.new ≡ handle.old) }

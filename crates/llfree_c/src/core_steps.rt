@@ -1,8 +1,9 @@
 //! The calls on a core, by numbers.
 
-ghost use Rattle.std.specs.Prelude.{◌≡◌, ◌≢◌, ◌⊎◌, ◌<◌, ◌≤◌};
-ghost use Rattle.llfree_c.specs.Status.{ok, no_block, bad_order, not_held, contended};
-ghost use Rattle.frame_places.specs.Calls.{SharesOne, TakesFor, GivesFor, SplitsFor, FindsNoneFor, IsContendedFor, LendsNoMore, CountsOne, KeepsCore};
+ghost use Rattle.std.specs.Prelude.{◌≡◌, ◌≢◌, ◌⊎◌, ◌≤◌};
+ghost use Rattle.llfree_c.specs.RefusedCalls.{RefusesTakeAs, RefusesSplitAs};
+ghost use Rattle.llfree_c.specs.Status.{ok, bad_order, not_held, contended};
+ghost use Rattle.frame_places.specs.Calls.{SharesOne, TakesFor, GivesFor, SplitsFor, KeepsCore};
 
 use crate::statuses::{BAD_ORDER, CONTENDED, NO_BLOCK, NOT_HELD, OK};
 use frame_places::{CoreState, Refusal};
@@ -11,12 +12,9 @@ use frame_words::TakeFault;
 pub(crate) fn take(state: &mut CoreState, order: u8, frame: &mut u32) -> u32
     ensures shared { SharesOne state.old state.new }
     ensures taken { result ≡ ok → TakesFor order frame.new state.old state.new }
-    ensures none { result ≡ no_block → FindsNoneFor order state.old state.new }
-    ensures contended { result ≡ contended → IsContendedFor order state.old state.new }
-    ensures order { result ≡ bad_order → 9 < order }
-    ensures lends { result ≢ ok → LendsNoMore state.old state.new }
+    ensures refused { result ≢ ok → RefusesTakeAs order result state.old state.new }
+    ensures stays { result ≢ ok → frame.new ≡ frame.old }
     ensures known { (result ≤ bad_order) ⊎ (result ≡ contended) }
-    ensures refused { result ≢ ok → frame.new ≡ frame.old }
 {
     match state.take(order) {
         Ok(first) => {
@@ -44,10 +42,7 @@ pub(crate) fn give(state: &mut CoreState, frame: u32, order: u8) -> u32
 pub(crate) fn split(state: &mut CoreState, frame: u32, order: u8) -> u32
     ensures shared { SharesOne state.old state.new }
     ensures split { result ≡ ok → SplitsFor order frame state.old state.new }
-    ensures whole { result ≡ bad_order → (order ≡ 0) × KeepsCore state.old state.new }
-    ensures same { result ≡ not_held → KeepsCore state.old state.new }
-    ensures halves { (result ≡ not_held) ⊎ (result ≡ contended) → 0 < order }
-    ensures counted { result ≡ contended → CountsOne state.old state.new }
+    ensures refused { result ≢ ok → RefusesSplitAs order result state.old state.new }
     ensures known { (result ≡ ok) ⊎ (result ≡ bad_order) ⊎ (result ≡ not_held)
         ⊎ (result ≡ contended) }
 {

@@ -1,7 +1,7 @@
 //! A fresh memory for one thread is brought into the state of an image: all of it is taken, and each
 //! block then stays out, is given back, split, or kept.
 
-ghost use Rattle.std.specs.Prelude.{◌≡◌, ◌⊎◌, ℕ, ◌<◌, [], ◌∷◌, ◌++◌, IfOk, IfErr, OnOk, IsTrue};
+ghost use Rattle.std.specs.Prelude.{◌≡◌, ◌≢◌, ◌⊎◌, ℕ, ◌<◌, [], ◌∷◌, ◌++◌, MatchBool, IfOk, IfErr, OnOk, IsTrue};
 ghost use Rattle.std.specs.List.{All};
 ghost use Rattle.std.specs.List.Sorted.{IsPermutation};
 ghost use Rattle.frame_core.specs.Block.{block as block_at};
@@ -9,7 +9,7 @@ ghost use Rattle.frame_core.specs.Holding.{holders};
 ghost use Rattle.frame_core.specs.QuietTake.{FindsNone};
 ghost use Rattle.core_frames.specs.PlainState.{memory_by, held_by};
 ghost use Rattle.frame_places.specs.Claims.{IsHeldAs};
-ghost use Rattle.llfree_c.specs.Replays.{StaysMemory, EndsReplay, FollowsImage, HoldsBlock};
+ghost use Rattle.llfree_c.specs.Replays.{StaysMemory, EndsReplay, FollowsImage, HoldsBlock, IsHeldWhole};
 
 use crate::statuses::{CONTENDED, NO_MEMORY};
 use core_frames::PlainAllocator;
@@ -97,9 +97,9 @@ fn settle(
     laid: &mut Vec<PlainBlock>,
 ) -> Result<(), u32>
     requires core { 0 < allocator.old.geometry.cores }
-    requires same { IsPermutation (block ∷ (laid.old.items ++ pending.old.items)) allocator.old.out }
     requires claimed { All (IsHeldAs allocator.old.geometry.frames numbers.now) claimed.now }
-    requires follows { FollowsImage numbers.now laid.old.items allocator.old }
+    requires follows { IsPermutation (block ∷ (laid.old.items ++ pending.old.items)) allocator.old.out
+        × FollowsImage numbers.now laid.old.items allocator.old }
     ensures memory { StaysMemory allocator.old allocator.new }
     ensures same { OnOk result (IsPermutation (laid.new.items ++ pending.new.items) allocator.new.out) }
     ensures follows { OnOk result (FollowsImage numbers.now laid.new.items allocator.new) }
@@ -126,7 +126,9 @@ fn settle(
 
 // Is it held as one, a huge frame or a single one?
 fn is_held_whole(numbers: &[u64], frame: u32, order: u8) -> bool
-    ensures { IsTrue result → HoldsBlock numbers.now (block_at frame order) }
+    ensures holds { IsTrue result → HoldsBlock numbers.now (block_at frame order) }
+    ensures whole { MatchBool result (IsHeldWhole numbers.now (block_at frame order))
+        (¬ IsHeldWhole numbers.now (block_at frame order)) }
 {
     if order == HUGE_ORDER {
         frame % CHILD_FRAMES == 0 && is_huge(numbers, child_of(frame))
@@ -144,8 +146,7 @@ fn split_into(
     requires core { 0 < allocator.old.geometry.cores }
     requires same { IsPermutation (block ∷ (laid.old.items ++ pending.old.items)) allocator.old.out }
     ensures memory { StaysMemory allocator.old allocator.new }
-    ensures kept { allocator.new.kept ≡ allocator.old.kept }
-    ensures laid { laid.new.items ≡ laid.old.items }
+    ensures stay { (allocator.new.kept ≡ allocator.old.kept) × (laid.new.items ≡ laid.old.items) }
     ensures held { OnOk result ((x : ℕ) → holders x allocator.new.out ≡ holders x allocator.old.out) }
     ensures same { OnOk result (IsPermutation (laid.new.items ++ pending.new.items) allocator.new.out) }
     ensures err { IfErr result (λ e. e ≡ NO_MEMORY) }
@@ -164,7 +165,7 @@ fn split_into(
 
 // Are these just those blocks, in this order?
 fn are_same(laid: &[PlainBlock], blocks: &[FrameBlock]) -> bool
-    ensures { IsTrue result → laid.now ≡ blocks.now }
+    ensures { MatchBool result (laid.now ≡ blocks.now) (laid.now ≢ blocks.now) }
 {
     if laid.len() != blocks.len() {
         return false;

@@ -1,11 +1,11 @@
 //! The numbers of the image at which an allocator that was stopped goes on, from its words.
 
-ghost use Rattle.std.specs.Prelude.{◌≡◌, ◌≢◌, ◌⊎◌, ℕ, ◌<◌, length};
+ghost use Rattle.std.specs.Prelude.{◌≡◌, ◌≢◌, length};
 ghost use Rattle.frame_core.specs.Words.{word_count};
 ghost use Rattle.llfree_c.specs.Images.{image_words, StaysBehind};
 ghost use Rattle.llfree_c.specs.Openings.{AreMemorySizes};
-ghost use Rattle.llfree_c.specs.Status.{ok, bad_geometry, no_room, bad_image};
-ghost use Rattle.llfree_c.specs.StoppedWords.{HasFramesAndCores, SaysOfWords};
+ghost use Rattle.llfree_c.specs.Status.{ok};
+ghost use Rattle.llfree_c.specs.StoppedWords.{HasFramesAndCores, HasNoNumbers, SaysOfWords};
 ghost use Rattle.frame_model.specs.declared.key.Key.{Key};
 
 use crate::images::llfree_image_words;
@@ -38,9 +38,8 @@ pub extern "C" fn llfree_image_of_words(
     ensures says { result ≡ ok → SaysOfWords frames cores words.now numbers.new }
     ensures behind { result ≡ ok → StaysBehind (image_words frames) numbers.old numbers.new }
     ensures refused { result ≢ ok → numbers.new ≡ numbers.old }
-    ensures why { (result ≡ bad_geometry → ¬ AreMemorySizes frames cores)
-        × (result ≡ no_room → length numbers.old < image_words frames) }
-    ensures known { (result ≡ ok) ⊎ (result ≡ bad_geometry) ⊎ (result ≡ no_room) ⊎ (result ≡ bad_image) }
+    ensures why { result ≢ ok
+        → HasNoNumbers frames cores words.now (length numbers.old) result }
 {
     let geometry = match geometry_of(frames, cores) {
         Ok(geometry) => geometry,

@@ -4,8 +4,8 @@ use Rattle.std.specs.List.Sorted.{IsPermutation}
 use Rattle.std.proofs.lemmas.List.Sorted.{All-permutation}
 use Rattle.frame_model.specs.declared.block.FrameBlock.{FrameBlock}
 use Rattle.frame_places.specs.Claims.{IsHeldAs}
-use Rattle.llfree_c.specs.Reopenings.{claimed_blocks, MayBeClaimed}
-use Rattle.llfree_c.proofs.Replays.{apart_still}
+use Rattle.llfree_c.specs.Reopenings.{claimed_blocks, IsClaimedOf, MayBeClaimed}
+use Rattle.llfree_c.proofs.Replays.{apart_still, may_be_claimed}
 use Rattle.llfree_c.proofs.blocks.claimed_in.Goals as goal
 
 pub returns-then-not-are_held_as-clause-err : goal.returns-then-not-are_held_as-clause-err
@@ -23,3 +23,9 @@ returns-then-not-are_apart-clause-err c =
     let no : ¬ MayBeClaimed c.args.frames c.args.numbers.now c.args.claims.now = λ m.
     c.if-not-are_apart.ensures.overlap refl (apart_still (claimed_blocks c.args.claims.now) c.deref-2.result.now same m.apart) in
     search (rules, no)
+
+pub returns-clause-lawful : goal.returns-clause-lawful
+returns-clause-lawful c =
+    let blocks : List FrameBlock = c.in_ok-blocks.blocks.items in
+    let is : IsClaimedOf c.args.frames c.args.numbers.now c.args.claims.now blocks = search rules in
+    may_be_claimed c.args.frames c.args.numbers.now c.args.claims.now blocks is

@@ -16,6 +16,7 @@ returns-then-len-count-clause-cores c =
       record {
         memory = memory;
         image = claimed.image;
+        lawful = c.in_ok-claimed.ensures.lawful;
         laid = (c.in_ok-claimed.claimed.items, one.2 ∙ c.deref.ensures.value, claimed.held, claimed.same);
       },
       unmapped (Shares one.0) (λ b. b.value) _ _ c.in_ok-cores.ensures.cores one.3,

@@ -8,12 +8,14 @@ use Rattle.llfree_c.proofs.Replays.{all_laid, popped}
 use Rattle.llfree_c.proofs.replay.replay.Goals as goal
 use Rattle.llfree_c.proofs.replay.replay.Goals.{else-loop-step-test, then-loop-step-test+in_default}
 
-pub settle-requires-clause-same : goal.settle-requires-clause-same
-settle-requires-clause-same c =
-    let out : List FrameBlock = c.loop-step.allocator.out in
-    popped c.loop-step.laid.items c.pop.new.self.items out c.in-Some.block
-    (subst (λ (bs : List FrameBlock). IsPermutation (c.loop-step.laid.items ++ bs) out) c.in-Some.ensures.items
-    c.loop-step.invariant.same)
+pub settle-requires-clause-follows : goal.settle-requires-clause-follows
+settle-requires-clause-follows c =
+    let out : List FrameBlock = c.loop-step.allocator.out in (
+      popped c.loop-step.laid.items c.pop.new.self.items out c.in-Some.block
+          (subst (λ (bs : List FrameBlock). IsPermutation (c.loop-step.laid.items ++ bs) out) c.in-Some.ensures.items
+          c.loop-step.invariant.same),
+      c.loop-step.invariant.follows,
+    )
 
 pub returns-then-are_same-clause-out : goal.returns-then-are_same-clause-out
 returns-then-are_same-clause-out c =

@@ -1,8 +1,8 @@
-use Rattle.std.proofs.Common.{◌≡◌, ℕ, List, length, sym, subst, ◌∙◌, rules}
+use Rattle.std.proofs.Common.{◌≡◌, ◌≢◌, ℕ, List, length, sym, subst, ◌∙◌, rules}
 use Rattle.frame_model.specs.declared.key.Key.{Key}
 use Rattle.frame_core.specs.Moves.{HasSizes}
 use Rattle.llfree_c.specs.CoreImages.{SaysRebuilt}
-use Rattle.llfree_c.specs.StoppedWords.{HasFramesAndCores}
+use Rattle.llfree_c.specs.StoppedWords.{AreOfAnotherCount, HasFramesAndCores}
 use Rattle.llfree_c.proofs.RebuiltNumbers.{has_sizes, same_count, says_of_sizes, leaves_fitting}
 use Rattle.llfree_c.proofs.stopped_words.llfree_image_of_words.Goals as goal
 
@@ -23,3 +23,14 @@ returns-clause-says c =
       stopped = λ key is s fits same. leaves_fitting key s numbers fits
           (subst (λ (ws : List ℕ). SaysRebuilt key ws numbers) (sym same) (all key is));
     }
+
+pub returns-then-words-word_count-clause-why : goal.returns-then-words-word_count-clause-why
+returns-then-words-word_count-clause-why c =
+    let g = c.in-Ok.geometry in
+    let made = c.in-Ok.ensures.made in
+    let words = c.args.words.now in
+    let other : length words ≢ c.word_count.result = search rules in
+    let no : AreOfAnotherCount c.args.frames c.args.cores words = λ key is e.
+    other (e ∙ sym (c.word_count.ensures
+    ∙ same_count key g (has_sizes c.args.frames c.args.cores key g made.0 made.1 is))) in
+    search (rules, no)

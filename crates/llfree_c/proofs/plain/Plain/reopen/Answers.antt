@@ -29,6 +29,7 @@ returns-clause-reopened c =
     record {
       memory = memory_of_key g c.args.frames [] [] (memory_by state) c.in_ok-geometry.ensures.made.0 refl (no_ranges g) key;
       image = claimed.image;
+      lawful = c.in_ok-claimed.ensures.lawful;
       all = subst (λ (n : ℕ). HoldsAllOf n c.args.numbers.now (state.out ++ state.kept)) size c.in_ok-replay.ensures.follows.all;
       only = c.in_ok-replay.ensures.follows.only;
       held = All-permutation (IsHeldAs c.args.frames c.args.numbers.now) blocks state.out left claimed.held;

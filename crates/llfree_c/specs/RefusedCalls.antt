@@ -1,0 +1,39 @@
+-- Why takes and splits of several threads were refused, by the status that each answered.
+use Rattle.std.specs.Prelude.{◌≡◌, ◌⊎◌, ℕ, ◌<◌, true, false}
+use Rattle.frame_places.specs.Calls.{FindsNoneFor, LosesFor, IsContendedFor, LendsNoMore, CountsNone, CountsOne, KeepsCore}
+use Rattle.frame_places.specs.declared.core_state.CoreState.{CoreState}
+use Rattle.llfree_c.specs.Status.{no_block, bad_order, not_held, not_closed, contended}
+use Rattle.llfree_c.specs.declared.block_handle.BlockHandle.{BlockHandle}
+
+-- why a take of the order by numbers was refused: there are no blocks of that order; or none was found and
+-- no exchange was lost; or one was, or the block that was taken found no place, which alone is counted
+abbrev pub RefusesTakeAs : (order status : ℕ) → CoreState → CoreState → Type 0
+RefusesTakeAs order status s t =
+    ((status ≡ bad_order) × (9 < order) × LendsNoMore s t × CountsNone s t)
+    ⊎ ((status ≡ no_block) × FindsNoneFor order s t × CountsNone s t)
+    ⊎ ((status ≡ contended) × IsContendedFor order s t)
+
+-- why a take of a block of the order into the struct was refused: that carries one; there are no blocks of
+-- that order; or none was found and no exchange was lost; or one was
+abbrev pub RefusesBlockAs : (order : ℕ) → (held : BlockHandle) → (status : ℕ) → CoreState → CoreState → Type 0
+RefusesBlockAs order held status s t =
+    ((status ≡ not_closed) × (held.live ≡ true) × KeepsCore s t)
+    ⊎ ((status ≡ bad_order) × (9 < order) × LendsNoMore s t)
+    ⊎ ((status ≡ no_block) × FindsNoneFor order s t)
+    ⊎ ((status ≡ contended) × LosesFor order s t)
+
+-- why a split of a block of the order by numbers was refused: it has no halves; or it is not held; or a half
+-- found no place, which alone is counted
+abbrev pub RefusesSplitAs : (order status : ℕ) → CoreState → CoreState → Type 0
+RefusesSplitAs order status s t =
+    ((status ≡ bad_order) × (order ≡ 0) × KeepsCore s t × CountsNone s t)
+    ⊎ ((status ≡ not_held) × (0 < order) × KeepsCore s t × CountsNone s t)
+    ⊎ ((status ≡ contended) × (0 < order) × CountsOne s t)
+
+-- why what a struct carries was not split into it and the other one: it has no halves; or none is carried; or
+-- the other one carries one
+abbrev pub RefusesHalvesAs : (held upper : BlockHandle) → (status : ℕ) → CoreState → CoreState → Type 0
+RefusesHalvesAs held upper status s t = KeepsCore s t
+    × (((status ≡ bad_order) × (held.order ≡ 0))
+    ⊎ ((status ≡ not_held) × (held.live ≡ false))
+    ⊎ ((status ≡ not_closed) × (upper.live ≡ true)))
