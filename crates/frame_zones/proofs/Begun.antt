@@ -7,7 +7,7 @@ use Rattle.std.proofs.lemmas.List.{get_or_append_left, get_or_push, length_push,
 use Rattle.core_frames.specs.declared.allocator.Allocator.{Allocator}
 use Rattle.core_frames.specs.declared.allocator.Core.{Core}
 use Rattle.core_frames.specs.Cores.{IsNewCore, IsOpened}
-use Rattle.frame_zones.specs.Sizes.{AreLaidOut}
+use Rattle.frame_zones.specs.Sizes.{AreLaidOut, HaveCores}
 use Rattle.frame_zones.specs.Spans.{memory_of_span, MayComeAfter, MayBeZones, HoldsLawful}
 use Rattle.frame_zones.specs.Openings.{AreNewCoresIn, IsLonger, IsAt, AreAt, AreDealt, IsBegun, AreOpened}
 use Rattle.frame_zones.specs.Zones.{zone_count}
@@ -132,12 +132,22 @@ laid_out total cores spans zones firsts all may was whole =
           );
     }
 
+-- each of them has so many cores
+pub have_cores : (total cores : ℕ) (spans : List Span) (zones : List Allocator) (firsts : List ℕ)
+    (all : List ZoneCore) → MayBeZones cores spans → IsOpening total cores spans zones firsts all
+    → length zones ≡ length spans → HaveCores cores zones
+have_cores total cores spans zones firsts all may was whole z a within =
+    let d : Span = some_of spans (omega (arith, may.some)) in
+    ap (λ (k : Key). k.cores) (was.are_at z d a within).memory
+    ∙ (one_at cores 0 spans z d (subst (λ n. z < n) whole within) may.apart).same_cores
+
 pub opening_all : (zs : Zones) (cores : ℕ) (spans : List Span) (all : List ZoneCore)
     → MayBeZones cores spans → IsOpening (length spans) cores spans zs.zones.items zs.firsts.items all
-    → zone_count zs ≡ length spans → AreOpened cores spans zs all
-opening_all zs cores spans all may was count = record {
+    → zone_count zs ≡ length spans → zs.cores ≡ cores → AreOpened cores spans zs all
+opening_all zs cores spans all may was count many = record {
   lawful = may;
   zones = count;
+  as_many = many;
   are_at = was.are_at;
   count = was.as_many;
   each = λ k c within.

@@ -7,3 +7,4 @@ pub mod Dealing
 pub mod Begun
 pub mod Gathering
 pub mod Parted
+pub mod Closed

@@ -7,4 +7,5 @@ pub mod Laws
 pub mod Splits
 pub mod Openings
 pub mod Parting
+pub mod Closing
 pub mod Keeping

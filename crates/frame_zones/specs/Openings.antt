@@ -55,6 +55,7 @@ pub record IsNewIn (zs : Zones) (c : ZoneCore) : Type 0 where
 pub record AreOpened (cores : ℕ) (spans : List Span) (zs : Zones) (cs : List ZoneCore) : Type 0 where
   pub lawful : MayBeZones cores spans
   pub zones : zone_count zs ≡ length spans
+  pub as_many : zs.cores ≡ cores
   pub are_at : AreAt spans zs.firsts.items zs.zones.items
   pub count : length cs ≡ cores
   pub each : All (IsNewIn zs) cs

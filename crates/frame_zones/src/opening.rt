@@ -33,7 +33,14 @@ impl Zones {
             zones.push_reserved(zone);
             firsts.push_reserved(span.first);
         }
-        Ok((Zones { zones, firsts }, all))
+        Ok((
+            Zones {
+                zones,
+                firsts,
+                cores,
+            },
+            all,
+        ))
     }
 }
 

@@ -1,7 +1,7 @@
-use Rattle.std.proofs.Common.{◌≡◌, ◌<◌, ◌++◌, ◌∷◌, [], length, slice_index_or, List, ℕ, sym, ◌∙◌, ap, subst, arith, rules}
+use Rattle.std.proofs.Common.{◌≡◌, ◌<◌, ◌++◌, ◌∷◌, [], length, slice_index_or, List, ℕ, refl, sym, ◌∙◌, ap, subst, arith, rules}
 use Rattle.core_frames.specs.declared.allocator.Allocator.{Allocator}
 use Rattle.frame_zones.specs.declared.spans.Span.{Span}
-use Rattle.frame_zones.proofs.Begun.{IsOpening, opening_one, opening_all, laid_out}
+use Rattle.frame_zones.proofs.Begun.{IsOpening, opening_one, opening_all, laid_out, have_cores}
 use Rattle.frame_zones.proofs.Lying.{one_at}
 use Rattle.frame_zones.proofs.zones.Zones.open.Goals as goal
 
@@ -50,9 +50,11 @@ pub invariant_of-result : goal.invariant_of-result
 invariant_of-result c = record {
   laid_out = laid_out _ _ _ _ _ _ c.loop-span.invariant.lawful c.loop-span.invariant.opening
       (omega (arith, c.loop-span.invariant.count, c.loop-span.auto.span-index-end, c.loop-span-test.false));
+  same_cores = have_cores _ _ _ _ _ _ c.loop-span.invariant.lawful c.loop-span.invariant.opening
+      (omega (arith, c.loop-span.invariant.count, c.loop-span.auto.span-index-end, c.loop-span-test.false));
 }
 
 pub returns-clause-opened : goal.returns-clause-opened
 returns-clause-opened c =
     opening_all _ _ _ _ c.loop-span.invariant.lawful c.loop-span.invariant.opening
-    (omega (arith, c.loop-span.invariant.count, c.loop-span.auto.span-index-end, c.loop-span-test.false))
+    (omega (arith, c.loop-span.invariant.count, c.loop-span.auto.span-index-end, c.loop-span-test.false)) refl
