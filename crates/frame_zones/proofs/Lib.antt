@@ -8,3 +8,4 @@ pub mod Begun
 pub mod Gathering
 pub mod Parted
 pub mod Closed
+pub mod Reopened

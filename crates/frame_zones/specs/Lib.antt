@@ -8,4 +8,5 @@ pub mod Splits
 pub mod Openings
 pub mod Parting
 pub mod Closing
+pub mod Reopening
 pub mod Keeping

@@ -10,6 +10,7 @@ mod laws;
 mod numbers;
 mod opening;
 mod parting;
+mod reopening;
 mod spans;
 mod splitting;
 mod taking;
