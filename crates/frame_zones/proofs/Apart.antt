@@ -1,7 +1,6 @@
 -- Blocks lie within their zones, and zones are apart.
-use Rattle.std.proofs.Common.{◌≡◌, ◌≢◌, ◌<◌, ◌≤◌, ◌+◌, ◌-◌, ◌*◌, ◌/◌, ◌%◌, ◌^◌, ℕ, sym, subst, ap, ◌∙◌, slice_index_or, List, [], ◌∷◌, length, arith, inl, inr}
+use Rattle.std.proofs.Common.{◌≡◌, ◌≢◌, ◌<◌, ◌≤◌, ◌+◌, ◌-◌, ◌*◌, ◌/◌, ◌%◌, ◌^◌, ℕ, sym, ap, ◌∙◌, List, [], ◌∷◌, length, arith, inl, inr}
 use Rattle.std.proofs.lemmas.Bool.{cases_order}
-use Rattle.std.proofs.lemmas.List.{get_or_default}
 use Rattle.std.proofs.lemmas.Nat.{pow-add}
 use Rattle.std.proofs.Math.Nat.{one-le-pow, mul_assoc, add_comm, add-mul-mod_self_right}
 use Rattle.core_frames.specs.declared.allocator.Allocator.{Allocator}
@@ -56,12 +55,9 @@ are_apart zs b c one two other x both =
       ]
     ]
 
--- the number of a block's first frame, as its zone's first frame was read, is one of all frames
-pub fits_frame : (zs : Zones) (b : ZoneBlock) (n : ℕ) → IsOutIn zs b → n ≡ slice_index_or zs.firsts.items b.zone n
-    → n + b.block.frame < most_zone_frames
-fits_frame zs b n out is =
+-- the number of a block's first frame is one of all frames
+pub fits_frame : (zs : Zones) (b : ZoneBlock) → IsOutIn zs b → first_frame_of zs b.zone + b.block.frame < most_zone_frames
+fits_frame zs b out =
     let a : Allocator = some_item zs.zones.items (omega (arith, out.zone)) in
-    let within : b.zone < length zs.firsts.items = subst (λ k. b.zone < k) (sym zs.laid_out.count) out.zone in
-    let at : n ≡ slice_index_or zs.firsts.items b.zone 0 = is ∙ get_or_default zs.firsts.items b.zone n 0 within in
     let some : 1 ≤ 2 ^ b.block.order = one-le-pow b.block.order 2 (omega arith) in
-    grind (arith, at, some, (lies_inside zs b out).to a, zs.laid_out.inside b.zone a out.zone)
+    grind (arith, some, (lies_inside zs b out).to a, zs.laid_out.inside b.zone a out.zone)

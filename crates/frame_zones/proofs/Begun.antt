@@ -7,11 +7,11 @@ use Rattle.std.proofs.lemmas.List.{get_or_append_left, get_or_push, length_push,
 use Rattle.core_frames.specs.declared.allocator.Allocator.{Allocator}
 use Rattle.core_frames.specs.declared.allocator.Core.{Core}
 use Rattle.core_frames.specs.Cores.{IsNewCore, IsOpened}
-use Rattle.frame_zones.specs.Sizes.{AreLaidOut}
-use Rattle.frame_zones.specs.Spans.{memory_of_span, MayComeAfter, MayBeZones, HoldsLawful}
+use Rattle.frame_zones.specs.Sizes.{AreLaidOut, HaveCores}
+use Rattle.frame_zones.specs.Spans.{Place, MayComeAfter, MayBeZones, HoldsLawful}
+use Rattle.frame_zones.specs.declared.spans.Span.{Span}
 use Rattle.frame_zones.specs.Openings.{AreNewCoresIn, IsLonger, IsAt, AreAt, AreDealt, IsBegun, AreOpened}
 use Rattle.frame_zones.specs.Zones.{zone_count}
-use Rattle.frame_zones.specs.declared.spans.Span.{Span}
 use Rattle.frame_zones.specs.declared.zones.Zones.{Zones}
 use Rattle.frame_zones.specs.declared.zones.ZoneCore.{ZoneCore}
 use Rattle.frame_zones.proofs.Lying.{one_at, ascending}
@@ -20,18 +20,18 @@ some_of : {X : Type 0} (xs : List X) → 0 < length xs → X
 some_of [] within = absurd (omega (arith, within))
 some_of (x ∷ xs) within = x
 
--- so many zones were opened, the first ones of the spans
-pub record IsOpening (total cores : ℕ) (spans : List Span) (zones : List Allocator) (firsts : List ℕ)
+-- so many zones were opened, the first ones of the places
+pub record IsOpening (total cores : ℕ) (places : List Place) (zones : List Allocator) (firsts : List ℕ)
     (all : List ZoneCore) : Type 0 where
-  pub are_at : AreAt spans firsts zones
+  pub are_at : AreAt places firsts zones
   pub count : length firsts ≡ length zones
   pub as_many : length all ≡ cores
   pub homes : (k : ℕ) (c : ZoneCore) → k < length all → (slice_index_or all k c).home < total
   pub each : (k : ℕ) (c : ZoneCore) → k < length all → AreNewCoresIn zones (slice_index_or all k c)
 
-pub opening_none : (total cores : ℕ) (spans : List Span) (all : List ZoneCore) → length all ≡ cores
-    → All (IsBegun total) all → IsOpening total cores spans [] [] all
-opening_none total cores spans all count begun = record {
+pub opening_none : (total cores : ℕ) (places : List Place) (all : List ZoneCore) → length all ≡ cores
+    → All (IsBegun total) all → IsOpening total cores places [] [] all
+opening_none total cores places all count begun = record {
   are_at = λ z s a within. absurd (omega (arith, within));
   count = omega arith;
   as_many = count;
@@ -43,7 +43,7 @@ opening_none total cores spans all count begun = record {
 }
 
 -- an item of a list with one more at its end
-more_at : {A B : Type 0} (P : A → B → Type 0) (xs : List A) (ys : List B) (x : A) (y : B) → length ys ≡ length xs
+pub more_at : {A B : Type 0} (P : A → B → Type 0) (xs : List A) (ys : List B) (x : A) (y : B) → length ys ≡ length xs
     → ((z : ℕ) (d : A) (e : B) → z < length xs → P (slice_index_or xs z d) (slice_index_or ys z e)) → P x y
     → (z : ℕ) (d : A) (e : B) → z < length (xs ++ x ∷ [])
     → P (slice_index_or (xs ++ x ∷ []) z d) (slice_index_or (ys ++ y ∷ []) z e)
@@ -59,31 +59,31 @@ more_at {A} {B} P xs ys x y same before last z d e within =
           (subst (λ (v : B). P x v) (sym (get_or_push ys y e z (same ∙ at))) last)
     ]
 
-pub opening_one : (total cores : ℕ) (spans : List Span) (zones : List Allocator) (firsts : List ℕ)
-    (all new : List ZoneCore) (s : Span) (a : Allocator) (parts : List Core)
-    → IsOpening total cores spans zones firsts all
-    → IsOpened (memory_of_span s) a parts → HoldsLawful s → s ≡ slice_index_or spans (length zones) s
-    → length zones < length spans → length parts ≡ length all → AreDealt all parts new
-    → IsOpening total cores spans (zones ++ a ∷ []) (firsts ++ s.first ∷ []) new
-opening_one total cores spans zones firsts all new s a parts was opened lawful is fewer same dealt = record {
+pub opening_one : (total cores : ℕ) (places : List Place) (zones : List Allocator) (firsts : List ℕ)
+    (all new : List ZoneCore) (p : Place) (a : Allocator) (parts : List Core)
+    → IsOpening total cores places zones firsts all
+    → IsOpened p.key a parts → p ≡ slice_index_or places (length zones) p
+    → length zones < length places → length parts ≡ length all → AreDealt all parts new
+    → IsOpening total cores places (zones ++ a ∷ []) (firsts ++ p.first ∷ []) new
+opening_one total cores places zones firsts all new p a parts was opened is fewer same dealt = record {
   are_at = λ z t b within.
-      elim (cases_lt z (length zones)) as (λ _. IsAt (slice_index_or spans z t) (slice_index_or (firsts ++ s.first ∷ []) z 0) (slice_index_or (zones ++ a ∷ []) z b)) [
+      elim (cases_lt z (length zones)) as (λ _. IsAt (slice_index_or places z t) (slice_index_or (firsts ++ p.first ∷ []) z 0) (slice_index_or (zones ++ a ∷ []) z b)) [
         | inl below ↦
-            subst (λ n. IsAt (slice_index_or spans z t) n (slice_index_or (zones ++ a ∷ []) z b))
-            (sym (get_or_append_left firsts (s.first ∷ []) 0 z (subst (λ n. z < n) (sym was.count) below)))
-            (subst (λ (e : Allocator). IsAt (slice_index_or spans z t) (slice_index_or firsts z 0) e)
+            subst (λ n. IsAt (slice_index_or places z t) n (slice_index_or (zones ++ a ∷ []) z b))
+            (sym (get_or_append_left firsts (p.first ∷ []) 0 z (subst (λ n. z < n) (sym was.count) below)))
+            (subst (λ (e : Allocator). IsAt (slice_index_or places z t) (slice_index_or firsts z 0) e)
             (sym (get_or_append_left zones (a ∷ []) b z below)) (was.are_at z t b below))
         | inr past ↦
             let at : length zones ≡ z = omega (arith, past, within, length_push zones a) in
-            let here : s ≡ slice_index_or spans z t =
-            is ∙ get_or_default spans (length zones) s t fewer ∙ ap (λ i. slice_index_or spans i t) at in
-            subst (λ n. IsAt (slice_index_or spans z t) n (slice_index_or (zones ++ a ∷ []) z b))
-            (sym (get_or_push firsts s.first 0 z (was.count ∙ at)))
-            (subst (λ (e : Allocator). IsAt (slice_index_or spans z t) s.first e) (sym (get_or_push zones a b z at))
-            (subst (λ (u : Span). IsAt u s.first a) here
-            (record { first_frame = refl; memory = opened.memory; is_key = opened.is_key; ranges = lawful })))
+            let here : p ≡ slice_index_or places z t =
+            is ∙ get_or_default places (length zones) p t fewer ∙ ap (λ i. slice_index_or places i t) at in
+            subst (λ n. IsAt (slice_index_or places z t) n (slice_index_or (zones ++ a ∷ []) z b))
+            (sym (get_or_push firsts p.first 0 z (was.count ∙ at)))
+            (subst (λ (e : Allocator). IsAt (slice_index_or places z t) p.first e) (sym (get_or_push zones a b z at))
+            (subst (λ (u : Place). IsAt u p.first a) here
+            (record { first_frame = refl; memory = opened.memory; is_key = opened.is_key })))
       ];
-  count = length_push firsts s.first ∙ ap (λ n. n + 1) was.count ∙ sym (length_push zones a);
+  count = length_push firsts p.first ∙ ap (λ n. n + 1) was.count ∙ sym (length_push zones a);
   as_many = dealt.count ∙ was.as_many;
   homes = λ k c within.
       let here = subst (λ n. k < n) dealt.count within in
@@ -104,14 +104,14 @@ opening_one total cores spans zones firsts all new s a parts was opened lawful i
       };
 }
 
--- all zones lie as the spans do
-pub laid_out : (total cores : ℕ) (spans : List Span) (zones : List Allocator) (firsts : List ℕ)
-    (all : List ZoneCore) → MayBeZones cores spans → IsOpening total cores spans zones firsts all
-    → length zones ≡ length spans → AreLaidOut zones firsts
-laid_out total cores spans zones firsts all may was whole =
-    let d : Span = some_of spans (omega (arith, may.some)) in
-    let follows : (i : ℕ) → i < length zones → MayComeAfter cores 0 (slice_index_or spans i d) =
-    λ i within. one_at cores 0 spans i d (subst (λ n. i < n) whole within) may.apart in
+-- all zones lie as the places do
+pub laid_out : (total cores : ℕ) (places : List Place) (zones : List Allocator) (firsts : List ℕ)
+    (all : List ZoneCore) → MayBeZones cores places → IsOpening total cores places zones firsts all
+    → length zones ≡ length places → AreLaidOut zones firsts
+laid_out total cores places zones firsts all may was whole =
+    let d : Place = some_of places (omega (arith, may.some)) in
+    let follows : (i : ℕ) → i < length zones → MayComeAfter cores 0 (slice_index_or places i d) =
+    λ i within. one_at cores 0 places i d (subst (λ n. i < n) whole within) may.apart in
     record {
       few = omega (arith, whole, may.few);
       count = was.count;
@@ -128,16 +128,26 @@ laid_out total cores spans zones firsts all may was whole =
             at.first_frame,
             ap (λ (k : Key). k.children) at.memory,
             (was.are_at j d a within).first_frame,
-            ascending cores 0 spans i j d d less (subst (λ n. j < n) whole within) may.apart,
+            ascending cores 0 places i j d d less (subst (λ n. j < n) whole within) may.apart,
           );
     }
 
-pub opening_all : (zs : Zones) (cores : ℕ) (spans : List Span) (all : List ZoneCore)
-    → MayBeZones cores spans → IsOpening (length spans) cores spans zs.zones.items zs.firsts.items all
-    → zone_count zs ≡ length spans → AreOpened cores spans zs all
-opening_all zs cores spans all may was count = record {
+-- each of them has so many cores
+pub have_cores : (total cores : ℕ) (places : List Place) (zones : List Allocator) (firsts : List ℕ)
+    (all : List ZoneCore) → MayBeZones cores places → IsOpening total cores places zones firsts all
+    → length zones ≡ length places → HaveCores cores zones
+have_cores total cores places zones firsts all may was whole z a within =
+    let d : Place = some_of places (omega (arith, may.some)) in
+    ap (λ (k : Key). k.cores) (was.are_at z d a within).memory
+    ∙ (one_at cores 0 places z d (subst (λ n. z < n) whole within) may.apart).same_cores
+
+pub opening_all : (zs : Zones) (total cores : ℕ) (places : List Place) (all : List ZoneCore)
+    → MayBeZones cores places → IsOpening total cores places zs.zones.items zs.firsts.items all
+    → zone_count zs ≡ total → zone_count zs ≡ length places → zs.cores ≡ cores → AreOpened cores places zs all
+opening_all zs total cores places all may was whole count many = record {
   lawful = may;
   zones = count;
+  as_many = many;
   are_at = was.are_at;
   count = was.as_many;
   each = λ k c within.
@@ -145,8 +155,21 @@ opening_all zs cores spans all may was count = record {
       record {
         are_cores = record {
           parts = record { count = new.count; each = λ z a x z-within. (new.each z a x z-within).is_core };
-          home = subst (λ n. (slice_index_or all k c).home < n) (sym count) (was.homes k c within);
+          home = subst (λ n. (slice_index_or all k c).home < n) (sym whole) (was.homes k c within);
         };
         each = λ z a x z-within. new.each z a x z-within;
       };
 }
+
+-- one span more may hold its ranges back
+pub holds_one : (spans : List Span) (i : ℕ) (s : Span) → i < length spans → s ≡ slice_index_or spans i s
+    → ((k : ℕ) (d : Span) → k < i → HoldsLawful (slice_index_or spans k d)) → HoldsLawful s
+    → (k : ℕ) (d : Span) → k < i + 1 → HoldsLawful (slice_index_or spans k d)
+holds_one spans i s within is before holds k d below =
+    elim (cases_lt k i) as (λ _. HoldsLawful (slice_index_or spans k d)) [
+      | inl less ↦ before k d less
+      | inr past ↦
+          let here : i ≡ k = omega (arith, past, below) in
+          subst (λ (t : Span). HoldsLawful t)
+          (is ∙ get_or_default spans i s d within ∙ ap (λ j. slice_index_or spans j d) here) holds
+    ]

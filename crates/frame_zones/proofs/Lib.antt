@@ -7,3 +7,5 @@ pub mod Dealing
 pub mod Begun
 pub mod Gathering
 pub mod Parted
+pub mod Closed
+pub mod Reopened

@@ -5,15 +5,15 @@ use Rattle.std.proofs.lemmas.List.{get_or_append_left, get_or_push, length_push}
 use Rattle.std.proofs.lemmas.List.Elements.{All-get_or}
 use Rattle.core_frames.specs.declared.allocator.Allocator.{Allocator}
 use Rattle.core_frames.specs.declared.allocator.Core.{Core}
-use Rattle.core_frames.specs.Cores.{IsCoreOf}
+use Rattle.core_frames.specs.Cores.{memory_of, IsCoreOf}
 use Rattle.frame_zones.specs.Openings.{IsLonger, AreDealt}
 use Rattle.frame_zones.specs.Parting.{PartsOff, KeepsFirsts}
 use Rattle.frame_zones.specs.Zones.{HasCoresIn}
-use Rattle.frame_zones.specs.Sizes.{AreLaidOut, end_from}
+use Rattle.frame_zones.specs.Sizes.{AreLaidOut, HaveCores, end_from}
 use Rattle.frame_zones.specs.Spans.{most_zone_frames}
 use Rattle.frame_zones.specs.declared.zones.ZoneCore.{ZoneCore}
 
-some_of : {X : Type 0} (xs : List X) → 0 < length xs → X
+pub some_of : {X : Type 0} (xs : List X) → 0 < length xs → X
 some_of [] within = absurd (omega (arith, within))
 some_of (x ∷ xs) within = x
 
@@ -87,6 +87,14 @@ laid_less zones us firsts gs a first is firsts-is laid =
           (subst (λ (e : Allocator). end_from (slice_index_or firsts i 0) e ≤ slice_index_or firsts j 0) (zone-at i d i-within)
           (laid.ascend i j d less (omega (arith, one, within)))));
     }
+
+-- they have as many cores as before
+pub cores_less : (n : ℕ) (zones us : List Allocator) (a : Allocator) → zones ≡ us ++ a ∷ [] → HaveCores n zones
+    → HaveCores n us
+cores_less n zones us a is have z b within =
+    subst (λ (e : Allocator). (memory_of e).cores ≡ n)
+    (ap (λ (l : List Allocator). slice_index_or l z b) is ∙ get_or_append_left us (a ∷ []) b z within)
+    (have z b (omega (arith, within, ap length is, length_push us a)))
 
 pub keeps_firsts : (firsts gs : List ℕ) (first : ℕ) → firsts ≡ gs ++ first ∷ [] → KeepsFirsts firsts gs
 keeps_firsts firsts gs first is z within =

@@ -7,4 +7,6 @@ pub mod Laws
 pub mod Splits
 pub mod Openings
 pub mod Parting
+pub mod Closing
+pub mod Reopening
 pub mod Keeping

@@ -1,5 +1,5 @@
 -- What an opening of zones gives.
-use Rattle.std.specs.Prelude.{◌≡◌, ◌⊎◌, ℕ, ◌<◌, ◌++◌, ◌∷◌, List, [], length, slice_index_or}
+use Rattle.std.specs.Prelude.{◌≡◌, ◌⊎◌, ℕ, ◌<◌, ◌++◌, ◌∷◌, List, [], length, map, slice_index_or}
 use Rattle.std.specs.List.{All}
 use Rattle.frame_words.specs.declared.fault.Fault.{Fault}
 use Rattle.frame_words.specs.declared.fault.Fault.TheVariants.{BadRange, NoMemory}
@@ -7,8 +7,9 @@ use Rattle.frame_core.specs.Key.{IsKey}
 use Rattle.core_frames.specs.declared.allocator.Allocator.{Allocator}
 use Rattle.core_frames.specs.declared.allocator.Core.{Core}
 use Rattle.core_frames.specs.Cores.{memory_of, IsNewCore}
-use Rattle.frame_zones.specs.Spans.{memory_of_span, MayBeZones, HoldsLawful}
+use Rattle.frame_zones.specs.Spans.{Place, place_of, place_at, MayBeZones, HoldsLawful}
 use Rattle.frame_zones.specs.Zones.{zone_count, AreCoresOf, InEach}
+use Rattle.frame_zones.specs.declared.image.ZoneImage.{ZoneImage}
 use Rattle.frame_zones.specs.declared.spans.Span.{Span}
 use Rattle.frame_zones.specs.declared.zones.Zones.{Zones}
 use Rattle.frame_zones.specs.declared.zones.ZoneCore.{ZoneCore}
@@ -34,28 +35,28 @@ pub record AreDealt (old : List ZoneCore) (parts : List Core) (new : List ZoneCo
 abbrev pub IsBegun : ℕ → ZoneCore → Type 0
 IsBegun zones c = (c.cores.items ≡ []) × (c.home < zones)
 
--- the allocator, at its first frame, is of the memory of the span, which is lawful
-pub record IsAt (s : Span) (first : ℕ) (a : Allocator) : Type 0 where
-  pub first_frame : first ≡ s.first
-  pub memory : memory_of a ≡ memory_of_span s
-  pub is_key : IsKey (memory_of_span s)
-  pub ranges : HoldsLawful s
+-- the allocator, at its first frame, is of the memory that lies at this place
+pub record IsAt (p : Place) (first : ℕ) (a : Allocator) : Type 0 where
+  pub first_frame : first ≡ p.first
+  pub memory : memory_of a ≡ p.key
+  pub is_key : IsKey p.key
 
--- the allocators, at their first frames, are of the memories of the spans
-abbrev pub AreAt : List Span → List ℕ → List Allocator → Type 0
-AreAt spans firsts zones = (z : ℕ) (s : Span) (a : Allocator) → z < length zones
-    → IsAt (slice_index_or spans z s) (slice_index_or firsts z 0) (slice_index_or zones z a)
+-- the allocators, at their first frames, are of the memories that lie at these places
+abbrev pub AreAt : List Place → List ℕ → List Allocator → Type 0
+AreAt places firsts zones = (z : ℕ) (p : Place) (a : Allocator) → z < length zones
+    → IsAt (slice_index_or places z p) (slice_index_or firsts z 0) (slice_index_or zones z a)
 
 -- a core of all zones as an opening gives it: with nothing lent and nothing kept in any of them
 pub record IsNewIn (zs : Zones) (c : ZoneCore) : Type 0 where
   pub are_cores : AreCoresOf zs c
   pub each : InEach zs (λ a x _. IsNewCore a x) c c
 
--- the zones are of these spans, and these are their cores
-pub record AreOpened (cores : ℕ) (spans : List Span) (zs : Zones) (cs : List ZoneCore) : Type 0 where
-  pub lawful : MayBeZones cores spans
-  pub zones : zone_count zs ≡ length spans
-  pub are_at : AreAt spans zs.firsts.items zs.zones.items
+-- the zones lie at these places, and these are their cores
+pub record AreOpened (cores : ℕ) (places : List Place) (zs : Zones) (cs : List ZoneCore) : Type 0 where
+  pub lawful : MayBeZones cores places
+  pub zones : zone_count zs ≡ length places
+  pub as_many : zs.cores ≡ cores
+  pub are_at : AreAt places zs.firsts.items zs.zones.items
   pub count : length cs ≡ cores
   pub each : All (IsNewIn zs) cs
 
@@ -63,5 +64,11 @@ pub record AreOpened (cores : ℕ) (spans : List Span) (zs : Zones) (cs : List Z
 -- is not enough memory
 abbrev pub AreUnopenedFor : ℕ → List Span → Fault → Type 0
 AreUnopenedFor cores spans fault =
-    ((fault ≡ BadRange) × ¬ (MayBeZones cores spans × All HoldsLawful spans))
-    ⊎ ((fault ≡ NoMemory) × MayBeZones cores spans)
+    ((fault ≡ BadRange) × ¬ (MayBeZones cores (map place_of spans) × All HoldsLawful spans))
+    ⊎ ((fault ≡ NoMemory) × MayBeZones cores (map place_of spans))
+
+-- why an opening at images was refused: zones may not lie so; or there is not enough memory
+abbrev pub AreUnopenedAt : ℕ → List ZoneImage → Fault → Type 0
+AreUnopenedAt cores images fault =
+    ((fault ≡ BadRange) × ¬ MayBeZones cores (map place_at images))
+    ⊎ ((fault ≡ NoMemory) × MayBeZones cores (map place_at images))

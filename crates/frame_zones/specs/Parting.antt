@@ -1,5 +1,5 @@
 -- What is parted off for a closing.
-use Rattle.std.specs.Prelude.{◌≡◌, ℕ, ◌<◌, ◌++◌, ◌∷◌, List, [], length, slice_index_or}
+use Rattle.std.specs.Prelude.{◌≡◌, ℕ, ◌<◌, ◌++◌, ◌∷◌, List, [], length, slice_index_or, vec_len, vec_capacity}
 use Rattle.std.specs.List.{All}
 use Rattle.core_frames.specs.declared.allocator.Allocator.{Allocator}
 use Rattle.core_frames.specs.declared.allocator.Core.{Core}
@@ -11,6 +11,10 @@ use Rattle.frame_zones.specs.declared.zones.ZoneCore.{ZoneCore}
 -- the core has a part in some zone
 abbrev pub HasPart : ZoneCore → Type 0
 HasPart c = 0 < length c.cores.items
+
+-- the core has room for one part more
+abbrev pub HasRoom : ZoneCore → Type 0
+HasRoom c = vec_len c.cores < vec_capacity c.cores
 
 -- the last of the allocators was parted off, with its cores, in order; the others and their cores are
 -- as before

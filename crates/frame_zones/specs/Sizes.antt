@@ -8,6 +8,11 @@ use Rattle.frame_zones.specs.Spans.{most_zones, most_zone_frames}
 abbrev pub end_from : ℕ → Allocator → ℕ
 end_from first a = first + 512 * (memory_of a).children
 
+-- each has so many cores
+abbrev pub HaveCores : ℕ → List Allocator → Type 0
+HaveCores n zones = (z : ℕ) (a : Allocator) → z < length zones
+    → (memory_of (slice_index_or zones z a)).cores ≡ n
+
 -- each zone has a first frame, a multiple of 512, ends within all frames, and lies below each later one
 pub record AreLaidOut (zones : List Allocator) (firsts : List ℕ) : Type 0 where
   pub few : length zones ≤ most_zones

@@ -1,10 +1,10 @@
 //! Opening zones.
 
-ghost use Rattle.std.specs.Prelude.{◌≡◌, ◌<◌, IfOk, IfErr, OnOk, vec_len};
+ghost use Rattle.std.specs.Prelude.{◌≡◌, ◌<◌, IfOk, IfErr, OnOk, vec_len, map};
 ghost use Rattle.std.specs.List.{All};
 ghost use Rattle.core_frames.specs.Cores.{IsOpened};
 ghost use Rattle.core_frames.specs.Ranges.{IsUnopenedFor};
-ghost use Rattle.frame_zones.specs.Spans.{memory_of_span, HoldsLawful};
+ghost use Rattle.frame_zones.specs.Spans.{place_of, HoldsLawful};
 ghost use Rattle.frame_zones.specs.Openings.{IsLonger, AreDealt, IsBegun, AreOpened, AreUnopenedFor};
 
 use crate::spans::{Span, may_be_zones};
@@ -18,7 +18,8 @@ impl Zones {
     /// the end of each zone and in its ranges. Refused as `BadRange` where zones may not lie so or
     /// hold that back, else for want of memory.
     pub fn open(alloc: Global, cores: u32, spans: &[Span]) -> Result<(Zones, Vec<ZoneCore>), Fault>
-        ensures opened { IfOk result (λ r. AreOpened cores spans.now r.0 r.1.items) }
+        ensures opened { IfOk result (λ r. AreOpened cores (map place_of spans.now) r.0 r.1.items) }
+        ensures lawful { IfOk result (λ _. All HoldsLawful spans.now) }
         ensures refused { IfErr result (AreUnopenedFor cores spans.now) }
     {
         if !may_be_zones(cores, spans) {
@@ -33,21 +34,28 @@ impl Zones {
             zones.push_reserved(zone);
             firsts.push_reserved(span.first);
         }
-        Ok((Zones { zones, firsts }, all))
+        Ok((
+            Zones {
+                zones,
+                firsts,
+                cores,
+            },
+            all,
+        ))
     }
 }
 
 // The allocator of the span, with its cores.
 fn open_zone(alloc: Global, span: &Span) -> Result<(Allocator, Vec<Core>), Fault>
-    ensures opened { IfOk result (λ r. IsOpened (memory_of_span span.now) r.0 r.1.items) }
+    ensures opened { IfOk result (λ r. IsOpened (place_of span.now).key r.0 r.1.items) }
     ensures lawful { IfOk result (λ r. HoldsLawful span.now) }
     ensures refused { IfErr result (IsUnopenedFor span.now.geometry span.now.ranges.items) }
 {
     Allocator::open_with(alloc, span.geometry, &span.ranges)
 }
 
-// So many cores with no part yet, whose homes lie evenly among so many zones.
-fn begun(alloc: Global, cores: u32, zones: u32) -> Result<Vec<ZoneCore>, Fault>
+/// So many cores with no part yet, whose homes lie evenly among so many zones.
+pub(crate) fn begun(alloc: Global, cores: u32, zones: u32) -> Result<Vec<ZoneCore>, Fault>
     requires { 0 < zones }
     ensures count { IfOk result (λ all. vec_len all ≡ cores) }
     ensures begun { IfOk result (λ all. All (IsBegun zones) all.items) }
@@ -65,8 +73,8 @@ fn begun(alloc: Global, cores: u32, zones: u32) -> Result<Vec<ZoneCore>, Fault>
     Ok(all)
 }
 
-// A part to each core, in order. Refused only for want of memory.
-fn deal(cores: &mut Vec<ZoneCore>, mut parts: Vec<Core>) -> Result<(), Fault>
+/// A part to each core, in order. Refused only for want of memory.
+pub(crate) fn deal(cores: &mut Vec<ZoneCore>, mut parts: Vec<Core>) -> Result<(), Fault>
     requires { vec_len parts ≡ vec_len cores.old }
     ensures dealt { OnOk result (AreDealt cores.old.items parts.items cores.new.items) }
     ensures err { IfErr result (λ e. e ≡ Fault.NoMemory) }

@@ -3,7 +3,7 @@
 ghost use Rattle.std.specs.Prelude.{◌≡◌, ◌<◌, ◌≤◌, [], IfOk, IfErr, OnErr, vec_len, vec_capacity, length};
 ghost use Rattle.std.specs.List.{All};
 ghost use Rattle.frame_zones.specs.Openings.{IsLonger, AreDealt};
-ghost use Rattle.frame_zones.specs.Parting.{HasPart, PartsOff, KeepsFirsts};
+ghost use Rattle.frame_zones.specs.Parting.{HasPart, HasRoom, PartsOff, KeepsFirsts};
 ghost use Rattle.frame_zones.specs.Zones.{zone_count, HasCoresIn};
 
 use crate::zones::{ZoneCore, Zones};
@@ -39,6 +39,7 @@ impl Zones {
         let Zones {
             mut zones,
             mut firsts,
+            cores: count,
             ..
         } = self;
         let Some(zone) = zones.pop() else {
@@ -48,17 +49,23 @@ impl Zones {
             unreachable!()
         };
         let parts = gather(cores, parts);
-        Ok((Zones { zones, firsts }, zone, parts))
+        let left = Zones {
+            zones,
+            firsts,
+            cores: count,
+        };
+        Ok((left, zone, parts))
     }
 }
 
-// The last part of each core, in order.
-fn gather(cores: &mut Vec<ZoneCore>, mut parts: Vec<Core>) -> Vec<Core>
+/// The last part of each core, in order.
+pub(crate) fn gather(cores: &mut Vec<ZoneCore>, mut parts: Vec<Core>) -> Vec<Core>
     requires empty { parts.items ≡ [] }
     requires room { vec_len cores.old ≤ vec_capacity parts }
     requires some { All HasPart cores.old.items }
     ensures dealt { AreDealt cores.new.items result.items cores.old.items }
     ensures count { length result.items ≡ length cores.new.items }
+    ensures room { All HasRoom cores.new.items }
 {
     for number in 0..cores.len() {
         parts.push_reserved(shorten(&mut cores[number]));
@@ -68,10 +75,30 @@ fn gather(cores: &mut Vec<ZoneCore>, mut parts: Vec<Core>) -> Vec<Core>
 
 fn shorten(core: &mut ZoneCore) -> Core
     requires { HasPart core.old }
-    ensures { IsLonger core.new result core.old }
+    ensures shorter { IsLonger core.new result core.old }
+    ensures room { HasRoom core.new }
 {
     let Some(part) = core.cores.pop() else {
         unreachable!()
     };
     part
+}
+
+/// The parts become the last ones of the cores, in order, again. There is room for them.
+pub(crate) fn put_back(cores: &mut Vec<ZoneCore>, mut parts: Vec<Core>)
+    requires count { vec_len parts ≡ vec_len cores.old }
+    requires room { All HasRoom cores.old.items }
+    ensures { AreDealt cores.old.items parts.items cores.new.items }
+{
+    while let Some(part) = parts.pop() {
+        let number = parts.len();
+        lengthen(&mut cores[number], part);
+    }
+}
+
+fn lengthen(core: &mut ZoneCore, part: Core)
+    requires { HasRoom core.old }
+    ensures { IsLonger core.old part core.new }
+{
+    core.cores.push_reserved(part);
 }

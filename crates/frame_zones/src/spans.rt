@@ -1,8 +1,9 @@
 //! Where zones lie, and the rule for it.
 
-ghost use Rattle.std.specs.Prelude.{◌≡◌, ◌≤◌, MatchBool};
-ghost use Rattle.frame_zones.specs.Spans.{most_zone_frames, end_of, MayComeAfter, MayBeZones};
+ghost use Rattle.std.specs.Prelude.{◌≡◌, ◌≤◌, MatchBool, map};
+ghost use Rattle.frame_zones.specs.Spans.{most_zone_frames, place_of, place_at, end_at, MayLie, MayBeZones};
 
+use crate::image::ZoneImage;
 use frame_words::Geometry;
 
 const MOST_ZONES: usize = 1024;
@@ -24,36 +25,58 @@ pub struct Span {
 
 /// May zones of so many cores lie like this?
 pub(crate) fn may_be_zones(cores: u32, spans: &[Span]) -> bool
-    ensures { MatchBool result (MayBeZones cores spans.now) (¬ MayBeZones cores spans.now) }
+    ensures { MatchBool result (MayBeZones cores (map place_of spans.now))
+        (¬ MayBeZones cores (map place_of spans.now)) }
 {
     if spans.is_empty() || spans.len() > MOST_ZONES {
         return false;
     }
     let mut from = 0;
     for span in spans {
-        if !may_follow(cores, from, span) {
+        if !may_follow(cores, from, span.first, span.geometry) {
             return false;
         }
-        from = end_of(span);
+        from = end_of(span.first, span.geometry);
     }
     true
 }
 
-// May the span follow those that end at a frame?
-fn may_follow(cores: u32, from: u64, span: &Span) -> bool
-    ensures { MatchBool result (MayComeAfter cores from span.now) (¬ MayComeAfter cores from span.now) }
+/// May zones of so many cores lie as these did?
+pub(crate) fn may_be_zones_again(cores: u32, images: &[ZoneImage]) -> bool
+    ensures { MatchBool result (MayBeZones cores (map place_at images.now))
+        (¬ MayBeZones cores (map place_at images.now)) }
 {
-    span.geometry.cores == cores
-        && span.first % CHILD_FRAMES == 0
-        && from <= span.first
-        && span.first <= MOST_FRAMES
-        && CHILD_FRAMES * u64::from(span.geometry.children) <= MOST_FRAMES - span.first
+    if images.is_empty() || images.len() > MOST_ZONES {
+        return false;
+    }
+    let mut from = 0;
+    for zone in images {
+        let geometry = zone.image.geometry();
+        if !may_follow(cores, from, zone.first, geometry) {
+            return false;
+        }
+        from = end_of(zone.first, geometry);
+    }
+    true
+}
+
+// May a zone lie there, behind those that end at a frame?
+fn may_follow(cores: u32, from: u64, first: u64, geometry: Geometry) -> bool
+    ensures { MatchBool result
+        (MayLie cores from first geometry.cores geometry.children)
+        (¬ MayLie cores from first geometry.cores geometry.children) }
+{
+    geometry.cores == cores
+        && first % CHILD_FRAMES == 0
+        && from <= first
+        && first <= MOST_FRAMES
+        && CHILD_FRAMES * u64::from(geometry.children) <= MOST_FRAMES - first
 }
 
 // The frame past the last child.
-fn end_of(span: &Span) -> u64
-    requires { end_of span.now ≤ most_zone_frames }
-    ensures { result ≡ end_of span.now }
+fn end_of(first: u64, geometry: Geometry) -> u64
+    requires { end_at first geometry.children ≤ most_zone_frames }
+    ensures { result ≡ end_at first geometry.children }
 {
-    span.first + CHILD_FRAMES * u64::from(span.geometry.children)
+    first + CHILD_FRAMES * u64::from(geometry.children)
 }

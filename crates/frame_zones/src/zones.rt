@@ -1,6 +1,6 @@
 //! The zones of a memory, and a core of all of them.
 
-ghost use Rattle.frame_zones.specs.Sizes.{AreLaidOut};
+ghost use Rattle.frame_zones.specs.Sizes.{AreLaidOut, HaveCores};
 
 use core_frames::{Allocator, Core};
 
@@ -10,7 +10,10 @@ pub struct Zones {
     pub(crate) zones: Vec<Allocator>,
     // The first frame of each.
     pub(crate) firsts: Vec<u64>,
+    // How many cores each has.
+    pub(crate) cores: u32,
     pub(crate) ghost laid_out: { AreLaidOut zones.items firsts.items },
+    pub(crate) ghost same_cores: { HaveCores cores zones.items },
 }
 
 /// What one thread takes and gives through: a core of each zone.

@@ -1,16 +1,18 @@
-use Rattle.std.proofs.Common.{◌≡◌, ◌<◌, ◌++◌, ◌∷◌, [], length, slice_index_or, List, ℕ, sym, ◌∙◌, ap, subst, arith, rules}
+use Rattle.std.proofs.Common.{◌≡◌, ◌++◌, ◌∷◌, [], length, map, slice_index_or, List, ℕ, refl, sym, ◌∙◌, ap, subst, arith, rules}
+use Rattle.std.proofs.lemmas.List.{length-map}
 use Rattle.core_frames.specs.declared.allocator.Allocator.{Allocator}
+use Rattle.frame_zones.specs.Spans.{Place, place_of}
 use Rattle.frame_zones.specs.declared.spans.Span.{Span}
-use Rattle.frame_zones.proofs.Begun.{IsOpening, opening_one, opening_all, laid_out}
-use Rattle.frame_zones.proofs.Lying.{one_at}
+use Rattle.frame_zones.proofs.Begun.{IsOpening, opening_one, opening_all, laid_out, have_cores, holds_one}
+use Rattle.frame_zones.proofs.Lying.{one_read, place_read}
 use Rattle.frame_zones.proofs.zones.Zones.open.Goals as goal
 
 pub deal-requires : goal.deal-requires
 deal-requires c =
-    let spans : List Span = c.args.spans.now in
     let s : Span = c.span-item.result in
-    let same : s.geometry.cores ≡ c.args.cores = ap (λ (t : Span). t.geometry.cores) c.span-item.is
-    ∙ (one_at c.args.cores 0 spans c.loop-span.span-index s c.loop-span-test.true c.loop-span.invariant.lawful.apart).same_cores in
+    let same : s.geometry.cores ≡ c.args.cores =
+    (one_read c.args.cores 0 place_of c.args.spans.now c.loop-span.span-index s c.loop-span-test.true c.span-item.is
+    c.loop-span.invariant.lawful.apart).same_cores in
     omega (
       arith,
       c.in_ok-zone.ensures.opened.count,
@@ -23,36 +25,48 @@ deal-requires c =
 pub loop-span-preserved : goal.loop-span-preserved
 loop-span-preserved c =
     let spans : List Span = c.args.spans.now in
+    let places : List Place = map place_of spans in
     let s : Span = c.span-item.result in
+    let p : Place = place_of s in
     let inv = c.loop-span.invariant in
-    let same : s.geometry.cores ≡ c.args.cores = ap (λ (t : Span). t.geometry.cores) c.span-item.is
-    ∙ (one_at c.args.cores 0 spans c.loop-span.span-index s c.loop-span-test.true inv.lawful.apart).same_cores in
+    let read : p ≡ slice_index_or places c.loop-span.span-index p =
+    place_read place_of spans c.loop-span.span-index s c.loop-span-test.true c.span-item.is in
+    let same : s.geometry.cores ≡ c.args.cores =
+    (one_read c.args.cores 0 place_of spans c.loop-span.span-index s c.loop-span-test.true c.span-item.is inv.lawful.apart).same_cores in
     record {
       lawful = inv.lawful;
-      opening = subst (λ (l : List Allocator). IsOpening (length spans) c.args.cores spans l c.push_reserved-in-loop-span.new.self.items c.deal.new.cores.items)
+      opening = subst (λ (l : List Allocator). IsOpening (length spans) c.args.cores places l c.push_reserved-in-loop-span.new.self.items c.deal.new.cores.items)
           (sym c.push_reserved.ensures.items)
-          (subst (λ (l : List ℕ). IsOpening (length spans) c.args.cores spans (c.loop-span.zones.items ++ c.in_ok-zone.zone ∷ []) l c.deal.new.cores.items)
+          (subst (λ (l : List ℕ). IsOpening (length spans) c.args.cores places (c.loop-span.zones.items ++ c.in_ok-zone.zone ∷ []) l c.deal.new.cores.items)
           (sym c.push_reserved-in-loop-span.ensures.items)
-          (opening_one (length spans) c.args.cores spans c.loop-span.zones.items c.loop-span.firsts.items c.loop-span.all.items _ s c.in_ok-zone.zone c.in_ok-zone.parts.items
+          (opening_one (length spans) c.args.cores places c.loop-span.zones.items c.loop-span.firsts.items c.loop-span.all.items _ p c.in_ok-zone.zone c.in_ok-zone.parts.items
           inv.opening
           c.in_ok-zone.ensures.opened
-          c.in_ok-zone.ensures.lawful
-          (c.span-item.is ∙ ap (λ i. slice_index_or spans i s) (sym inv.count))
-          (subst (λ i. i < length spans) (sym inv.count) c.loop-span-test.true)
+          (read ∙ ap (λ i. slice_index_or places i p) (sym inv.count))
+          (omega (arith, inv.count, c.loop-span-test.true, length-map spans place_of))
           (c.in_ok-zone.ensures.opened.count ∙ same ∙ sym inv.opening.as_many)
           c.in_ok-deal.ensures.dealt));
+      holds = holds_one spans c.loop-span.span-index s c.loop-span-test.true c.span-item.is inv.holds c.in_ok-zone.ensures.lawful;
       count = search rules;
       room = search rules;
       firsts_room = search rules;
     }
 
 pub invariant_of-result : goal.invariant_of-result
-invariant_of-result c = record {
-  laid_out = laid_out _ _ _ _ _ _ c.loop-span.invariant.lawful c.loop-span.invariant.opening
-      (omega (arith, c.loop-span.invariant.count, c.loop-span.auto.span-index-end, c.loop-span-test.false));
-}
+invariant_of-result c =
+    let whole : length c.loop-span.zones.items ≡ length (map place_of c.args.spans.now) =
+    omega (arith, c.loop-span.invariant.count, c.loop-span.auto.span-index-end, c.loop-span-test.false, length-map c.args.spans.now place_of) in
+    record {
+      laid_out = laid_out _ _ _ _ _ _ c.loop-span.invariant.lawful c.loop-span.invariant.opening whole;
+      same_cores = have_cores _ _ _ _ _ _ c.loop-span.invariant.lawful c.loop-span.invariant.opening whole;
+    }
 
 pub returns-clause-opened : goal.returns-clause-opened
 returns-clause-opened c =
-    opening_all _ _ _ _ c.loop-span.invariant.lawful c.loop-span.invariant.opening
-    (omega (arith, c.loop-span.invariant.count, c.loop-span.auto.span-index-end, c.loop-span-test.false))
+    let whole : length c.loop-span.zones.items ≡ length c.args.spans.now =
+    omega (arith, c.loop-span.invariant.count, c.loop-span.auto.span-index-end, c.loop-span-test.false) in
+    opening_all _ _ _ _ _ c.loop-span.invariant.lawful c.loop-span.invariant.opening whole
+    (whole ∙ sym (length-map c.args.spans.now place_of)) refl
+
+pub returns-clause-lawful : goal.returns-clause-lawful
+returns-clause-lawful c = λ k s within. c.loop-span.invariant.holds k s (omega (arith, within, c.loop-span-test.false))

@@ -1,0 +1,42 @@
+use Rattle.std.proofs.Common.{List, [], ◌∷◌, ◌++◌, refl, sym, ◌∙◌, ap, subst}
+use Rattle.core_frames.specs.declared.allocator.Allocator.{Allocator}
+use Rattle.core_frames.specs.declared.allocator.Core.{Core}
+use Rattle.frame_zones.specs.Openings.{AreDealt}
+use Rattle.frame_zones.proofs.Closed.{closed_last, all_back}
+use Rattle.frame_zones.proofs.Parted.{parts_off, laid_less, cores_less}
+use Rattle.frame_zones.proofs.zones.Zones.close_last.Goals as goal
+
+pub close-requires : goal.close-requires
+close-requires c =
+    (parts_off c.args.self.zones.items c.in-Some.zone c.pop.new.self.items c.args.cores.now.items
+    c.gather-parts.result.items c.gather-parts.new.cores.items c.in-Some.ensures.items c.requires.cores
+    c.gather-parts.ensures.dealt c.gather-parts.ensures.count).parts_in
+
+pub invariant_of-left : goal.invariant_of-left
+invariant_of-left c = record {
+  laid_out = laid_less c.args.self.zones.items c.pop.new.self.items c.args.self.firsts.items c.pop-2.new.self.items
+      c.in-Some.zone c.in-Some-pop.first c.in-Some.ensures.items c.in-Some-pop.ensures.items c.args.self.laid_out;
+  same_cores = cores_less c.args.self.cores c.args.self.zones.items c.pop.new.self.items c.in-Some.zone
+      c.in-Some.ensures.items c.args.self.same_cores;
+}
+
+pub returns-in-Ok-close-clause-closed : goal.returns-in-Ok-close-clause-closed
+returns-in-Ok-close-clause-closed c =
+    closed_last c.args.self _ c.in-Some.zone c.args.cores.now.items c.gather-parts.new.cores.items
+    c.gather-parts.result.items _
+    (parts_off c.args.self.zones.items c.in-Some.zone c.pop.new.self.items c.args.cores.now.items
+    c.gather-parts.result.items c.gather-parts.new.cores.items c.in-Some.ensures.items c.requires.cores
+    c.gather-parts.ensures.dealt c.gather-parts.ensures.count)
+    c.in-Some-pop.ensures.items refl c.in-Ok-close.ensures.ok
+
+pub returns-in-Err-clause-same : goal.returns-in-Err-clause-same
+returns-in-Err-clause-same c =
+    all_back c.args.self _ c.args.cores.now.items c.gather-parts.new.cores.items c.put_back.new.cores.items
+    c.gather-parts.result.items
+    (c.push_reserved.ensures.items ∙ ap (λ (a : Allocator). c.pop.new.self.items ++ a ∷ []) c.in-Err.ensures.same.0
+    ∙ sym c.in-Some.ensures.items)
+    (c.push_reserved-in-Err.ensures.items ∙ sym c.in-Some-pop.ensures.items)
+    refl c.gather-parts.ensures.dealt
+    (subst (λ (l : List Core). AreDealt c.gather-parts.new.cores.items l c.put_back.new.cores.items)
+    (ap (λ v. v.items) c.in-Err.ensures.same.1) c.put_back.ensures)
+    c.gather-parts.ensures.count c.requires.cores
