@@ -24,7 +24,7 @@ use Rattle.core_frames.specs.declared.allocator.Allocator.{Allocator}
 use Rattle.core_frames.specs.declared.allocator.Core.{Core}
 use Rattle.frame_places.specs.Calls.{laid_down}
 use Rattle.frame_places.specs.Numbers.{IsFreeIn, AreAllHeld}
-use Rattle.frame_places.specs.Reopenings.{IsFollowing, KeepsRest, MakeUp, LendsJust, HasLaid, HasHalved, among, blocks_of}
+use Rattle.frame_places.specs.Reopenings.{IsFollowing, KeepsRest, MakeUp, LendsJust, HasLaid, HasHalved, among, waiting_blocks}
 use Rattle.frame_places.specs.declared.resting.Receipt.{Receipt}
 use Rattle.frame_places.proofs.Overlaps.{covered, uncovered, holders_cons, holders_none}
 
@@ -133,8 +133,8 @@ pub nothing_made : MakeUp 0 []
 nothing_made = record { below = λ x less. absurd (omega (arith, less)); above = λ x from. holders_none x }
 
 -- blocks one behind the other make up what lies before their end
-pub made_more : (end : ℕ) (bs : List Block) (b : Block) → MakeUp end (blocks_of bs) → b.frame ≡ end
-    → MakeUp (end + 2 ^ b.order) (blocks_of (bs ++ b ∷ []))
+pub made_more : (end : ℕ) (bs : List Block) (b : Block) → MakeUp end (waiting_blocks bs) → b.frame ≡ end
+    → MakeUp (end + 2 ^ b.order) (waiting_blocks (bs ++ b ∷ []))
 made_more end bs b made begins = record {
   below = λ x less. ⊎_elim
       (λ (before : x < end).
@@ -151,7 +151,7 @@ made_more end bs b made begins = record {
 }
 
 -- in any order they do
-pub made_still : (n : ℕ) (xs bs : List Block) → IsPermutation xs bs → MakeUp n (blocks_of xs) → MakeUp n (blocks_of bs)
+pub made_still : (n : ℕ) (xs bs : List Block) → IsPermutation xs bs → MakeUp n (waiting_blocks xs) → MakeUp n (waiting_blocks bs)
 made_still n xs bs p made = record {
   below = λ x less. omega (arith, holders_still block_in x xs bs p, made.below x less);
   above = λ x from. omega (arith, holders_still block_in x xs bs p, made.above x from);
@@ -159,7 +159,7 @@ made_still n xs bs p made = record {
 
 module _ (frames : ℕ) (numbers : List ℕ) where
   -- all frames wait at first
-  pub begin_following : (ws : List Block) (c : Core) → MakeUp frames (blocks_of ws) → LendsJust (length ws) c
+  pub begin_following : (ws : List Block) (c : Core) → MakeUp frames (waiting_blocks ws) → LendsJust (length ws) c
       → IsFollowing frames numbers ws [] c
   begin_following ws c made lends =
       let none : (x : ℕ) → holders x (kept_by c) ≡ 0 = λ x. ap (holders x) lends.kept ∙ holders_none x in
@@ -178,7 +178,7 @@ module _ (frames : ℕ) (numbers : List ℕ) where
       → IsFollowing frames numbers (ws ++ b ∷ []) ls c → IsFollowing frames numbers (b ∷ ws) ls c
   next_following ws b ls c so =
       let same : (x : ℕ) → among x (b ∷ ws) ls c ≡ among x (ws ++ b ∷ []) ls c = λ x.
-      omega (arith, holders_more block_in x ws b, holders_cons x (block_in b) (blocks_of ws)) in
+      omega (arith, holders_more block_in x ws b, holders_cons x (block_in b) (waiting_blocks ws)) in
       record {
         all = λ x less held. omega (arith, same x, so.all x less held);
         apart = λ x. omega (arith, same x, so.apart x);
@@ -196,7 +196,7 @@ module _ (frames : ℕ) (numbers : List ℕ) where
         let more : List Receipt = ls ++ laid.receipt ∷ [] in
         let same : (x : ℕ) → among x ws more c ≡ among x (b ∷ ws) ls c = λ x.
         let cover : covers (laid_down laid.receipt) x ≡ covers (block_in b) x = ap (λ (e : FrameBlock). covers e x) laid.same in
-        omega (arith, cover, holders_more laid_down x ls laid.receipt, holders_cons x (block_in b) (blocks_of ws)) in
+        omega (arith, cover, holders_more laid_down x ls laid.receipt, holders_cons x (block_in b) (waiting_blocks ws)) in
         let at : IsFollowing frames numbers ws more c = record {
           all = λ x less held. omega (arith, same x, so.all x less held);
           apart = λ x. omega (arith, same x, so.apart x);
@@ -211,7 +211,7 @@ module _ (frames : ℕ) (numbers : List ℕ) where
     given_following d given free =
         let kept : (x : ℕ) → holders x (kept_by d) ≡ holders x (kept_by c) = λ x. ap (holders x) given.kept in
         let parted : (x : ℕ) → among x (b ∷ ws) ls c ≡ covers (block_in b) x + among x ws ls d = λ x.
-        omega (arith, kept x, holders_cons x (block_in b) (blocks_of ws)) in
+        omega (arith, kept x, holders_cons x (block_in b) (waiting_blocks ws)) in
         record {
           all = λ x less held. ⊎_elim
               (λ (none : covers (block_in b) x ≡ 0). omega (arith, none, parted x, so.all x less held))
@@ -229,7 +229,7 @@ module _ (frames : ℕ) (numbers : List ℕ) where
         let kept : (x : ℕ) → holders x (kept_by d) ≡ covers (block_in b) x + holders x (kept_by c) = λ x.
         ap (λ (v : View). holders x v.kept) keeps ∙ holders_cons x (block_in b) (kept_by c) in
         let same : (x : ℕ) → among x ws ls d ≡ among x (b ∷ ws) ls c = λ x.
-        omega (arith, kept x, holders_cons x (block_in b) (blocks_of ws)) in
+        omega (arith, kept x, holders_cons x (block_in b) (waiting_blocks ws)) in
         record {
           all = λ x less held. omega (arith, same x, so.all x less held);
           apart = λ x. omega (arith, same x, so.apart x);
@@ -255,7 +255,7 @@ module _ (frames : ℕ) (numbers : List ℕ) where
           halves_cover (block_in b) (block_in l) (block_in u) x halved.split.are_halves,
           holders_more block_in x (ws ++ l ∷ []) u,
           holders_more block_in x ws l,
-          holders_cons x (block_in b) (blocks_of ws),
+          holders_cons x (block_in b) (waiting_blocks ws),
         ) in
         let two : suc (suc (length ws) + length ls) ≡ length more + length ls =
         omega (arith, length-append (ws ++ l ∷ []) (u ∷ []), length-append ws (l ∷ [])) in

@@ -50,6 +50,7 @@ pub record AreReopened (key : Key) (numbers : List ℕ) (blocks : List FrameBloc
   pub keeper : HasKeeper key.frames numbers blocks states
 
 -- why an image was not followed: memory was wanting, or a block that was claimed is not held by itself
+-- or some block was not found
 abbrev pub IsNoReplay : Fault → Type 0
 IsNoReplay fault = (fault ≡ NoMemory) ⊎ (fault ≡ Contended)
 
@@ -70,13 +71,13 @@ pub record MakeUp (n : ℕ) (blocks : List FrameBlock) : Type 0 where
   pub above : (x : ℕ) → n ≤ x → holders x blocks ≡ 0
 
 -- the blocks of a list, which are out
-abbrev pub blocks_of : List Block → List FrameBlock
-blocks_of waiting = map block_in waiting
+abbrev pub waiting_blocks : List Block → List FrameBlock
+waiting_blocks waiting = map block_in waiting
 
 -- in how many blocks the frame lies of those that wait, were laid down or are kept
 abbrev pub among : ℕ → List Block → List Receipt → Core → ℕ
 among x waiting laid c =
-    holders x (blocks_of waiting) + holders x (map laid_down laid) + holders x (kept_by c)
+    holders x (waiting_blocks waiting) + holders x (map laid_down laid) + holders x (kept_by c)
 
 -- an image of so many frames is followed so far: what it holds waits, was laid down or is kept, no
 -- frame twice; what is kept it holds; and a block is lent for each that waits or was laid down

@@ -20,7 +20,7 @@ use std::sync::Arc;
 /// The cores of a memory that holds what the image with these numbers holds, whatever its counters
 /// say. The claimed blocks, which ascend, are laid down at their places, as blocks that were taken;
 /// all else that is held the last core keeps. Refused for want of memory; or as `Contended` where a
-/// claimed block is not held by itself.
+/// claimed block is not held by itself, or some block was not found.
 pub fn reopen_cores(
     alloc: Global,
     geometry: Geometry,

@@ -9,7 +9,7 @@ ghost use Rattle.frame_places.specs.Calls.{laid_down};
 ghost use Rattle.frame_places.specs.Numbers.{IsFreeIn, AreAllHeld};
 ghost use Rattle.frame_places.specs.Openings.{IsUnused};
 ghost use Rattle.frame_places.specs.Reopenings.{IsNoReplay, IsFollowing, KeepsRest, MakeUp};
-ghost use Rattle.frame_places.specs.Reopenings.{HasFoundNone, HasHalved, HasLaid, LendsJust, blocks_of};
+ghost use Rattle.frame_places.specs.Reopenings.{HasFoundNone, HasHalved, HasLaid, LendsJust, waiting_blocks};
 
 use crate::by_numbers::lay_down;
 use crate::claims::is_claimed;
@@ -82,7 +82,7 @@ fn take_all(alloc: Global, shared: &Shared, core: &mut Core) -> Result<Vec<Block
     ensures core { IsCoreOf shared.now.allocator core.new }
     ensures out { IfOk result (λ blocks. All (IsOutOf shared.now.allocator) blocks.items) }
     ensures lends { IfOk result (λ blocks. LendsJust (vec_len blocks) core.new) }
-    ensures all { IfOk result (λ blocks. MakeUp shared.now.frames (blocks_of blocks.items)) }
+    ensures all { IfOk result (λ blocks. MakeUp shared.now.frames (waiting_blocks blocks.items)) }
     ensures err { IfErr result IsNoReplay }
 {
     let mut pending = Vec::new(alloc);
@@ -140,7 +140,7 @@ fn push_onto(allocator: &Allocator, pending: &mut Vec<Block>, held: Block) -> Re
 // Does each of the blocks begin where the one before it ended, from 0 up to this frame?
 fn make_up(allocator: &Allocator, blocks: &[Block], frames: u32) -> bool
     requires { All (IsOutOf allocator.now) blocks.now }
-    ensures { IsTrue result → MakeUp frames (blocks_of blocks.now) }
+    ensures { IsTrue result → MakeUp frames (waiting_blocks blocks.now) }
 {
     let _ = allocator;
     let mut end = 0;

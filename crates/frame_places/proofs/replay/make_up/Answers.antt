@@ -2,7 +2,7 @@ use Rattle.std.proofs.Common.{◌≡◌, ℕ, ◌+◌, ◌^◌, List, [], ◌∷
 use Rattle.std.proofs.lemmas.List.{take_more}
 use Rattle.std.proofs.Math.Seq.{take-length}
 use Rattle.frame_table.specs.declared.block.Block.{Block}
-use Rattle.frame_places.specs.Reopenings.{MakeUp, blocks_of}
+use Rattle.frame_places.specs.Reopenings.{MakeUp, waiting_blocks}
 use Rattle.frame_places.proofs.Replaying.{made_more, nothing_made}
 use Rattle.frame_places.proofs.replay.make_up.Goals as goal
 
@@ -20,8 +20,8 @@ loop-held-preserved c =
     let next : c.loop-held.end + 2 ^ b.order ≡ c.in-Some.next =
     omega (arith, c.in-Some.ensures.1, c.frames_of.ensures.value, size) in
     let begins : b.frame ≡ c.loop-held.end = omega (arith, c.if-frame-end.false, c.frame.ensures) in
-    subst (λ (n : ℕ). MakeUp n (blocks_of (take (i + 1) blocks))) next
-    (subst (λ (bs : List Block). MakeUp (c.loop-held.end + 2 ^ b.order) (blocks_of bs)) more
+    subst (λ (n : ℕ). MakeUp n (waiting_blocks (take (i + 1) blocks))) next
+    (subst (λ (bs : List Block). MakeUp (c.loop-held.end + 2 ^ b.order) (waiting_blocks bs)) more
     (made_more c.loop-held.end (take i blocks) b c.loop-held.invariant begins))
 
 pub returns : goal.returns
@@ -32,5 +32,5 @@ returns c =
     let all : take c.loop-held.held-index blocks ≡ blocks =
     ap (λ (n : ℕ). take n blocks) last ∙ take-length blocks in
     let end : c.loop-held.end ≡ c.args.frames = search rules in
-    subst (λ (n : ℕ). MakeUp n (blocks_of blocks)) end
-    (subst (λ (bs : List Block). MakeUp c.loop-held.end (blocks_of bs)) all c.loop-held.invariant)
+    subst (λ (n : ℕ). MakeUp n (waiting_blocks blocks)) end
+    (subst (λ (bs : List Block). MakeUp c.loop-held.end (waiting_blocks bs)) all c.loop-held.invariant)

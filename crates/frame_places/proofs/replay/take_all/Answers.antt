@@ -3,7 +3,7 @@ use Rattle.std.specs.Prelude.{IsTrue}
 use Rattle.std.proofs.lemmas.List.Sorted.{All-permutation}
 use Rattle.core_frames.specs.Cores.{IsOutOf}
 use Rattle.frame_table.specs.declared.block.Block.{Block}
-use Rattle.frame_places.specs.Reopenings.{LendsJust, MakeUp, blocks_of}
+use Rattle.frame_places.specs.Reopenings.{LendsJust, MakeUp, waiting_blocks}
 use Rattle.frame_places.proofs.Replaying.{made_still}
 use Rattle.frame_places.proofs.replay.take_all.Goals as goal
 
@@ -32,4 +32,4 @@ returns-clause-all c =
     let sorted : List Block = c.sort_unstable_by_key.new.self.items in
     let told : IsTrue c.make_up.result = search rules in
     made_still frames sorted c.reverse.new.self.items c.reverse.ensures.permutation
-    (subst (λ (bs : List Block). MakeUp frames (blocks_of bs)) c.deref.ensures.value (c.make_up.ensures told))
+    (subst (λ (bs : List Block). MakeUp frames (waiting_blocks bs)) c.deref.ensures.value (c.make_up.ensures told))
