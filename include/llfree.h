@@ -124,12 +124,13 @@ typedef struct llfree_claim {
 /* Opens an allocator of so many frames at the numbers of an image, as llfree_image_words says them,
  * with a core behind each of the closed handles. The claimed blocks are those that the program holds
  * from before: they are out, as if they had been taken, and any core gives them. What the image holds
- * besides is held for good, and all else is free (for several threads: tested, not proved). The counts
- * of free frames are not read: only that none is above 512. On OPEN_HANDLE (of any handle),
+ * besides is held for good, and all else is free (for several threads the latter is tested, not proved).
+ * The counts of free frames are not read: only that none is above 512. On OPEN_HANDLE (of any handle),
  * BAD_GEOMETRY, BAD_IMAGE (count is not llfree_image_words(frames), a number is none of an image, the
  * last child is cut and one block of order 9, or a bit past the end is clear), BAD_ORDER, NOT_HELD (a
  * claimed block is not held by itself, one of order 9 as such, or two share a frame), NO_MEMORY and
- * CONTENDED (a claimed block was not reached; no run ever showed this) the handles are as they were. */
+ * CONTENDED (a claimed block or a free one was not reached; no run ever showed this) the handles are as
+ * they were. */
 LLFREE_NODISCARD
 enum llfree_status llfree_reopen(llfree_core *handles, size_t cores, uint32_t frames,
                                  const uint64_t *words, size_t count, const llfree_claim *claims,

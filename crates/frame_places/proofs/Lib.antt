@@ -1,2 +1,3 @@
 pub mod Overlaps
+pub mod Replaying
 pub mod Searches

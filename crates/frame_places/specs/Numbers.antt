@@ -33,6 +33,10 @@ pub record IsFreeIn (numbers : List ℕ) (b : FrameBlock) : Type 0 where
   pub numbered : b.frame + 2 ^ b.order < 2 ^ 32
   pub free : (x : ℕ) → b.frame ≤ x → x < b.frame + 2 ^ b.order → ¬ IsHeldBy numbers x
 
+-- all frames of the block are held
+abbrev pub AreAllHeld : List ℕ → FrameBlock → Type 0
+AreAllHeld numbers b = (x : ℕ) → b.frame ≤ x → x < b.frame + 2 ^ b.order → IsHeldBy numbers x
+
 -- an entry counts at most a child's frames
 pub record IsEntry (entry : ℕ) : Type 0 where
   pub below : entry < 2 ^ 16

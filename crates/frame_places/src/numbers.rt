@@ -2,7 +2,7 @@
 
 ghost use Rattle.std.specs.Prelude.{◌≡◌, ℕ, ◌+◌, ◌*◌, ◌/◌, ◌^◌, ◌<◌, ◌≤◌, ◌↔◌, MatchBool, IsTrue, slice_index};
 ghost use Rattle.frame_core.specs.Block.{block as block_at};
-ghost use Rattle.frame_places.specs.Numbers.{image_bit, most_frames, IsEntry, IsChildOf, IsFreeIn, IsHeldBy, IsHugeIn, IsImageOf};
+ghost use Rattle.frame_places.specs.Numbers.{image_bit, most_frames, IsEntry, IsChildOf, IsFreeIn, IsHeldBy, AreAllHeld, IsHugeIn, IsImageOf};
 
 use frame_words::{CHILD_FRAMES, CHILD_WORDS, FLAG, HUGE_ORDER, WORD_FRAMES, child_of, frames_of};
 
@@ -114,4 +114,15 @@ fn are_free(numbers: &[u64], from: u32, end: u32) -> bool
         }
     }
     true
+}
+
+/// Is it held as one, a huge frame or a single one?
+pub(crate) fn is_held_whole(numbers: &[u64], frame: u32, order: u8) -> bool
+    ensures { IsTrue result → AreAllHeld numbers.now (block_at frame order) }
+{
+    if order == HUGE_ORDER {
+        frame % CHILD_FRAMES == 0 && is_huge(numbers, child_of(frame))
+    } else {
+        order == 0 && is_held(numbers, frame)
+    }
 }

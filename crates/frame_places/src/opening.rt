@@ -114,19 +114,28 @@ pub(crate) fn cores_over(
 {
     let mut states = Vec::new(alloc);
     while let Some(core) = cores.pop() {
-        let Ok(shared) = Arc::try_clone(shared) else {
-            return Err(Fault::NoMemory);
-        };
-        let state = CoreState {
-            shared,
-            core,
-            unplaced: 0,
-            last: None,
-            apart: [0; 13],
-        };
+        let state = state_over(shared, core)?;
         let Ok(()) = states.push(state) else {
             return Err(Fault::NoMemory);
         };
     }
     Ok(states)
+}
+
+pub(crate) fn state_over(shared: &Arc<Shared, Global>, core: Core) -> Result<CoreState, Fault>
+    requires { IsCoreOf (arc_value shared.now).allocator core }
+    ensures shared { IfOk result (Shares (arc_value shared.now)) }
+    ensures core { IfOk result (λ s. s.core ≡ core) }
+    ensures err { IfErr result (λ e. e ≡ Fault.NoMemory) }
+{
+    let Ok(shared) = Arc::try_clone(shared) else {
+        return Err(Fault::NoMemory);
+    };
+    Ok(CoreState {
+        shared,
+        core,
+        unplaced: 0,
+        last: None,
+        apart: [0; 13],
+    })
 }

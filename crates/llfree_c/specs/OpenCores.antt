@@ -1,5 +1,5 @@
 -- What an opening of cores leaves behind handles.
-use Rattle.std.specs.Prelude.{◌≡◌, ◌⊎◌, ℕ, Bool, List, length, false}
+use Rattle.std.specs.Prelude.{◌≡◌, ◌⊎◌, ℕ, Bool, List, [], ◌∷◌, ◌++◌, Option, Some, length, map, reverse, false}
 use Rattle.std.specs.List.{All}
 use Rattle.std.specs.declared.boxed.Box.{Box}
 use Rattle.core_frames.specs.Cores.{memory_of}
@@ -49,6 +49,24 @@ abbrev pub ShareOne : {Z : Type 0} → (has_places : Bool) → ℕ → List Fram
 ShareOne has_places frames ranges cores =
     (shared : Shared) × HasMemory frames ranges shared × HasPlaces has_places shared
     × All (BoxShares shared) cores × All IsBoxUnused cores
+
+-- the core behind the handle, if one is
+abbrev pub core_behind : CoreHandle → Option CoreState
+core_behind h = h.state.value
+
+-- the cores in the boxes
+abbrev pub states_in : {Z : Type 0} → List (Box CoreState Z) → List CoreState
+states_in cores = map (λ b. b.value) cores
+
+-- just these cores are behind the handles, the last one first
+abbrev pub AreHandedTo : {Z : Type 0} → List (Box CoreState Z) → List CoreHandle → Type 0
+AreHandedTo cores handles = map core_behind handles ≡ map Some (reverse (states_in cores))
+
+-- the last core was taken from the boxes, and is behind the handle
+pub record IsTakenFor {Z : Type 0} (h : CoreHandle) (old new : List (Box CoreState Z)) : Type 0 where
+  pub core : CoreState
+  pub boxes : states_in old ≡ states_in new ++ core ∷ []
+  pub behind : core_behind h ≡ Some core
 
 -- why no cores were opened behind these handles: one was open, there is no memory of these sizes, the
 -- ranges may not be held back, or memory was wanting

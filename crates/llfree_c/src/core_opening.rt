@@ -9,6 +9,7 @@ ghost use Rattle.frame_places.specs.declared.shared.Shared.{Shared};
 ghost use Rattle.llfree_c.specs.Status.{no_memory};
 ghost use Rattle.llfree_c.specs.OpenCores.{BoxShares, IsBoxUnused, HasNoCores, ShareOne};
 ghost use Rattle.llfree_c.specs.OpenCores.{IsClosedHandle, IsCoreBehind, IsUnusedBehind};
+ghost use Rattle.llfree_c.specs.OpenCores.{AreHandedTo, IsTakenFor};
 
 use crate::core_handle::CoreHandle;
 use crate::crossing::may_cross;
@@ -97,6 +98,7 @@ pub(crate) fn hand_over(handles: &mut [CoreHandle], mut cores: Vec<Box<CoreState
     ensures shares { (shared : Shared) → All (BoxShares shared) cores.items
         → All (IsCoreBehind shared) handles.new }
     ensures unused { All IsBoxUnused cores.items → All IsUnusedBehind handles.new }
+    ensures order { AreHandedTo cores.items handles.new }
 {
     for handle in handles {
         set_next(handle, &mut cores);
@@ -111,10 +113,12 @@ fn set_next(handle: &mut CoreHandle, cores: &mut Vec<Box<CoreState, Global>>)
         → IsUnusedBehind handle.new × All IsBoxUnused cores.new.items }
     ensures left { (shared : Shared) → All (BoxShares shared) cores.old.items
         → All (BoxShares shared) cores.new.items }
+    ensures last { IsTakenFor handle.new cores.old.items cores.new.items }
     ensures count { vec_len cores.new + 1 ≡ vec_len cores.old }
 {
-    if let Some(core) = cores.pop() {
-        *handle = CoreHandle::of(core);
-        may_cross(handle);
-    }
+    let Some(core) = cores.pop() else {
+        return;
+    };
+    *handle = CoreHandle::of(core);
+    may_cross(handle);
 }

@@ -1,15 +1,11 @@
 use Rattle.std.specs.List.{All}
 use Rattle.core_frames.specs.Cores.{IsCoreOf, IsOutOf}
+use Rattle.frame_places.specs.Reopenings.{IsFollowing}
 use Rattle.frame_places.proofs.replay.replay.Given as goal
-
-abbrev pub invariant-loop-less : goal.invariant-loop-less
-invariant-loop-less l = record {
-  is_core : IsCoreOf l.shared.allocator l.core;
-  out : All (IsOutOf l.shared.allocator) l.pending.items;
-}
 
 abbrev pub invariant-loop-step : goal.invariant-loop-step
 invariant-loop-step l = record {
   is_core : IsCoreOf l.shared.allocator l.core;
   out : All (IsOutOf l.shared.allocator) l.pending.items;
+  follows : IsFollowing l.shared.frames l.numbers l.pending.items l.receipts.items l.core;
 }

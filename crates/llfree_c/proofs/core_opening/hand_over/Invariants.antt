@@ -1,7 +1,8 @@
-use Rattle.std.proofs.Common.{◌≡◌, length, vec_len, ◌+◌}
+use Rattle.std.proofs.Common.{◌≡◌, ◌++◌, Some, length, map, take, vec_len, ◌+◌}
+use Rattle.std.specs.Prelude.{reverse}
 use Rattle.std.specs.List.{All, AllWithin}
 use Rattle.frame_places.specs.declared.shared.Shared.{Shared}
-use Rattle.llfree_c.specs.OpenCores.{BoxShares, IsBoxUnused, IsCoreBehind, IsUnusedBehind}
+use Rattle.llfree_c.specs.OpenCores.{BoxShares, IsBoxUnused, IsCoreBehind, IsUnusedBehind, core_behind, states_in}
 use Rattle.llfree_c.proofs.core_opening.hand_over.Given as goal
 
 abbrev pub invariant-loop-handle : goal.invariant-loop-handle
@@ -11,5 +12,7 @@ invariant-loop-handle l = record {
       → AllWithin (IsCoreBehind shared) l.handle-items 0 l.handle-index;
   unused : All IsBoxUnused l.fn.cores.items
       → All IsBoxUnused l.cores.items × AllWithin IsUnusedBehind l.handle-items 0 l.handle-index;
+  order : map core_behind (take l.handle-index l.handle-items) ++ map Some (reverse (states_in l.cores.items))
+      ≡ map Some (reverse (states_in l.fn.cores.items));
   count : vec_len l.cores + l.handle-index ≡ length l.handle-items;
 }
