@@ -200,3 +200,27 @@ fn two_threads_leave_all_frames_free(rt: HostRuntime) -> Result<(), Fail> {
     }
     Ok(())
 }
+
+// How many frames and how many huge frames are free.
+fn free_in(allocator: &Allocator, core: &mut Core) -> (u32, u32)
+    requires { IsCoreOf allocator.now core.old }
+    ensures { IsCoreOf allocator.now core.new }
+{
+    (allocator.free_frames(core), allocator.free_huge(core))
+}
+
+#[test]
+fn what_is_out_is_not_free(rt: HostRuntime) -> Result<(), Fail> {
+    let (allocator, mut cores) = open(rt.alloc(), 2, 1)?;
+    let mut core = next_core(&allocator, &mut cores).ok_or("a core")?;
+    assert_eq!(rt; free_in(&allocator, &mut core), (1024, 2));
+    let block = allocator.take(&mut core, 3).map_err(Fault::from)?;
+    assert_eq!(rt; free_in(&allocator, &mut core), (1016, 1));
+    let huge = allocator.take(&mut core, 9).map_err(Fault::from)?;
+    assert_eq!(rt; free_in(&allocator, &mut core), (504, 0));
+    allocator.give(&mut core, block);
+    assert_eq!(rt; free_in(&allocator, &mut core), (512, 1));
+    allocator.give(&mut core, huge);
+    assert_eq!(rt; free_in(&allocator, &mut core), (1024, 2));
+    Ok(())
+}
