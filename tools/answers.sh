@@ -38,6 +38,11 @@ runs() {
     timeout 60 "$program" "$@" >"$work/output" 2>"$work/errors" || status=$?
 }
 
+# runs_slowly WORDS..: a byte a read, and three bytes a write
+runs_slowly() {
+    LD_PRELOAD=$work/refusing.so MOST_READ=1 MOST_WRITTEN=3 runs "$@"
+}
+
 # refuses NAME STATUS ERRORS TEXT WORDS..: nothing is written on standard output
 refuses() {
     local name=$1 wanted=$2 errors=$3 text=$4
@@ -54,12 +59,16 @@ answers() {
     compares "$1" 0
 }
 
-# writes NAME TEXT OUTPUT WORDS..: the text is read, and this output written
+# writes TEXT OUTPUT WORDS..: the text is read, and this output written, through slow devices too
 writes() {
-    local name=$1 text=$2 output=$3
-    shift 3
+    local text=$1 output=$2
+    shift 2
     runs "$@" < <(printf '%b' "$text")
-    expects "$name" 0 "$output" ''
+    expects "$*: $text" 0 "$output" ''
+    if [ -e "$work/refusing.so" ]; then
+        runs_slowly "$@" < <(printf '%b' "$text")
+        expects "slowly, $*: $text" 0 "$output" ''
+    fi
 }
 
 # shows_end N: of the last output only so many lines count
@@ -68,9 +77,19 @@ shows_end() {
     mv "$work/end" "$work/output"
 }
 
-# zeros N: so many of them
-zeros() {
-    printf '%0*d' "$1" 0
+# repeats TEXT: what stands in braces says how many there are of the character before
+repeats() {
+    local text=$1 run
+    while [[ $text =~ ^(.*)(.)\{([0-9]+)\}(.*)$ ]]; do
+        printf -v run '%*s' "${BASH_REMATCH[3]}" ''
+        text=${BASH_REMATCH[1]}${run// /${BASH_REMATCH[2]}}${BASH_REMATCH[4]}
+    done
+    printf '%s' "$text"
+}
+
+# lines_of TEXT: the same, with the escapes of printf
+lines_of() {
+    printf '%b' "$(repeats "$1")"
 }
 
 # makes COMMAND FILE ANSWER: what a command makes of an example
@@ -91,73 +110,59 @@ reports() {
     compares "the report of $1" 0
 }
 
+# answered: traces with their answers, and with the images that they leave
+answered() {
+    local sizes text want children cores frames orders
+    while IFS='|' read -r sizes text want; do
+        read -r children cores frames <<<"$sizes"
+        want=$(printf '%b' "$want")
+        writes "$text" "$want" run $sizes
+        [ "$cores" != 1 ] || writes "$text" "$want" run "$children" 2 $frames
+    done < <(rows answered/traces)
+    while IFS='|' read -r sizes text want; do
+        writes "$text" "$(lines_of "$want")" image $sizes
+    done < <(rows answered/images)
+    full_child
+    half_free
+    held_back
+    all_taken
+    for orders in '0 0' '0 9' '9 9' '8 3'; do
+        busy $orders
+    done
+    long_traces
+}
+
 images() {
     reports every-order
     makes rebuild stopped stopped.rebuilt
     makes rebuild stopped.rebuilt stopped.rebuilt
     makes report stopped stopped.report
     makes report stopped.rebuilt stopped.report
-    local one="llfree,1,1,1,
-child,0,511,0,0000000000000001$(zeros 112)
-tree,0,0,1,
-core,0,0,511,"
-    local counts='0,1,511,511,255,127,63,31,15,7,3,1,0'
-    writes 'an image' '0,take,a,0\n' "$one" image 1 1
-    writes 'a report' "$one\n" "tree,$counts
-all,,${counts#0,}" report
-    local hurt="llfree,1,1,1,
-child,0,0,0,0000000000000007$(zeros 112)
-tree,0,0,0,
-core,0,,,"
-    local whole="${hurt/child,0,0/child,0,509}"
-    whole="${whole/tree,0,0/tree,0,509}"
-    counts='0,3,509,509,254,127,63,31,15,7,3,1,0'
-    local image
-    for image in "$hurt" "$whole"; do
-        writes 'a rebuilt image' "$image\n" "$whole" rebuild
-        writes 'the report of an image' "$image\n" "tree,$counts
-all,,${counts#0,}" report
-    done
-    local places='0,take,a,0\n0,take,b,1\n0,give,a,\n0,take,c,0\n'
-    runs image 1 1 < <(printf '%b' "$places")
+    local text want sizes
+    while IFS='|' read -r text want; do
+        writes "$(repeats "$text")" "$(lines_of "$want")" rebuild
+        writes "$(repeats "$want")" "$(lines_of "$want")" rebuild
+    done < <(rows answered/rebuilt)
+    while IFS='|' read -r text want; do
+        writes "$(repeats "$text")" "$(lines_of "$want")" report
+    done < <(rows answered/reports)
+    while read -r sizes; do
+        is_read_back $sizes
+    done <<<$'1 1 512\n1 64 1\n7 2 3584\n8 3 4095\n9 1 4608\n4096 64 2097152'
+    prefixes "$(lines_of 'llfree,1,1,1,\nchild,0,511,0,00000000000000010{112}\ntree,0,0,1,\ncore,0,0,511,')"
+}
+
+# is_read_back CHILDREN CORES FRAMES: an image of these sizes; what rests with a core is put back
+is_read_back() {
+    local last=$(($2 - 1))
+    runs image "$@" </dev/null
+    mv "$work/output" "$work/fresh"
+    runs image "$@" < <(printf '%s\n' "$last,take,a,0" "$last,give,a,")
     mv "$work/output" "$work/image"
     runs rebuild <"$work/image"
-    expects 'the rebuilt image of a run' 0 "${whole/0007/000d}" ''
-    runs report <"$work/image"
-    expects 'the report of a run' 0 "tree,$counts
-all,,${counts#0,}" ''
-    runs image 8 2 < <(printf '0,take,a,0\n,round,,\n0,move,a,1\n1,give,a,\n')
-    mv "$work/output" "$work/image"
-    runs rebuild <"$work/image"
-    shows_end 3
-    expects 'an image with a reservation, rebuilt without' 0 'tree,0,4096,0,
-core,0,,,
-core,1,,,' ''
-    writes 'a cut memory' '0,take,a,8\n0,take,b,8\n0,take,c,9\n0,take,d,5\n' '1,0,Taken,0,8
-2,0,NoBlock,,
-3,0,NoBlock,,
-4,0,Taken,256,5
-end,,Closed,500,12' run 1 1 300
-    writes 'a memory of whole children' '0,take,a,0' '1,0,Taken,0,0
-end,,Closed,1,1023' run 2 1 1024
-    local cut="llfree,2,1,1,300
-child,0,300,0,$(zeros 64)fffff00000000000ffffffffffffffffffffffffffffffffffffffffffffffff
-tree,0,300,0,
-core,0,,,"
-    writes 'an image of a cut memory' '' "$cut" image 1 1 300
-    counts='0,212,300,300,150,75,37,18,9,4,2,1,0'
-    writes 'the report of a cut memory' "$cut\n" "tree,$counts
-all,,${counts#0,}" report
-    local split="llfree,1,1,1,
-child,0,0,1,0000000000000001$(zeros 112)
-tree,0,0,0,
-core,0,,,"
-    writes 'a huge frame that was being split, rebuilt' "$split\n" "${split/0001/0000}" rebuild
-    counts='0,512,0,0,0,0,0,0,0,0,0,0,0'
-    writes 'the report of one' "$split\n" "tree,$counts
-all,,${counts#0,}" report
-    half_free
-    prefixes "$one"
+    mv "$work/fresh" "$work/output.expected"
+    : >"$work/errors.expected"
+    compares "the image of $*" 0
 }
 
 # prefixes TEXT: of each front of an image's text, but the last, the record is named that is cut or missing;
@@ -179,37 +184,149 @@ prefixes() {
     compares 'an image without its last line feed' 0
 }
 
+# is_answered NAME CHILDREN CORES [FRAMES]: the input has these answers, through slow devices too
+is_answered() {
+    local name="$1 on $3 cores"
+    shift
+    cp "$work/answers" "$work/output.expected"
+    : >"$work/errors.expected"
+    runs run "$@" <"$work/input"
+    compares "$name" 0
+    if [ -e "$work/refusing.so" ]; then
+        runs_slowly run "$@" <"$work/input"
+        compares "slowly, $name" 0
+    fi
+}
+
+# full_child: a child is taken frame by frame, given, and taken whole
+full_child() {
+    local cores
+    { lines 513 '0,take,a,0'; lines 512 '0,give,a,'; echo '0,take,z,9'; } >"$work/input"
+    {
+        seq 0 511 | awk '{ print $1 + 1 ",0,Taken," $1 ",0" }'
+        echo '513,0,NoBlock,,'
+        seq 0 511 | awk '{ print $1 + 514 ",0,Given," $1 ",0" }'
+        printf '%s\n' '1026,0,Taken,0,9' 'end,,Closed,512,0'
+    } >"$work/answers"
+    for cores in 1 2; do
+        is_answered 'a full child' 1 "$cores"
+    done
+}
+
 # half_free: every second frame of a child is held, and no two frames side by side are free: a take of two
 # is refused, once what rests with the core stands in the tree again
 half_free() {
-    local word fives=''
-    for ((word = 0; word < 8; word++)); do
-        fives+=5555555555555555
-    done
+    local cores
     {
         lines 512 '0,take,a,0'
         seq -f '0,giveat,%.0f,0' 1 2 511
         printf '0,take,b,1\n'
     } >"$work/input"
+    {
+        seq 0 511 | awk '{ print $1 + 1 ",0,Taken," $1 ",0" }'
+        seq 1 2 511 | awk '{ print 512 + NR ",0,Given," $1 ",0" }'
+        printf '%s\n' '769,0,NoBlock,,' 'end,,Closed,256,256'
+    } >"$work/answers"
+    for cores in 1 2; do
+        is_answered 'every second frame' 1 "$cores"
+    done
     runs image 1 1 <"$work/input"
-    cp "$work/output" "$work/image"
-    expects 'the image of every second frame' 0 "llfree,1,1,1,
-child,0,256,0,$fives
-tree,0,256,0,
-core,0,,," ''
-    runs report <"$work/image"
-    expects 'the report of every second frame' 0 "tree,0,256,256,256,0,0,0,0,0,0,0,0,0
-all,,256,256,256,0,0,0,0,0,0,0,0,0" ''
+    expects 'the image of every second frame' 0 "$(lines_of 'llfree,1,1,1,\nchild,0,256,0,5{128}
+tree,0,256,0,\ncore,0,,,')" ''
 }
 
-# rows FILE: the rows of a table, without its comments
+# held_back: all frames outside the ranges and before the end are taken, in their order, and given again
+held_back() {
+    local cores
+    printf '%s\n' ',reserve,0,1' ',reserve,70,130' ',reserve,511,2' >"$work/ranges"
+    { cat "$work/ranges"; lines 468 '0,take,a,0'; lines 467 '0,give,a,'; } >"$work/input"
+    { seq 1 69; seq 200 510; seq 513 599; } >"$work/frames"
+    {
+        awk '{ print 3 + NR ",0,Taken," $1 ",0" }' "$work/frames"
+        echo '471,0,NoBlock,,'
+        awk '{ print 471 + NR ",0,Given," $1 ",0" }' "$work/frames"
+        echo 'end,,Closed,557,467'
+    } >"$work/answers"
+    for cores in 1 2; do
+        is_answered ranges 2 "$cores" 600
+    done
+    runs image 2 1 600 <"$work/input"
+    mv "$work/output" "$work/image"
+    runs rebuild <"$work/image"
+    mv "$work/output" "$work/rebuilt"
+    runs image 2 1 600 <"$work/ranges"
+    mv "$work/rebuilt" "$work/output.expected"
+    : >"$work/errors.expected"
+    compares 'the image of ranges, as before the takes' 0
+}
+
+# all_taken: two cores at once take all 300 frames of a memory, and then the first what is left: each frame just once
+all_taken() {
+    { yes $'0,take,a,0\n1,take,b,0' | head -n 600; echo ',round,,'; lines 300 '0,take,a,0'; } >"$work/input"
+    runs run 1 2 300 <"$work/input"
+    awk -F, '$3 == "Taken" { count++; sum += $4 } $1 == "end" { print count, sum, $4, $5 }' "$work/output" >"$work/sums"
+    mv "$work/sums" "$work/output"
+    expects 'two cores take all frames' 0 '300 44850 512 0' ''
+}
+
+# busy ORDER ORDER: two cores take and give at once, after a block went from one to the other; all frames are free then
+busy() {
+    {
+        printf '%s\n' '0,take,m,0' ',round,,' '0,move,m,1'
+        yes "0,take,x,$1
+1,take,x,$2
+0,give,x,
+1,give,x," | head -n 4000
+        echo '1,give,m,'
+    } >"$work/input"
+    runs run 8 2 <"$work/input"
+    { head -n 2 "$work/output"; tail -n 1 "$work/output"; } >"$work/ends"
+    mv "$work/ends" "$work/output"
+    expects "two busy cores, orders $1 and $2" 0 $'1,0,Taken,0,0\n3,0,Moved,0,0\nend,,Closed,0,4096' ''
+}
+
+# long PLACE TEXT ROW: 6,000 records, more than one part reads or answers, of two cores whose takes are refused for
+# their order, with another text in the place of one; and their answers, with another in the place of that
+long() {
+    seq 6000 | awk -v place="$1" -v text="$2" \
+        '$1 == place { printf "%s", text; next } { print $1 % 2 ",take,x,10" }' >"$work/input"
+    seq 6000 | awk -v place="$1" -v row="$3" \
+        '$1 == place { printf "%s", row; next } { print $1 "," $1 % 2 ",BadOrder,," }' >"$work/answers"
+    echo 'end,,Closed,0,4096' >>"$work/answers"
+}
+
+# long_traces: each part of a long trace is answered, whatever one record is, and the lowest refused record is named
+long_traces() {
+    local place text row
+    while IFS='|' read -r place text row; do
+        long "$place" "$text" "$row"
+        is_answered "a long trace, with $text as record $place" 8 2
+    done <<'END'
+0||
+1|\357\273\2771,take,x,10\n|1,1,BadOrder,,\n
+3001|"1","take",x,"10"\r\n|3001,1,BadOrder,,\n
+1501|\n\r\n1,take,x,10\r|1501,1,BadOrder,,\n
+4501|1,give,x,\n|4501,1,NotHeld,,\n
+3000|,round,,\n|
+6000|0,take,x,10|6000,0,BadOrder,,\n
+END
+    for place in 1 1500 3000 3001 4500 6000; do
+        for text in '2,take,x,10\n' '0,take,x\n' '0,move,x,1\n' '0,take,x,\357\273\27710\n' ',reserve,0,\n'; do
+            long "$place" "$text" ''
+            runs run 8 2 <"$work/input"
+            expects "a long trace, with $text as record $place" 1 '' "llfree: bad trace at record $place"
+        done
+    done
+}
+
+# rows TABLE: its rows, without its comments
 rows() {
-    grep -v '^#' "tools/refused/$1.txt"
+    grep -v '^#' "tools/$1.txt"
 }
 
 # refused: all that is refused with nothing written, before a take is made
 refused() {
-    local said frames text line words command
+    local said frames text line words command cores
     while read -r said line; do
         eval "words=($line)"
         case $said in
@@ -217,19 +334,25 @@ refused() {
             range) refuses "$said: ${words[*]}" 1 'llfree: bad range' '0,take,a,x' "${words[@]}" ;;
             *) refuses "$said: ${words[*]}" 2 "$usage" '0,take,a,0\n' "${words[@]}" ;;
         esac
-    done < <(rows commands)
+    done < <(rows refused/commands)
+    for cores in 1 2; do
+        while read -r said text; do
+            refuses "$text" 1 "llfree: bad trace at record $said" "$text" run 1 "$cores"
+        done < <(rows refused/traces)
+    done
     while read -r said text; do
         refuses "$text" 1 "llfree: bad trace at record $said" "$text" run 1 1
-    done < <(rows traces)
+    done < <(rows refused/cores)
     while read -r frames text; do
-        refuses "$text" 1 'llfree: bad range' "$text" run 1 1 "$frames"
-    done < <(rows ranges)
+        for cores in 1 2; do
+            refuses "$text" 1 'llfree: bad range' "$text" run 1 "$cores" "$frames"
+        done
+    done < <(rows refused/ranges)
     while read -r said text; do
         for command in rebuild report; do
-            refuses "$command: $text" 1 "llfree: bad image at record $said" \
-                "${text//'{}'/$(zeros 112)}" "$command"
+            refuses "$command: $text" 1 "llfree: bad image at record $said" "$(repeats "$text")" "$command"
         done
-    done < <(rows images)
+    done < <(rows refused/images)
     refuses 'a word that is no text' 2 "$usage" '0,take,a,0\n' run 1 1 $'\xff'
     refuses 'a number that is no text' 2 "$usage" '0,take,a,0\n' run 1 $'\xff'
 }
@@ -282,6 +405,7 @@ end,,Closed,1,2559' ends 16777216
 }
 
 all() {
+    answered
     images
     answers three-takes 1
     answers every-order 1
@@ -298,9 +422,16 @@ all() {
         timeout 60 "$program" run 1 1 </dev/null >/dev/full 2>"$work/errors" || status=$?
         : >"$work/output"
         expects 'a writer that fails' 3 '' 'llfree: write failed'
+        status=0
+        printf '0,take,a,x' | timeout 60 "$program" run 1 1 >"$work/output" 2>/dev/full || status=$?
+        : >"$work/errors"
+        expects 'errors that are not written' 1 '' ''
     fi
 }
 
+if command -v cc >/dev/null; then
+    cc -O2 -shared -fPIC -o "$work/refusing.so" tools/refusing.c -ldl
+fi
 for program in "${@:-crates/llfree/out/llfree}"; do
     if [ -x "$program" ]; then
         all

@@ -1,4 +1,4 @@
-//! Trials of `frame_image`: worked images, malformed ones, and devices that are slow or fail.
+//! Trials of `frame_image` that no run of the program reaches.
 #![tactic(auto)]
 
 #[cfg(test)]

@@ -1,6 +1,4 @@
 mod devices;
 mod images;
-mod refusals;
 mod reopening;
-mod reports;
 mod texts;

@@ -1,4 +1,4 @@
-use frame_image::{MOST_BYTES, Watched, read_all, write_out};
+use frame_image::{Watched, read_all, write_out};
 use frame_words::Fault;
 use std::alloc::Global;
 use std::cell::Cell;
@@ -9,18 +9,18 @@ const TAKES: &[u8] = b"0,take,a,0\n0,take,b,3\n0,take,c,0\n";
 
 // What a device does at the call at which it fails.
 #[derive(Clone, Copy)]
-pub enum Failing {
+enum Failing {
     Error(ErrorKind),
     TakesNone,
 }
 
 // A reader of a byte at a time that fails at a call, and counts its calls.
 #[derive(Drop)]
-pub struct SlowReader<'a> {
-    pub left: &'a [u8],
-    pub fails_at: u32,
-    pub kind: ErrorKind,
-    pub calls: &'a Cell<u32>,
+struct SlowReader<'a> {
+    left: &'a [u8],
+    fails_at: u32,
+    kind: ErrorKind,
+    calls: &'a Cell<u32>,
 }
 
 impl Read for SlowReader<'_> {
@@ -39,11 +39,11 @@ impl Read for SlowReader<'_> {
 
 // A writer of three bytes at a time that fails at a call, and counts its calls.
 #[derive(Drop)]
-pub struct SlowWriter<'a> {
-    pub taken: &'a mut Vec<u8>,
-    pub fails_at: u32,
-    pub how: Failing,
-    pub calls: &'a Cell<u32>,
+struct SlowWriter<'a> {
+    taken: &'a mut Vec<u8>,
+    fails_at: u32,
+    how: Failing,
+    calls: &'a Cell<u32>,
 }
 
 impl Write for SlowWriter<'_> {
@@ -63,20 +63,6 @@ impl Write for SlowWriter<'_> {
 
     fn flush(&mut self) -> IoResult<()> {
         Ok(())
-    }
-}
-
-// A reader of so many zero bytes.
-#[derive(Drop)]
-struct Zeros {
-    left: usize,
-}
-
-impl Read for Zeros {
-    fn read(&mut self, buffer: &mut [u8]) -> IoResult<usize> {
-        let count = self.left.min(buffer.len());
-        self.left -= count;
-        Ok(count)
     }
 }
 
@@ -120,23 +106,6 @@ fn a_failed_reader_is_not_asked_again(rt: HostRuntime) -> Result<(), Fail> {
 }
 
 #[test]
-fn a_slow_reader_is_read_to_its_end(rt: HostRuntime) -> Result<(), Fail> {
-    let calls = Cell::new(0);
-    let reader = SlowReader {
-        left: TAKES,
-        fails_at: 34,
-        kind: ErrorKind::Other,
-        calls: &calls,
-    };
-    let mut input = Watched::new(reader);
-    let text = read_all(rt.alloc(), &mut input)?;
-    assert_eq!(rt; text.as_slice(), TAKES);
-    assert!(rt; !input.failed());
-    assert_eq!(rt; calls.get(), 34);
-    Ok(())
-}
-
-#[test]
 fn a_failed_writer_is_not_asked_again(rt: HostRuntime) -> Result<(), Fail> {
     for how in [
         Failing::Error(ErrorKind::Interrupted),
@@ -162,41 +131,6 @@ fn a_failed_writer_is_not_asked_again(rt: HostRuntime) -> Result<(), Fail> {
             let front = (3 * fails_at as usize).min(TAKES.len());
             assert_eq!(rt; taken.as_slice(), &TAKES[..front]);
         }
-    }
-    Ok(())
-}
-
-#[test]
-fn a_slow_writer_is_written_the_whole(rt: HostRuntime) -> Result<(), Fail> {
-    let calls = Cell::new(0);
-    let mut taken = Vec::new(rt.alloc());
-    {
-        let writer = SlowWriter {
-            taken: &mut taken,
-            fails_at: 12,
-            how: Failing::TakesNone,
-            calls: &calls,
-        };
-        let mut output = Watched::new(writer);
-        write_out(&mut output, TAKES)?;
-        write_out(&mut output, b"")?;
-        assert_eq!(rt; output.write(b""), Ok(0));
-        assert!(rt; !output.failed());
-    }
-    assert_eq!(rt; taken.as_slice(), TAKES);
-    assert_eq!(rt; calls.get(), 12);
-    Ok(())
-}
-
-#[test]
-fn an_input_has_a_longest_length(rt: HostRuntime) -> Result<(), Fail> {
-    for (size, is_read) in [(MOST_BYTES, true), (MOST_BYTES + 1, false)] {
-        let mut input = Watched::new(Zeros { left: size });
-        match read_all(rt.alloc(), &mut input) {
-            Ok(text) => assert_eq!(rt; (text.len(), true), (size, is_read)),
-            Err(fault) => assert_eq!(rt; (fault, false), (Fault::ReadFailed, is_read)),
-        }
-        assert!(rt; !input.failed());
     }
     Ok(())
 }
