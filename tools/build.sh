@@ -31,7 +31,7 @@ frame_image 160 440
 trace_text 150 360
 llfree_trace 460 620
 llfree 180 80
-frame_places 210 400
+frame_slots 210 400
 llfree_c 240 280'
 
 stops() {

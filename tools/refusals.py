@@ -8,7 +8,7 @@ have to be those of docs/USAGE.md each time; a device that has failed is not ask
 calls for memory from the Nth on are refused, and all threads, for N from 1 until a run is not refused
 any. The last line counts the runs. Where there is no C compiler nothing is tried, and that is said.
 
-The driver crates/llfree_refusals, where it is built, makes each call of the libraries that takes
+The driver crates/llfree_oom, where it is built, makes each call of the libraries that takes
 memory, and makes it once more where memory or a thread was refused: it has to print the same then.
 Where memory is refused for good it has to stop at that call, with all calls before it answered.
 
@@ -24,7 +24,7 @@ import tempfile
 
 HERE = os.path.dirname(os.path.abspath(__file__))
 TOP = os.path.dirname(HERE)
-DRIVER = os.path.join(TOP, 'crates/llfree_refusals')
+DRIVER = os.path.join(TOP, 'crates/llfree_oom')
 KINDS = ('MEMORY', 'THREAD', 'READ', 'WRITE')
 NO_MEMORY = (3, b'', b'llfree: no memory\n')
 READ_FAILED = (3, b'', b'llfree: read failed\n')
@@ -194,13 +194,13 @@ def main():
             for words, text in texts():
                 refusals.try_text(words, text)
             runs, failed = runs + refusals.runs, failed + refusals.failed
-        driver = os.path.join(DRIVER, 'out/llfree_refusals')
+        driver = os.path.join(DRIVER, 'out/llfree_oom')
         if os.path.exists(driver):
             refusals = Refusals(driver, between, work)
             refusals.try_calls()
             runs, failed = runs + refusals.runs, failed + refusals.failed
         else:
-            print('refusals: crates/llfree_refusals is not built, so its calls are not tried')
+            print('refusals: crates/llfree_oom is not built, so its calls are not tried')
     print(f'{runs - failed} passed, {failed} failed')
     return 1 if failed else 0
 

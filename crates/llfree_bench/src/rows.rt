@@ -3,10 +3,10 @@
 ghost use Rattle.std.specs.Prelude.{◌≡◌, ◌<◌, ◌≤◌};
 ghost use Rattle.frame_core.specs.Key.{tree_count};
 ghost use Rattle.frame_table.specs.Seats.{key_at, IsIdleSeat};
-ghost use Rattle.frame_trials.specs.Work.{MayWork};
+ghost use Rattle.frame_tests.specs.Work.{MayWork};
 
 use frame_table::{CoreSeat, FrameTable, open_table};
-use frame_trials::work;
+use frame_tests::work;
 use frame_words::Geometry;
 use std::alloc::Global;
 use std::rt::Clock;

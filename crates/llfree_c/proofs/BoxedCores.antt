@@ -12,10 +12,10 @@ use Rattle.frame_core.specs.Holding.{holders, IsFree, IsHeld}
 use Rattle.core_frames.proofs.PlainHeld.{holders_same}
 use Rattle.core_frames.specs.Cores.{kept_by}
 use Rattle.core_frames.specs.declared.allocator.Core.{Core}
-use Rattle.frame_places.specs.Numbers.{IsHeldBy}
-use Rattle.frame_places.specs.Openings.{IsUnusedState}
-use Rattle.frame_places.specs.Reopenings.{HasKeeper, KeepsRest}
-use Rattle.frame_places.specs.declared.core_state.CoreState.{CoreState}
+use Rattle.frame_slots.specs.Numbers.{IsHeldBy}
+use Rattle.frame_slots.specs.Openings.{IsUnusedState}
+use Rattle.frame_slots.specs.Reopenings.{HasKeeper, KeepsRest}
+use Rattle.frame_slots.specs.declared.core_state.CoreState.{CoreState}
 use Rattle.llfree_c.specs.OpenCores.{AreHandedTo, IsTakenFor, core_behind, states_in}
 use Rattle.llfree_c.specs.Reopenings.{HasKeeperBehind, claimed_blocks}
 use Rattle.llfree_c.specs.declared.blocks.ClaimedBlock.{ClaimedBlock}

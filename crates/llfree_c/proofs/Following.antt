@@ -23,8 +23,8 @@ use Rattle.core_frames.proofs.PlainHeld.{holders_cons, holders_same}
 use Rattle.core_frames.proofs.PlainSums.{covers_in, covers_below, covers_above}
 use Rattle.core_frames.specs.PlainState.{PlainState, memory_by, held_by}
 use Rattle.core_frames.specs.Splits.{AreHalves}
-use Rattle.frame_places.specs.Claims.{IsHeldAs}
-use Rattle.frame_places.specs.Numbers.{IsHeldBy, IsHugeIn}
+use Rattle.frame_slots.specs.Claims.{IsHeldAs}
+use Rattle.frame_slots.specs.Numbers.{IsHeldBy, IsHugeIn}
 use Rattle.llfree_c.specs.Replays.{HoldsAllOf, HoldsBlock, HoldsOnly}
 
 inside_by : (end x : ℕ) → x < end → (nat_le end x || list_any (is_in_range x) []) ≡ false

@@ -31,7 +31,7 @@ says_more key words old new child same all one k less =
     (λ (above : child ≤ k). let e : child ≡ k = omega arith in subst (λ (n : ℕ). SaysOfChild key words n new) e one)
     (cases_lt k child)
 
--- what stays behind a place stays behind a later one, over two writings
+-- what stays behind a slot stays behind a later one, over two writings
 pub stays_behind : (first last : ℕ) (oldest old new : List ℕ) → first ≤ last → StaysBehind last oldest old
     → StaysBehind first old new → StaysBehind last oldest new
 stays_behind first last oldest old new before a b = record {

@@ -12,7 +12,7 @@ use Rattle.frame_core.specs.Block.{covers}
 use Rattle.frame_core.specs.Key.{AreRanges}
 use Rattle.core_frames.specs.Ranges.{MayHoldBack}
 use Rattle.frame_core.specs.Holding.{holders}
-use Rattle.frame_places.specs.Claims.{IsHeldAs, ShareNoFrame}
+use Rattle.frame_slots.specs.Claims.{IsHeldAs, ShareNoFrame}
 use Rattle.llfree_c.specs.Reopenings.{claimed_blocks, IsClaimedOf, MayBeClaimed}
 use Rattle.llfree_c.specs.declared.blocks.ClaimedBlock.{ClaimedBlock}
 use Rattle.core_frames.proofs.PlainPermutations.{uncons}

@@ -5,9 +5,9 @@ use Rattle.frame_table.specs.Seats.{id_of}
 use Rattle.frame_table.specs.declared.block.Block.{Block}
 use Rattle.core_frames.specs.Cores.{memory_of}
 use Rattle.core_frames.specs.declared.allocator.Allocator.{Allocator}
-use Rattle.frame_places.specs.Calls.{allocator_of}
-use Rattle.frame_places.specs.Places.{TakesAt, SplitsAt}
-use Rattle.frame_places.specs.declared.core_state.CoreState.{CoreState}
+use Rattle.frame_slots.specs.Calls.{allocator_of}
+use Rattle.frame_slots.specs.Slots.{TakesAt, SplitsAt}
+use Rattle.frame_slots.specs.declared.core_state.CoreState.{CoreState}
 use Rattle.llfree_c.specs.Rights.{memory_in}
 use Rattle.llfree_c.specs.declared.block_handle.BlockHandle.{BlockHandle}
 

@@ -14,8 +14,8 @@ use Rattle.frame_table.specs.Seats.{view_of}
 use Rattle.frame_table.specs.Stopping.{HoldsFramesOf, HoldsBootFrames}
 use Rattle.frame_table.specs.declared.seats.CoreSeat.{CoreSeat}
 use Rattle.core_frames.specs.Cores.{memory_of, seat_of}
-use Rattle.frame_places.specs.Calls.{allocator_of, frames_by}
-use Rattle.frame_places.specs.declared.core_state.CoreState.{CoreState}
+use Rattle.frame_slots.specs.Calls.{allocator_of, frames_by}
+use Rattle.frame_slots.specs.declared.core_state.CoreState.{CoreState}
 use Rattle.llfree_c.specs.Images.{image_words, SaysAll}
 use Rattle.llfree_c.specs.Status.{closed, no_memory, no_room, cores_open}
 

@@ -3,9 +3,9 @@ use Rattle.std.specs.Prelude.{◌≡◌, ◌⊎◌, ℕ, Bool, List, [], ◌∷�
 use Rattle.std.specs.List.{All}
 use Rattle.std.specs.declared.boxed.Box.{Box}
 use Rattle.core_frames.specs.Cores.{memory_of}
-use Rattle.frame_places.specs.Openings.{Shares, HasPlaces, IsUnusedState}
-use Rattle.frame_places.specs.declared.core_state.CoreState.{CoreState}
-use Rattle.frame_places.specs.declared.shared.Shared.{Shared}
+use Rattle.frame_slots.specs.Openings.{Shares, HasSlots, IsUnusedState}
+use Rattle.frame_slots.specs.declared.core_state.CoreState.{CoreState}
+use Rattle.frame_slots.specs.declared.shared.Shared.{Shared}
 use Rattle.llfree_c.specs.Openings.{IsMemoryOf, IsUnopened}
 use Rattle.llfree_c.specs.Status.{not_closed}
 use Rattle.llfree_c.specs.SeenCores.{OnCore}
@@ -16,7 +16,7 @@ use Rattle.llfree_c.specs.declared.core_handle.CoreHandle.{CoreHandle}
 abbrev pub IsClosedHandle : CoreHandle → Type 0
 IsClosedHandle h = h.live ≡ false
 
--- the core behind the handle has its allocator and its places from here
+-- the core behind the handle has its allocator and its slots from here
 abbrev pub IsCoreBehind : Shared → CoreHandle → Type 0
 IsCoreBehind shared h = OnCore (Shares shared) h.state.value
 
@@ -28,14 +28,14 @@ HasMemory frames ranges shared = IsMemoryOf frames ranges (memory_of shared.allo
 abbrev pub IsUnusedBehind : CoreHandle → Type 0
 IsUnusedBehind h = OnCore IsUnusedState h.state.value
 
--- one allocator of such a memory, with places for its blocks or without, is shared by the cores behind all of the
+-- one allocator of such a memory, with slots for its blocks or without, is shared by the cores behind all of the
 -- handles, none of which was used yet: no block is out
-abbrev pub OpensCores : (has_places : Bool) → ℕ → List FrameRange → List CoreHandle → Type 0
-OpensCores has_places frames ranges handles =
-    (shared : Shared) × HasMemory frames ranges shared × HasPlaces has_places shared
+abbrev pub OpensCores : (has_slots : Bool) → ℕ → List FrameRange → List CoreHandle → Type 0
+OpensCores has_slots frames ranges handles =
+    (shared : Shared) × HasMemory frames ranges shared × HasSlots has_slots shared
     × All (IsCoreBehind shared) handles × All IsUnusedBehind handles
 
--- the core in the box has its allocator and its places from here
+-- the core in the box has its allocator and its slots from here
 abbrev pub BoxShares : {Z : Type 0} → Shared → Box CoreState Z → Type 0
 BoxShares shared b = Shares shared b.value
 
@@ -43,11 +43,11 @@ BoxShares shared b = Shares shared b.value
 abbrev pub IsBoxUnused : {Z : Type 0} → Box CoreState Z → Type 0
 IsBoxUnused b = IsUnusedState b.value
 
--- one allocator of such a memory, with places for its blocks or without, is shared by all of the cores, none of
+-- one allocator of such a memory, with slots for its blocks or without, is shared by all of the cores, none of
 -- which was used yet
-abbrev pub ShareOne : {Z : Type 0} → (has_places : Bool) → ℕ → List FrameRange → List (Box CoreState Z) → Type 0
-ShareOne has_places frames ranges cores =
-    (shared : Shared) × HasMemory frames ranges shared × HasPlaces has_places shared
+abbrev pub ShareOne : {Z : Type 0} → (has_slots : Bool) → ℕ → List FrameRange → List (Box CoreState Z) → Type 0
+ShareOne has_slots frames ranges cores =
+    (shared : Shared) × HasMemory frames ranges shared × HasSlots has_slots shared
     × All (BoxShares shared) cores × All IsBoxUnused cores
 
 -- the core behind the handle, if one is

@@ -3,7 +3,7 @@ use Rattle.std.specs.Prelude.{◌≡◌, ◌⊎◌, ℕ, ◌<◌, ◌≤◌, Lis
 use Rattle.frame_words.specs.Geometry.{most_cores}
 use Rattle.frame_model.specs.declared.key.Key.{Key}
 use Rattle.frame_core.specs.Key.{most_ranges, AreRanges}
-use Rattle.frame_places.specs.Numbers.{most_frames}
+use Rattle.frame_slots.specs.Numbers.{most_frames}
 use Rattle.llfree_c.specs.Status.{no_memory, bad_geometry, bad_range}
 use Rattle.llfree_c.specs.declared.ranges.FrameRange.{FrameRange}
 

@@ -1,12 +1,12 @@
 -- Why takes and splits of several threads were refused, by the status that each answered.
 use Rattle.std.specs.Prelude.{◌≡◌, ◌⊎◌, ℕ, ◌<◌, true, false}
-use Rattle.frame_places.specs.Calls.{FindsNoneFor, LosesFor, IsContendedFor, LendsNoMore, CountsNone, CountsOne, KeepsCore}
-use Rattle.frame_places.specs.declared.core_state.CoreState.{CoreState}
+use Rattle.frame_slots.specs.Calls.{FindsNoneFor, LosesFor, IsContendedFor, LendsNoMore, CountsNone, CountsOne, KeepsCore}
+use Rattle.frame_slots.specs.declared.core_state.CoreState.{CoreState}
 use Rattle.llfree_c.specs.Status.{no_block, bad_order, not_held, not_closed, contended}
 use Rattle.llfree_c.specs.declared.block_handle.BlockHandle.{BlockHandle}
 
 -- why a take of the order by numbers was refused: there are no blocks of that order; or none was found and
--- no exchange was lost; or one was, or the block that was taken found no place, which alone is counted
+-- no exchange was lost; or one was, or the block that was taken found no slot, which alone is counted
 abbrev pub RefusesTakeAs : (order status : ℕ) → CoreState → CoreState → Type 0
 RefusesTakeAs order status s t =
     ((status ≡ bad_order) × (9 < order) × LendsNoMore s t × CountsNone s t)
@@ -23,7 +23,7 @@ RefusesBlockAs order held status s t =
     ⊎ ((status ≡ contended) × LosesFor order s t)
 
 -- why a split of a block of the order by numbers was refused: it has no halves; or it is not held; or a half
--- found no place, which alone is counted
+-- found no slot, which alone is counted
 abbrev pub RefusesSplitAs : (order status : ℕ) → CoreState → CoreState → Type 0
 RefusesSplitAs order status s t =
     ((status ≡ bad_order) × (order ≡ 0) × KeepsCore s t × CountsNone s t)

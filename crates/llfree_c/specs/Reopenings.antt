@@ -6,12 +6,12 @@ use Rattle.std.specs.declared.boxed.Box.{Box}
 use Rattle.frame_model.specs.declared.block.FrameBlock.{FrameBlock}
 use Rattle.frame_core.specs.Block.{block}
 use Rattle.core_frames.specs.PlainState.{PlainState, memory_by}
-use Rattle.frame_places.specs.Claims.{Ascend, IsHeldAs, ShareNoFrame}
-use Rattle.frame_places.specs.Numbers.{IsImageOf}
-use Rattle.frame_places.specs.Openings.{IsUnusedState}
-use Rattle.frame_places.specs.Reopenings.{HasKeeper, HasLaidDown, KeepsRest}
-use Rattle.frame_places.specs.declared.core_state.CoreState.{CoreState}
-use Rattle.frame_places.specs.declared.shared.Shared.{Shared}
+use Rattle.frame_slots.specs.Claims.{Ascend, IsHeldAs, ShareNoFrame}
+use Rattle.frame_slots.specs.Numbers.{IsImageOf}
+use Rattle.frame_slots.specs.Openings.{IsUnusedState}
+use Rattle.frame_slots.specs.Reopenings.{HasKeeper, HasLaidDown, KeepsRest}
+use Rattle.frame_slots.specs.declared.core_state.CoreState.{CoreState}
+use Rattle.frame_slots.specs.declared.shared.Shared.{Shared}
 use Rattle.llfree_c.specs.OpenCores.{HasMemory, IsClosedHandle, IsCoreBehind, BoxShares, core_behind, states_in}
 use Rattle.llfree_c.specs.Openings.{HasNoSizes, IsMemoryOf}
 use Rattle.llfree_c.specs.Replays.{HoldsAllOf, HoldsOnly}

@@ -3,7 +3,7 @@ use Rattle.std.specs.Prelude.{◌≡◌, ◌⊎◌, ℕ, ◌+◌, ◌/◌, ◌%�
 use Rattle.frame_model.specs.declared.block.FrameBlock.{FrameBlock}
 use Rattle.frame_core.specs.Holding.{IsHeld}
 use Rattle.core_frames.specs.PlainState.{PlainState}
-use Rattle.frame_places.specs.Numbers.{IsHeldBy, IsHugeIn}
+use Rattle.frame_slots.specs.Numbers.{IsHeldBy, IsHugeIn}
 use Rattle.llfree_c.specs.Status.{contended, no_memory}
 
 -- it is the same memory

@@ -4,11 +4,11 @@ ghost use Rattle.std.specs.Prelude.{◌≡◌, ◌≢◌, ◌⊎◌, ◌≤◌, 
 ghost use Rattle.llfree_c.specs.RefusedCalls.{RefusesBlockAs, RefusesHalvesAs};
 ghost use Rattle.llfree_c.specs.Status.{ok, bad_order, not_held, not_closed, contended};
 ghost use Rattle.llfree_c.specs.Blocks.{IsEmptyOrOut, TakesHeld, SplitsHeld};
-ghost use Rattle.frame_places.specs.Calls.{SharesOne, GivesFor, KeepsCore};
+ghost use Rattle.frame_slots.specs.Calls.{SharesOne, GivesFor, KeepsCore};
 
 use crate::block_handle::BlockHandle;
 use crate::statuses::{BAD_ORDER, CONTENDED, NO_BLOCK, NOT_CLOSED, NOT_HELD, OK};
-use frame_places::CoreState;
+use frame_slots::CoreState;
 use frame_words::TakeFault;
 
 pub(crate) fn take_block(state: &mut CoreState, order: u8, held: &mut BlockHandle) -> u32

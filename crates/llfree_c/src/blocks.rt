@@ -3,14 +3,14 @@
 ghost use Rattle.std.specs.Prelude.{◌≡◌, ◌⊎◌, ◌≤◌, MatchBool, IfOk, IfErr};
 ghost use Rattle.std.specs.List.{All};
 ghost use Rattle.std.specs.List.Sorted.{IsPermutation};
-ghost use Rattle.frame_places.specs.Claims.{Ascend};
-ghost use Rattle.frame_places.specs.Numbers.{most_frames};
+ghost use Rattle.frame_slots.specs.Claims.{Ascend};
+ghost use Rattle.frame_slots.specs.Numbers.{most_frames};
 ghost use Rattle.llfree_c.specs.Reopenings.{claimed_blocks, HasNoClaims, NamesAnOrder, IsClaimedOf, MayBeClaimed};
 ghost use Rattle.llfree_c.specs.Status.{no_memory};
 
 use crate::statuses::{BAD_IMAGE, BAD_ORDER, NO_MEMORY, NOT_HELD};
 use frame_core::FrameBlock;
-use frame_places::{are_apart, are_held_as, is_image};
+use frame_slots::{are_apart, are_held_as, is_image};
 use frame_words::HUGE_ORDER;
 use std::alloc::Global;
 

@@ -2,7 +2,7 @@
 
 ghost use Rattle.std.specs.Prelude.{◌≡◌, ◌≢◌, ◌⊎◌, ◌↔◌, length, IfOk, IfErr};
 ghost use Rattle.llfree_c.specs.Status.{ok, no_memory, cores_open};
-ghost use Rattle.frame_places.specs.Calls.{frames_by};
+ghost use Rattle.frame_slots.specs.Calls.{frames_by};
 ghost use Rattle.llfree_c.specs.CoreImages.{StopsCore, HasNoStop};
 ghost use Rattle.llfree_c.specs.Images.{image_words, StaysBehind};
 
@@ -10,7 +10,7 @@ use crate::images::llfree_image_words;
 use crate::rebuilding::write_rebuilt;
 use crate::sizes::geometry_of;
 use crate::statuses::{CORES_OPEN, NO_MEMORY, NO_ROOM, OK};
-use frame_places::{CoreState, StopFault, open_cores};
+use frame_slots::{CoreState, StopFault, open_cores};
 use frame_words::Fault;
 use std::alloc::Global;
 use std::mem::replace;

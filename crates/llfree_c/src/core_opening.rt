@@ -4,8 +4,8 @@ ghost use Rattle.std.specs.Prelude.{◌≡◌, ◌+◌, ◌<◌, IfOk, IfErr, le
 ghost use Rattle.std.specs.List.{All};
 ghost use Rattle.core_frames.specs.Ranges.{MayHoldBack, IsUnopenedFor};
 ghost use Rattle.frame_model.specs.Key.{sealed_key};
-ghost use Rattle.frame_places.specs.Openings.{AreCoresOf};
-ghost use Rattle.frame_places.specs.declared.shared.Shared.{Shared};
+ghost use Rattle.frame_slots.specs.Openings.{AreCoresOf};
+ghost use Rattle.frame_slots.specs.declared.shared.Shared.{Shared};
 ghost use Rattle.llfree_c.specs.Status.{no_memory};
 ghost use Rattle.llfree_c.specs.OpenCores.{BoxShares, IsBoxUnused, HasNoCores, ShareOne};
 ghost use Rattle.llfree_c.specs.OpenCores.{IsClosedHandle, IsCoreBehind, IsUnusedBehind};
@@ -16,7 +16,7 @@ use crate::crossing::may_cross;
 use crate::ranges::{FrameRange, pairs_in};
 use crate::sizes::geometry_of;
 use crate::statuses::{BAD_GEOMETRY, BAD_RANGE, NO_MEMORY, NOT_CLOSED};
-use frame_places::{CoreState, open_bare_cores, open_cores};
+use frame_slots::{CoreState, open_bare_cores, open_cores};
 use frame_words::{Fault, Geometry, MOST_CORES};
 use std::alloc::Global;
 
@@ -25,11 +25,11 @@ pub(crate) fn boxed_cores(
     heap: Global,
     frames: u32,
     ranges: &[FrameRange],
-    has_places: bool,
+    has_slots: bool,
 ) -> Result<Vec<Box<CoreState, Global>>, u32>
     ensures count { IfOk result (λ cores. vec_len cores ≡ length handles.now) }
     ensures closed { IfOk result (λ _. All IsClosedHandle handles.now) }
-    ensures cores { IfOk result (λ cores. ShareOne has_places frames ranges.now cores.items) }
+    ensures cores { IfOk result (λ cores. ShareOne has_slots frames ranges.now cores.items) }
     ensures err { IfErr result (HasNoCores frames ranges.now handles.now) }
 {
     for handle in handles {
@@ -43,7 +43,7 @@ pub(crate) fn boxed_cores(
     }
     let geometry = geometry_of(frames, count as u32)?;
     let pairs = pairs_in(heap, ranges)?;
-    let states = match states_of(heap, geometry, &pairs, has_places) {
+    let states = match states_of(heap, geometry, &pairs, has_slots) {
         Ok(states) => states,
         Err(Fault::BadRange) => return Err(BAD_RANGE),
         Err(_) => return Err(NO_MEMORY),
@@ -60,14 +60,14 @@ fn states_of(
     heap: Global,
     geometry: Geometry,
     pairs: &[(u32, u32)],
-    has_places: bool,
+    has_slots: bool,
 ) -> Result<Vec<CoreState>, Fault>
     ensures cores { IfOk result (λ states.
-        AreCoresOf has_places (sealed_key geometry pairs.now) states.items) }
+        AreCoresOf has_slots (sealed_key geometry pairs.now) states.items) }
     ensures lawful { IfOk result (λ _. MayHoldBack geometry pairs.now) }
     ensures refused { IfErr result (IsUnopenedFor geometry pairs.now) }
 {
-    if has_places {
+    if has_slots {
         open_cores(heap, geometry, pairs)
     } else {
         open_bare_cores(heap, geometry, pairs)

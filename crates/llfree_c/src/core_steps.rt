@@ -3,10 +3,10 @@
 ghost use Rattle.std.specs.Prelude.{◌≡◌, ◌≢◌, ◌⊎◌, ◌≤◌};
 ghost use Rattle.llfree_c.specs.RefusedCalls.{RefusesTakeAs, RefusesSplitAs};
 ghost use Rattle.llfree_c.specs.Status.{ok, bad_order, not_held, contended};
-ghost use Rattle.frame_places.specs.Calls.{SharesOne, TakesFor, GivesFor, SplitsFor, KeepsCore};
+ghost use Rattle.frame_slots.specs.Calls.{SharesOne, TakesFor, GivesFor, SplitsFor, KeepsCore};
 
 use crate::statuses::{BAD_ORDER, CONTENDED, NO_BLOCK, NOT_HELD, OK};
-use frame_places::{CoreState, Refusal};
+use frame_slots::{CoreState, Refusal};
 use frame_words::TakeFault;
 
 pub(crate) fn take(state: &mut CoreState, order: u8, frame: &mut u32) -> u32
@@ -50,6 +50,6 @@ pub(crate) fn split(state: &mut CoreState, frame: u32, order: u8) -> u32
         Ok(()) => OK,
         Err(Refusal::NoHalves) => BAD_ORDER,
         Err(Refusal::NotHeld) => NOT_HELD,
-        Err(Refusal::NoPlace) => CONTENDED,
+        Err(Refusal::NoSlot) => CONTENDED,
     }
 }

@@ -3,7 +3,7 @@
 ghost use Rattle.std.specs.Prelude.{◌≡◌, ℕ, ◌⊎◌, ◌+◌, ◌*◌, ◌<◌, ◌≤◌, length, slice_index};
 ghost use Rattle.frame_core.specs.Image.{key_in};
 ghost use Rattle.llfree_c.specs.Images.{image_words, SaysOfChild, SaysAll, StaysBehind};
-ghost use Rattle.frame_places.specs.Numbers.{most_frames};
+ghost use Rattle.frame_slots.specs.Numbers.{most_frames};
 
 use frame_core::Image;
 use frame_words::{CHILD_FRAMES, CHILD_WORDS, MOST_CHILDREN, entry};

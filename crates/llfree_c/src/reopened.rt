@@ -13,7 +13,7 @@ use crate::replay::replay;
 use crate::sizes::geometry_of;
 use crate::statuses::{BAD_GEOMETRY, CONTENDED, NO_MEMORY, NOT_CLOSED};
 use core_frames::PlainAllocator;
-use frame_places::{CoreState, reopen_cores};
+use frame_slots::{CoreState, reopen_cores};
 use frame_words::{Fault, MOST_CORES};
 use std::alloc::Global;
 

@@ -8,13 +8,13 @@ ghost use Rattle.frame_core.specs.Block.{block as block_at};
 ghost use Rattle.frame_core.specs.Holding.{holders};
 ghost use Rattle.frame_core.specs.QuietTake.{FindsNone};
 ghost use Rattle.core_frames.specs.PlainState.{memory_by, held_by};
-ghost use Rattle.frame_places.specs.Claims.{IsHeldAs};
+ghost use Rattle.frame_slots.specs.Claims.{IsHeldAs};
 ghost use Rattle.llfree_c.specs.Replays.{StaysMemory, EndsReplay, FollowsImage, HoldsBlock, IsHeldWhole};
 
 use crate::statuses::{CONTENDED, NO_MEMORY};
 use core_frames::PlainAllocator;
 use frame_core::{FrameBlock, HeldBlock, PlainBlock};
-use frame_places::{is_claimed, is_free, is_held, is_huge};
+use frame_slots::{is_claimed, is_free, is_held, is_huge};
 use frame_words::{CHILD_FRAMES, HUGE_ORDER, TakeFault, child_of};
 use std::alloc::Global;
 

@@ -3,7 +3,7 @@ use Rattle.std.specs.List.{All}
 use Rattle.std.specs.List.Sorted.{IsPermutation}
 use Rattle.std.proofs.lemmas.List.Sorted.{All-permutation}
 use Rattle.frame_model.specs.declared.block.FrameBlock.{FrameBlock}
-use Rattle.frame_places.specs.Claims.{IsHeldAs}
+use Rattle.frame_slots.specs.Claims.{IsHeldAs}
 use Rattle.llfree_c.specs.Reopenings.{claimed_blocks, IsClaimedOf, MayBeClaimed}
 use Rattle.llfree_c.proofs.Replays.{apart_still, may_be_claimed}
 use Rattle.llfree_c.proofs.blocks.claimed_in.Goals as goal

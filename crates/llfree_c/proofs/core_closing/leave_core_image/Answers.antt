@@ -1,8 +1,8 @@
 use Rattle.std.proofs.Common.{List, ℕ, subst}
 use Rattle.core_frames.specs.Cores.{memory_of, seat_of}
 use Rattle.frame_core.specs.Key.{key_of}
-use Rattle.frame_places.specs.Calls.{allocator_of}
-use Rattle.frame_places.specs.declared.core_state.CoreState.{CoreState}
+use Rattle.frame_slots.specs.Calls.{allocator_of}
+use Rattle.frame_slots.specs.declared.core_state.CoreState.{CoreState}
 use Rattle.frame_words.specs.declared.geometry.Geometry.{Geometry}
 use Rattle.llfree_c.specs.CoreImages.{StopsCore, SaysRebuilt}
 use Rattle.llfree_c.proofs.RebuiltNumbers.{leaves_stop}

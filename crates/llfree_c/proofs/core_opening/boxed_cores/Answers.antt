@@ -1,5 +1,5 @@
 use Rattle.std.proofs.Common.{◌∙◌}
-use Rattle.frame_places.specs.Openings.{Shares, IsUnusedState}
+use Rattle.frame_slots.specs.Openings.{Shares, IsUnusedState}
 use Rattle.core_frames.specs.Cores.{memory_of}
 use Rattle.llfree_c.proofs.BoxedCores.{unmapped}
 use Rattle.llfree_c.proofs.OpenedMemories.{memory_of_key}

@@ -1,7 +1,7 @@
 use Rattle.std.proofs.Common.{◌≡◌, ◌++◌, Some, length, map, take, vec_len, ◌+◌}
 use Rattle.std.specs.Prelude.{reverse}
 use Rattle.std.specs.List.{All, AllWithin}
-use Rattle.frame_places.specs.declared.shared.Shared.{Shared}
+use Rattle.frame_slots.specs.declared.shared.Shared.{Shared}
 use Rattle.llfree_c.specs.OpenCores.{BoxShares, IsBoxUnused, IsCoreBehind, IsUnusedBehind, core_behind, states_in}
 use Rattle.llfree_c.proofs.core_opening.hand_over.Given as goal
 

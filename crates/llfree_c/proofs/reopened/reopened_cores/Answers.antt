@@ -1,10 +1,10 @@
 use Rattle.std.proofs.Common.{ℕ, List, [], refl, sym, subst, ◌∙◌}
 use Rattle.std.specs.List.Sorted.{IsPermutation}
 use Rattle.frame_model.specs.declared.block.FrameBlock.{FrameBlock}
-use Rattle.frame_places.specs.Openings.{Shares}
+use Rattle.frame_slots.specs.Openings.{Shares}
 use Rattle.core_frames.specs.Cores.{memory_of}
-use Rattle.frame_places.specs.Reopenings.{HasKeeper}
-use Rattle.frame_places.specs.declared.core_state.CoreState.{CoreState}
+use Rattle.frame_slots.specs.Reopenings.{HasKeeper}
+use Rattle.frame_slots.specs.declared.core_state.CoreState.{CoreState}
 use Rattle.llfree_c.specs.OpenCores.{states_in}
 use Rattle.llfree_c.specs.Reopenings.{claimed_blocks}
 use Rattle.llfree_c.proofs.BoxedCores.{keeper_still, unmapped}

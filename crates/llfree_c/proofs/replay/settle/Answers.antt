@@ -7,8 +7,8 @@ use Rattle.std.proofs.lemmas.List.Elements.{All-contains}
 use Rattle.frame_words.specs.declared.geometry.Geometry.{Geometry}
 use Rattle.core_frames.specs.PlainState.{PlainState}
 use Rattle.frame_core.specs.Holding.{holders}
-use Rattle.frame_places.specs.Claims.{IsHeldAs}
-use Rattle.frame_places.specs.Numbers.{IsHeldBy}
+use Rattle.frame_slots.specs.Claims.{IsHeldAs}
+use Rattle.frame_slots.specs.Numbers.{IsHeldBy}
 use Rattle.llfree_c.specs.Replays.{FollowsImage, HoldsAllOf, HoldsBlock, HoldsOnly}
 use Rattle.llfree_c.proofs.Following.{claimed_held, given_all, halved_all, kept_all, kept_only, laid_only}
 use Rattle.llfree_c.proofs.Options.{on_ok}

@@ -5,7 +5,7 @@ use Rattle.frame_words.specs.declared.geometry.Geometry.{Geometry}
 use Rattle.frame_model.specs.declared.block.FrameBlock.{FrameBlock}
 use Rattle.frame_core.specs.Key.{sealed_key}
 use Rattle.core_frames.specs.PlainState.{PlainState, memory_by}
-use Rattle.frame_places.specs.Claims.{IsHeldAs}
+use Rattle.frame_slots.specs.Claims.{IsHeldAs}
 use Rattle.llfree_c.specs.Replays.{HoldsAllOf}
 use Rattle.llfree_c.specs.Reopenings.{claimed_blocks}
 use Rattle.llfree_c.proofs.OpenedMemories.{memory_of_key}

@@ -1,6 +1,0 @@
-use Rattle.std.proofs.Common.{◌≡◌, map, take}
-use Rattle.frame_places.specs.Calls.{laid_down}
-use Rattle.frame_places.proofs.replay.are_for.Given as goal
-
-abbrev pub invariant-loop-i : goal.invariant-loop-i
-invariant-loop-i l = map laid_down (take l.i l.receipts) ≡ take l.i l.blocks

@@ -1,6 +1,0 @@
-use Rattle.std.proofs.Common.{take}
-use Rattle.frame_places.specs.Reopenings.{MakeUp, waiting_blocks}
-use Rattle.frame_places.proofs.replay.make_up.Given as goal
-
-abbrev pub invariant-loop-held : goal.invariant-loop-held
-invariant-loop-held l = MakeUp l.end (waiting_blocks (take l.held-index l.blocks))

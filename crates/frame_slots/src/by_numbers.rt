@@ -1,0 +1,128 @@
+//! Takes, gives and splits of blocks whose rights rest at their slots.
+
+ghost use Rattle.std.specs.Prelude.{◌≡◌, ◌≢◌, IfOk, IfErr, IfSome, IfNone};
+ghost use Rattle.core_frames.specs.Cores.{IsCoreOf, IsOutOf};
+ghost use Rattle.core_frames.specs.Uses.{HasGiven};
+ghost use Rattle.frame_slots.specs.Slots.{TakesAt, GivesAt, SplitsAt, IsRefusedTake};
+ghost use Rattle.frame_slots.specs.Refusals.{IsRefusedSplit};
+
+use crate::refusal::Refusal;
+use crate::resting::Receipt;
+use crate::shared::Shared;
+use core_frames::Core;
+use frame_core::HeldBlock;
+use frame_table::Block;
+use frame_words::TakeFault;
+
+/// Takes a block, and lays it down at its slot.
+pub(crate) fn take_at_slot(
+    shared: &Shared,
+    core: &mut Core,
+    slotless: &mut u64,
+    order: u8,
+) -> Result<Receipt, TakeFault>
+    requires { IsCoreOf shared.now.allocator core.old }
+    ensures core { IsCoreOf shared.now.allocator core.new }
+    ensures taken { IfOk result (λ r. TakesAt shared.now.allocator order r.frame core.old core.new) }
+    ensures order { IfOk result (λ r. r.order ≡ order) }
+    ensures counted { IfOk result (λ _. slotless.new ≡ slotless.old) }
+    ensures refused { IfErr result (IsRefusedTake shared.now.allocator order core.old core.new
+        slotless.old slotless.new) }
+{
+    let held = shared.allocator.take(core, order)?;
+    let Some(receipt) = lay_down(shared, core, held) else {
+        *slotless = slotless.wrapping_add(1);
+        return Err(TakeFault::Contended);
+    };
+    Ok(receipt)
+}
+
+/// Fetches a block from its slot, and gives it.
+pub(crate) fn give_from_slot(
+    shared: &Shared,
+    core: &mut Core,
+    frame: u32,
+    order: u8,
+) -> Result<(), Refusal>
+    requires { IsCoreOf shared.now.allocator core.old }
+    ensures core { IsCoreOf shared.now.allocator core.new }
+    ensures given { IfOk result (λ _. GivesAt shared.now.allocator order frame core.old core.new) }
+    ensures same { IfErr result (λ _. core.new ≡ core.old) }
+    ensures refused { IfErr result (λ e. e ≡ Refusal.NotHeld) }
+{
+    let Some(held) = fetch(shared, frame, order) else {
+        return Err(Refusal::NotHeld);
+    };
+    shared.allocator.give(core, held);
+    Ok(())
+}
+
+/// Fetches a block from its slot, and lays its halves down at theirs.
+pub(crate) fn split_at_slot(
+    shared: &Shared,
+    core: &mut Core,
+    slotless: &mut u64,
+    frame: u32,
+    order: u8,
+) -> Result<(), Refusal>
+    requires { IsCoreOf shared.now.allocator core.old }
+    ensures core { IsCoreOf shared.now.allocator core.new }
+    ensures split { IfOk result (λ _. SplitsAt shared.now.allocator order frame core.old core.new) }
+    ensures same { IfErr result (λ e. e ≢ Refusal.NoSlot → core.new ≡ core.old) }
+    ensures counted { IfOk result (λ _. slotless.new ≡ slotless.old) }
+    ensures refused { IfErr result (IsRefusedSplit order slotless.old slotless.new) }
+{
+    if order == 0 {
+        return Err(Refusal::NoHalves);
+    }
+    let Some(held) = fetch(shared, frame, order) else {
+        return Err(Refusal::NotHeld);
+    };
+    match shared.allocator.split(core, held) {
+        Ok((lower, upper)) => {
+            let lower_rests = lay_down(shared, core, lower);
+            let upper_rests = lay_down(shared, core, upper);
+            if lower_rests.is_some() && upper_rests.is_some() {
+                Ok(())
+            } else {
+                *slotless = slotless.wrapping_add(1);
+                Err(Refusal::NoSlot)
+            }
+        }
+        Err(held) => {
+            lay_down(shared, core, held);
+            *slotless = slotless.wrapping_add(1);
+            Err(Refusal::NoSlot)
+        }
+    }
+}
+
+// The block of these numbers, if it rests at its slot.
+fn fetch(shared: &Shared, frame: u32, order: u8) -> Option<Block>
+    ensures out { IfSome result (IsOutOf shared.now.allocator) }
+    ensures same { IfSome result (λ b. (b.frame ≡ frame) × (b.order ≡ order)) }
+{
+    shared.find(frame, order)?.fetch(&shared.allocator)
+}
+
+// Lays the block down at its slot. Where one rests there, or there is none, the block is given back.
+pub(crate) fn lay_down(shared: &Shared, core: &mut Core, held: Block) -> Option<Receipt>
+    requires out { IsOutOf shared.now.allocator held }
+    requires core { IsCoreOf shared.now.allocator core.old }
+    ensures core { IsCoreOf shared.now.allocator core.new }
+    ensures rests { IfSome result (λ _. core.new ≡ core.old) }
+    ensures same { IfSome result (λ r. (r.frame ≡ held.frame) × (r.order ≡ held.order)) }
+    ensures given { IfNone result (HasGiven core.old core.new) }
+{
+    let Some(slot) = shared.find(held.frame(), held.order()) else {
+        shared.allocator.give(core, held);
+        return None;
+    };
+    match slot.rest(&shared.allocator, held) {
+        Ok(receipt) => Some(receipt),
+        Err(held) => {
+            shared.allocator.give(core, held);
+            None
+        }
+    }
+}

@@ -1,0 +1,25 @@
+use Rattle.std.proofs.Common.{rules, ap, ◌∙◌, arith}
+use Rattle.frame_model.specs.declared.view.View.{View}
+use Rattle.frame_core.specs.View.{count_in}
+use Rattle.frame_core.specs.Steps.Amounts.{more}
+use Rattle.frame_model.proofs.Amounts.{count_none}
+use Rattle.low_frames.proofs.ViewLemmas.{charged_here}
+use Rattle.low_tests.proofs.tests.scripted.pay.Goals as goal
+
+pub tree_pay-requires : goal.tree_pay-requires
+tree_pay-requires c = record {
+  share = search rules;
+  seen = search rules;
+  may = record {
+    inside = search rules;
+    enough = search rules;
+    paid = λ other ne.
+        ap (count_in other) (ap (λ (v : View). v.paid) c.load-seen.ensures.view ∙ c.requires.idle.paid) ∙ count_none other;
+  };
+}
+
+pub returns-clause-paid : goal.returns-clause-paid
+returns-clause-paid c made =
+    let none = ap (λ (v : View). v.paid) c.load-seen.ensures.view ∙ c.requires.idle.paid in
+    let paid = ap (λ (v : View). v.paid) c.if-not-tree_pay.ensures.view ∙ ap (more c.args.tree c.frames_of-n.result) none in
+    omega (arith, ap (count_in c.args.tree) paid, charged_here c.args.tree c.frames_of-n.result, c.frames_of-n.ensures.value)
