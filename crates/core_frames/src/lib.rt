@@ -35,6 +35,7 @@ pub use habit::Habit;
 pub use held_blocks::{Label, LabelledBlock, LabelledBlocks};
 pub use laws::{wrong_answers_are_not_told, wrong_refusals_are_not_told};
 pub use plain::PlainAllocator;
+pub use ranges::MOST_RANGES;
 pub use splits::split_by;
 pub use survivors::Survivors;
 pub use takes::take_by;
