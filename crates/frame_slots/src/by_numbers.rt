@@ -7,7 +7,7 @@ ghost use Rattle.frame_slots.specs.Slots.{TakesAt, GivesAt, SplitsAt, IsRefusedT
 ghost use Rattle.frame_slots.specs.Refusals.{IsRefusedSplit};
 
 use crate::refusal::Refusal;
-use crate::resting::Receipt;
+use crate::receipt::Receipt;
 use crate::shared::Shared;
 use core_frames::Core;
 use frame_core::HeldBlock;

@@ -7,7 +7,7 @@ ghost use Rattle.frame_slots.specs.Slots.{IsSlotOf, AreSlotsOf, IsUsedAsBefore};
 
 use crate::slot::Slot;
 use crate::slots::slots_of;
-use crate::resting::Receipt;
+use crate::receipt::Receipt;
 use core_frames::{Allocator, Core};
 use frame_words::{Fault, HUGE_ORDER};
 use std::alloc::Global;
