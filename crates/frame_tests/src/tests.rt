@@ -1,5 +1,4 @@
 mod closings;
-mod two_threads;
 mod cut;
 mod random;
 mod ranges;
@@ -7,3 +6,4 @@ mod reopenings;
 mod seats;
 mod stops;
 mod sums;
+mod two_threads;

@@ -5,8 +5,8 @@ ghost use Rattle.core_frames.specs.Bounds.{most_moves, most_in_give};
 ghost use Rattle.core_frames.specs.Cores.{memory_of, moves_by, IsCoreOf, StaysCoreOf, IsOutOf};
 ghost use Rattle.core_frames.specs.Uses.{TakesThrough, HasGiven};
 
-use crate::shared::allocator::{Allocator, Core};
 use crate::gives::give_by;
+use crate::shared::allocator::{Allocator, Core};
 use crate::takes::take_by;
 use frame_table::{Block, SharedMoves};
 use frame_words::TakeFault;

@@ -5,9 +5,9 @@ ghost use Rattle.frame_core.specs.Key.{key_of, sealed_key};
 ghost use Rattle.core_frames.specs.Cores.{seat_of, AreNumbered, IsOpened};
 ghost use Rattle.core_frames.specs.Ranges.{IsUnopenedFor, MayHoldBack};
 
-use crate::shared::allocator::{Allocator, Core};
-use crate::search::habit::Habit;
 use crate::ranges::may_hold_back;
+use crate::search::habit::Habit;
+use crate::shared::allocator::{Allocator, Core};
 use frame_table::{CoreSeat, open_table_with};
 use frame_words::{Fault, Geometry};
 use std::alloc::Global;

@@ -8,8 +8,8 @@ ghost use Rattle.frame_core.specs.Words.{bit_of, huge_of};
 ghost use Rattle.frame_table.specs.Openings.{unsealed_key};
 ghost use Rattle.frame_table.specs.Seats.{key_at, IsIdleSeat, IsOut};
 
-use super::two_threads::{Task, give_and_run};
 use super::seats::{closed, next_seat};
+use super::two_threads::{Task, give_and_run};
 use frame_core::{HeldBlock, Image};
 use frame_table::{Block, CoreSeat, FrameTable, open_table_at};
 use frame_words::{Fault, Geometry};
