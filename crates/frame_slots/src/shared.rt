@@ -5,9 +5,9 @@ ghost use Rattle.std.specs.List.{All};
 ghost use Rattle.core_frames.specs.Cores.{memory_of, IsCoreOf};
 ghost use Rattle.frame_slots.specs.Slots.{IsSlotOf, AreSlotsOf, IsUsedAsBefore};
 
+use crate::resting::Receipt;
 use crate::slot::Slot;
 use crate::slots::slots_of;
-use crate::resting::Receipt;
 use core_frames::{Allocator, Core};
 use frame_words::{Fault, HUGE_ORDER};
 use std::alloc::Global;
