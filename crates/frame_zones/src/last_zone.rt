@@ -68,20 +68,9 @@ pub(crate) fn gather(cores: &mut Vec<ZoneCore>, mut parts: Vec<Core>) -> Vec<Cor
     ensures room { All HasRoom cores.new.items }
 {
     for number in 0..cores.len() {
-        parts.push_reserved(shorten(&mut cores[number]));
+        parts.push_reserved(cores[number].take_last());
     }
     parts
-}
-
-fn shorten(core: &mut ZoneCore) -> Core
-    requires { HasPart core.old }
-    ensures shorter { IsLonger core.new result core.old }
-    ensures room { HasRoom core.new }
-{
-    let Some(part) = core.cores.pop() else {
-        unreachable!()
-    };
-    part
 }
 
 /// The parts become the last ones of the cores, in order, again. There is room for them.
@@ -92,13 +81,27 @@ pub(crate) fn put_back(cores: &mut Vec<ZoneCore>, mut parts: Vec<Core>)
 {
     while let Some(part) = parts.pop() {
         let number = parts.len();
-        lengthen(&mut cores[number], part);
+        cores[number].put_last(part);
     }
 }
 
-fn lengthen(core: &mut ZoneCore, part: Core)
-    requires { HasRoom core.old }
-    ensures { IsLonger core.old part core.new }
-{
-    core.cores.push_reserved(part);
+impl ZoneCore {
+    // The core of the last zone. There is room for it then.
+    fn take_last(&mut self) -> Core
+        requires { HasPart self.old }
+        ensures shorter { IsLonger self.new result self.old }
+        ensures room { HasRoom self.new }
+    {
+        let Some(part) = self.cores.pop() else {
+            unreachable!()
+        };
+        part
+    }
+
+    fn put_last(&mut self, part: Core)
+        requires { HasRoom self.old }
+        ensures { IsLonger self.old part self.new }
+    {
+        self.cores.push_reserved(part);
+    }
 }

@@ -81,17 +81,20 @@ pub(crate) fn deal(cores: &mut Vec<ZoneCore>, mut parts: Vec<Core>) -> Result<()
 {
     while let Some(part) = parts.pop() {
         let number = parts.len();
-        lengthen(&mut cores[number], part)?;
+        cores[number].add(part)?;
     }
     Ok(())
 }
 
-fn lengthen(core: &mut ZoneCore, part: Core) -> Result<(), Fault>
-    ensures longer { OnOk result (IsLonger core.old part core.new) }
-    ensures err { IfErr result (λ e. e ≡ Fault.NoMemory) }
-{
-    let Ok(()) = core.cores.push(part) else {
-        return Err(Fault::NoMemory);
-    };
-    Ok(())
+impl ZoneCore {
+    // The core of one zone more.
+    fn add(&mut self, part: Core) -> Result<(), Fault>
+        ensures longer { OnOk result (IsLonger self.old part self.new) }
+        ensures err { IfErr result (λ e. e ≡ Fault.NoMemory) }
+    {
+        let Ok(()) = self.cores.push(part) else {
+            return Err(Fault::NoMemory);
+        };
+        Ok(())
+    }
 }

@@ -3,7 +3,7 @@ use Rattle.csv.specs.Writing.{default_writer, row_text}
 use Rattle.frame_core.specs.Image.{key_in}
 use Rattle.frame_image.specs.ImageText.{core_row, rest_row}
 use Rattle.frame_image.proofs.Writing.{text_more, core_row_is}
-use Rattle.frame_image.proofs.image_writer.write_cores.Goals as goal
+use Rattle.frame_image.proofs.image_writer.RecordWriter.add_cores.Goals as goal
 
 pub loop-core-preserved : goal.loop-core-preserved
 loop-core-preserved c =
@@ -11,4 +11,4 @@ loop-core-preserved c =
     let row : rest_row c.loop-core.core c.local_at.result ≡ core_row (key_in image) image.words c.loop-core.core =
     core_row_is _ _ _ _ c.local_at.ensures in
     text_more (core_row (key_in image) image.words) _ _ _ c.loop-core.core c.loop-core.invariant
-    (c.in_ok-write_core.ensures.text ∙ ap (λ r. c.loop-core.writer ++ row_text default_writer r) row)
+    (c.in_ok-add_core.ensures.text ∙ ap (λ r. c.loop-core.self ++ row_text default_writer r) row)
