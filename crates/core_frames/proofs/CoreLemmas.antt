@@ -9,8 +9,8 @@ use Rattle.frame_table.specs.Seats.{view_of}
 use Rattle.frame_table.specs.Openings.{IsNew, IsOpenedAt}
 use Rattle.frame_table.specs.declared.seats.CoreSeat.{CoreSeat}
 use Rattle.frame_table.specs.declared.table.FrameTable.{FrameTable}
-use Rattle.core_frames.specs.declared.allocator.Allocator.{Allocator}
-use Rattle.core_frames.specs.declared.allocator.Core.{Core}
+use Rattle.core_frames.specs.declared.shared.allocator.Allocator.{Allocator}
+use Rattle.core_frames.specs.declared.shared.allocator.Core.{Core}
 use Rattle.core_frames.specs.Cores.{memory_of, seat_of, IsNewCore, AreNumbered, IsOpened}
 
 idle_new : (t : FrameTable) (s : CoreSeat) → IsNew t s → IsIdle (view_of s)

@@ -21,9 +21,9 @@ use Rattle.held_blocks.specs.Desk.{blocks_of, GivesFirst, TakesUnder, MayFail}
 use Rattle.held_blocks.specs.LabelledBlocks.{LabelledList, TakesFirst}
 use Rattle.held_blocks.specs.declared.labelled_block.LabelledBlock.{LabelledBlock}
 use Rattle.held_blocks.proofs.HeldLemmas.{blocks_append, contained, count_same, counted_once, less_lawful, less_sum, more_lawful, sum_split}
-use Rattle.core_frames.specs.declared.allocator.Allocator.{Allocator}
-use Rattle.core_frames.specs.declared.allocator.Core.{Core}
-use Rattle.core_frames.specs.declared.desk.Desk.{Desk}
+use Rattle.core_frames.specs.declared.shared.allocator.Allocator.{Allocator}
+use Rattle.core_frames.specs.declared.shared.allocator.Core.{Core}
+use Rattle.core_frames.specs.declared.shared.desk.Desk.{Desk}
 use Rattle.core_frames.specs.Cores.{memory_of, kept_by, IsCoreOf}
 use Rattle.core_frames.specs.Uses.{IsRefusedFor, IsRefusedAtDesk}
 use Rattle.core_frames.specs.Desks.{core_of, list_of, KeepsJust, IsDeskOf}

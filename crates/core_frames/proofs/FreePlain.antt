@@ -18,7 +18,7 @@ use Rattle.low_frames.specs.Takes.{IsAsBefore}
 use Rattle.low_frames.proofs.AloneLemmas.{at_known}
 use Rattle.core_frames.specs.Alone.{SameFrames}
 use Rattle.core_frames.specs.declared.free_counts.FreeCounts.{FreeCounts}
-use Rattle.core_frames.specs.declared.habit.Habit.{Habit}
+use Rattle.core_frames.specs.declared.search.habit.Habit.{Habit}
 use Rattle.core_frames.specs.FreeCounts.{AreExact, LooksOver, frames_together, held_in, clear_children}
 use Rattle.core_frames.specs.PlainAgree.{held_with, AgreeWith}
 use Rattle.core_frames.proofs.EntriesRead.{loads_before}

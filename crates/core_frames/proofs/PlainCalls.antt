@@ -42,7 +42,7 @@ use Rattle.low_frames.specs.Alone.{HoldsMore, Turns}
 use Rattle.core_frames.specs.Searches.{GivesBy}
 use Rattle.low_frames.specs.Outcomes.{TakesOut}
 use Rattle.low_frames.specs.Takes.{IsAsBefore}
-use Rattle.core_frames.specs.declared.habit.Habit.{Habit}
+use Rattle.core_frames.specs.declared.search.habit.Habit.{Habit}
 use Rattle.core_frames.specs.Alone.{SameFrames, IsDrained, HasNoneOf, FindsNoBlock}
 use Rattle.core_frames.specs.PlainAgree.{named_by, held_with, AreOfCores, AgreeWith}
 use Rattle.core_frames.specs.PlainBytes.{out_of, kept_of, first_out, first_kept}

@@ -8,8 +8,8 @@ use Rattle.frame_core.specs.Key.{IsKey}
 use Rattle.frame_table.specs.Seats.{key_at, view_of, IsIdleSeat, IsOut}
 use Rattle.frame_table.specs.declared.block.Block.{Block}
 use Rattle.frame_table.specs.declared.seats.CoreSeat.{CoreSeat}
-use Rattle.core_frames.specs.declared.allocator.Allocator.{Allocator}
-use Rattle.core_frames.specs.declared.allocator.Core.{Core}
+use Rattle.core_frames.specs.declared.shared.allocator.Allocator.{Allocator}
+use Rattle.core_frames.specs.declared.shared.allocator.Core.{Core}
 
 -- the key of the allocator's memory
 abbrev pub memory_of : Allocator → Key

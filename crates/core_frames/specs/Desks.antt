@@ -6,9 +6,9 @@ use Rattle.frame_model.specs.declared.block.FrameBlock.{FrameBlock}
 use Rattle.held_blocks.specs.Desk.{blocks_of}
 use Rattle.held_blocks.specs.declared.labelled_block.LabelledBlock.{LabelledBlock}
 use Rattle.core_frames.specs.Cores.{memory_of, number_of, kept_by, IsCoreOf}
-use Rattle.core_frames.specs.declared.allocator.Allocator.{Allocator}
-use Rattle.core_frames.specs.declared.allocator.Core.{Core}
-use Rattle.core_frames.specs.declared.desk.Desk.{Desk}
+use Rattle.core_frames.specs.declared.shared.allocator.Allocator.{Allocator}
+use Rattle.core_frames.specs.declared.shared.allocator.Core.{Core}
+use Rattle.core_frames.specs.declared.shared.desk.Desk.{Desk}
 
 -- the desk's list, oldest first
 abbrev pub list_of : Desk → List LabelledBlock

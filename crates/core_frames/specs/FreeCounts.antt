@@ -13,8 +13,8 @@ use Rattle.frame_core.specs.Steps.{after_load}
 use Rattle.frame_core.specs.Words.{entry_place, entry_word_count}
 use Rattle.low_frames.specs.Alone.{FindsOf}
 use Rattle.frame_table.specs.Seats.{reads_of}
-use Rattle.core_frames.specs.declared.allocator.Allocator.{Allocator}
-use Rattle.core_frames.specs.declared.allocator.Core.{Core}
+use Rattle.core_frames.specs.declared.shared.allocator.Allocator.{Allocator}
+use Rattle.core_frames.specs.declared.shared.allocator.Core.{Core}
 use Rattle.core_frames.specs.Cores.{memory_of, seat_of}
 use Rattle.core_frames.specs.declared.free_counts.FreeCounts.{FreeCounts}
 

@@ -9,8 +9,8 @@ use Rattle.frame_core.specs.Without.{without}
 use Rattle.frame_table.specs.Openings.{ground_view, IsGround, IsLeft}
 use Rattle.frame_table.specs.Seats.{block_in}
 use Rattle.frame_table.specs.declared.block.Block.{Block}
-use Rattle.core_frames.specs.declared.allocator.Allocator.{Allocator}
-use Rattle.core_frames.specs.declared.survivors.Survivors.{Survivors}
+use Rattle.core_frames.specs.declared.shared.allocator.Allocator.{Allocator}
+use Rattle.core_frames.specs.declared.shared.survivors.Survivors.{Survivors}
 use Rattle.core_frames.specs.Cores.{memory_of, IsOutOf}
 use Rattle.core_frames.specs.LeftFrames.{Shows}
 

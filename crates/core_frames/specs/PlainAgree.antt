@@ -10,7 +10,7 @@ use Rattle.frame_core.specs.Mover.{Mover}
 use Rattle.frame_core.specs.Stops.{unsealed}
 use Rattle.frame_core.specs.View.{boot_blocks, IsIdle}
 use Rattle.plain_moves.specs.declared.plain.party.Company.{Company}
-use Rattle.core_frames.specs.declared.habit.Habit.{Habit}
+use Rattle.core_frames.specs.declared.search.habit.Habit.{Habit}
 use Rattle.core_frames.specs.Alone.{HasNoneOf}
 use Rattle.core_frames.specs.PlainBytes.{out_of, kept_of}
 use Rattle.core_frames.specs.PlainState.{HoldsExactly}

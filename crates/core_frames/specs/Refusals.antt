@@ -8,8 +8,8 @@ use Rattle.frame_model.specs.declared.block.FrameBlock.{FrameBlock}
 use Rattle.frame_core.specs.Key.{tree_count}
 use Rattle.frame_table.specs.Closing.{IsUnclosedFor}
 use Rattle.frame_table.specs.Openings.{IsLeft}
-use Rattle.core_frames.specs.declared.allocator.Allocator.{Allocator}
-use Rattle.core_frames.specs.declared.allocator.Core.{Core}
+use Rattle.core_frames.specs.declared.shared.allocator.Allocator.{Allocator}
+use Rattle.core_frames.specs.declared.shared.allocator.Core.{Core}
 use Rattle.core_frames.specs.Cores.{memory_of, number_of, view_in, moves_by, losses_by, AreNumbered}
 use Rattle.core_frames.specs.Left.{IsUnadoptedFor}
 use Rattle.core_frames.specs.Ranges.{IsUnopenedFor, MayHoldBack}

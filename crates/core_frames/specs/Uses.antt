@@ -12,8 +12,8 @@ use Rattle.frame_core.specs.Mover.{LiesInside}
 use Rattle.low_frames.specs.Outcomes.{HasNoBootFrame}
 use Rattle.frame_table.specs.Seats.{block_in}
 use Rattle.frame_table.specs.declared.block.Block.{Block}
-use Rattle.core_frames.specs.declared.allocator.Allocator.{Allocator}
-use Rattle.core_frames.specs.declared.allocator.Core.{Core}
+use Rattle.core_frames.specs.declared.shared.allocator.Allocator.{Allocator}
+use Rattle.core_frames.specs.declared.shared.allocator.Core.{Core}
 use Rattle.core_frames.specs.Cores.{memory_of, view_in, kept_by, lent_by, moves_by, losses_by, IsOutOf}
 use Rattle.core_frames.specs.Splits.{AreHalves}
 

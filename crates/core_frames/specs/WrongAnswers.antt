@@ -13,8 +13,8 @@ use Rattle.frame_table.specs.Seats.{block_in, view_of}
 use Rattle.frame_table.specs.Stopping.{IsImageAtStop}
 use Rattle.frame_table.specs.declared.block.Block.{Block}
 use Rattle.frame_table.specs.declared.seats.CoreSeat.{CoreSeat}
-use Rattle.core_frames.specs.declared.allocator.Allocator.{Allocator}
-use Rattle.core_frames.specs.declared.allocator.Core.{Core}
+use Rattle.core_frames.specs.declared.shared.allocator.Allocator.{Allocator}
+use Rattle.core_frames.specs.declared.shared.allocator.Core.{Core}
 use Rattle.core_frames.specs.Cores.{memory_of}
 use Rattle.core_frames.specs.Uses.{HasTaken}
 

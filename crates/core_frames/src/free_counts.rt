@@ -11,7 +11,7 @@ ghost use Rattle.core_frames.specs.FreeCounts.{free_at, is_whole, shows_whole, f
 ghost use Rattle.core_frames.specs.FreeCounts.{LooksOver, AreCountsOf};
 ghost use Rattle.core_frames.specs.Uses.{IsSameAfter};
 
-use crate::allocator::{Allocator, Core};
+use crate::shared::allocator::{Allocator, Core};
 use frame_core::{Moves, Place};
 use frame_table::SharedMoves;
 use frame_words::{CHILD_FRAMES, LANES, entry_free, lane};

@@ -20,13 +20,13 @@ ghost use Rattle.core_frames.specs.PlainState.{memory_by, held_by, HoldsExactly,
 
 mod starts;
 
-use super::drain::drain;
 use super::free_counts::{FreeCounts, free_counts_by};
 use super::gives::give_by;
-use super::habit::Habit;
 use super::ranges::may_hold_back;
 use super::splits::split_by;
 use super::takes::take_by;
+use crate::search::drain::drain;
+use crate::search::habit::Habit;
 use frame_core::{HeldBlock, Image, Moves, PlainBlock};
 use frame_words::{CHILD_FRAMES, Fault, Geometry, HUGE_ORDER, TakeFault};
 use plain_moves::PlainMoves;

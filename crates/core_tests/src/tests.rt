@@ -8,4 +8,4 @@ mod plain;
 mod random_scripts;
 mod scripted;
 mod shared;
-mod stopping;
+mod stops;

@@ -29,7 +29,7 @@ FitsTree key rest = (rest.0 < tree_count key) × (rest.1 ≤ size_of key rest.0)
 unfoldable pub bits_past : Key → ℕ → ℕ
 bits_past key word =
     run (min word_frames (key.frames - word_frames * word))
-        (word_frames - min word_frames (key.frames - word_frames * word))
+    (word_frames - min word_frames (key.frames - word_frames * word))
 
 -- the words of an image of which no part is known yet: all are 0, but the bits past the end are set
 unfoldable pub blank_words : Key → List ℕ

@@ -74,68 +74,128 @@ fn all_records(alloc: Global, geometry: Geometry, image: &Image) -> Result<Vec<u
     ensures fault { IfErr result (λ e. e ≡ Fault.NoMemory) }
 {
     let mut writer = RecordWriter::new(alloc);
-    write_header(&mut writer, geometry)?;
-    write_children(&mut writer, alloc, image)?;
-    write_trees(&mut writer, image)?;
-    write_cores(&mut writer, image)?;
+    writer.add_header(geometry)?;
+    writer.add_children(alloc, image)?;
+    writer.add_trees(image)?;
+    writer.add_cores(image)?;
     writer.finish()
 }
 
-// Adds the first record.
-#[tactic(auto, unfolding(crate::specs::ImageText::header_row))]
-fn write_header(writer: &mut RecordWriter, geometry: Geometry) -> Result<(), Fault>
-    ensures text { OnOk result
-        (writer.new ≡ writer.old ++ row_text default_writer (header_row (key_of geometry))) }
-    ensures fault { IfErr result (λ e. e ≡ Fault.NoMemory) }
-{
-    let (mut children_text, mut cores_text) = (Buffer::new(), Buffer::new());
-    let mut frames_text = Buffer::new();
-    let children = children_text.format(geometry.children()).as_bytes();
-    let cores = cores_text.format(geometry.cores()).as_bytes();
-    if geometry.frames() == CHILD_FRAMES * geometry.children() {
-        writer.add(&[b"llfree", b"1", children, cores, b""])
-    } else {
-        let frames = frames_text.format(geometry.frames()).as_bytes();
-        writer.add(&[b"llfree", b"2", children, cores, frames])
+impl RecordWriter {
+    // Adds the first record.
+    #[tactic(auto, unfolding(crate::specs::ImageText::header_row))]
+    fn add_header(&mut self, geometry: Geometry) -> Result<(), Fault>
+        ensures text { OnOk result
+            (self.new ≡ self.old ++ row_text default_writer (header_row (key_of geometry))) }
+        ensures fault { IfErr result (λ e. e ≡ Fault.NoMemory) }
+    {
+        let (mut children_text, mut cores_text) = (Buffer::new(), Buffer::new());
+        let mut frames_text = Buffer::new();
+        let children = children_text.format(geometry.children()).as_bytes();
+        let cores = cores_text.format(geometry.cores()).as_bytes();
+        if geometry.frames() == CHILD_FRAMES * geometry.children() {
+            self.add(&[b"llfree", b"1", children, cores, b""])
+        } else {
+            let frames = frames_text.format(geometry.frames()).as_bytes();
+            self.add(&[b"llfree", b"2", children, cores, frames])
+        }
     }
-}
 
-// Adds the records of all children.
-fn write_children(writer: &mut RecordWriter, alloc: Global, image: &Image) -> Result<(), Fault>
-    ensures text { OnOk result (writer.new ≡ writer.old
-        ++ text_of (child_rows (key_in image.now) image.now.words
-        (range_with_len 0 image.now.geometry.children))) }
-    ensures fault { IfErr result (λ e. e ≡ Fault.NoMemory) }
-{
-    let geometry = image.geometry();
-    let mut digits = Vec::with_capacity(alloc, DIGITS)?;
-    for child in 0..geometry.children {
-        digits.clear();
-        push_child(&mut digits, image, child)?;
-        write_child(writer, image, child, digits.as_slice())?;
+    // Adds the records of all children.
+    fn add_children(&mut self, alloc: Global, image: &Image) -> Result<(), Fault>
+        ensures text { OnOk result (self.new ≡ self.old
+            ++ text_of (child_rows (key_in image.now) image.now.words
+            (range_with_len 0 image.now.geometry.children))) }
+        ensures fault { IfErr result (λ e. e ≡ Fault.NoMemory) }
+    {
+        let geometry = image.geometry();
+        let mut digits = Vec::with_capacity(alloc, DIGITS)?;
+        for child in 0..geometry.children {
+            digits.clear();
+            push_child(&mut digits, image, child)?;
+            self.add_child(image, child, digits.as_slice())?;
+        }
+        Ok(())
     }
-    Ok(())
-}
 
-// Adds the record of a child, whose bit words have these digits.
-#[tactic(auto, unfolding(crate::specs::ImageText::child_row))]
-fn write_child(
-    writer: &mut RecordWriter,
-    image: &Image,
-    child: u32,
-    digits: &[u8],
-) -> Result<(), Fault>
-    requires child { child < image.now.geometry.children }
-    requires digits { digits.now ≡ hex_text (child_bits (key_in image.now) image.now.words child) }
-    ensures text { OnOk result (writer.new ≡ writer.old
-        ++ row_text default_writer (child_row (key_in image.now) image.now.words child)) }
-    ensures fault { IfErr result (λ e. e ≡ Fault.NoMemory) }
-{
-    let (mut number_text, mut free_text) = (Buffer::new(), Buffer::new());
-    let number = number_text.format(child).as_bytes();
-    let free = free_text.format(image.free(child)).as_bytes();
-    let huge = flag_text(image.huge(child));
-    writer.add(&[b"child", number, free, &huge, digits])
+    // Adds the record of a child, whose bit words have these digits.
+    #[tactic(auto, unfolding(crate::specs::ImageText::child_row))]
+    fn add_child(&mut self, image: &Image, child: u32, digits: &[u8]) -> Result<(), Fault>
+        requires child { child < image.now.geometry.children }
+        requires digits { digits.now ≡ hex_text (child_bits (key_in image.now) image.now.words child) }
+        ensures text { OnOk result (self.new ≡ self.old
+            ++ row_text default_writer (child_row (key_in image.now) image.now.words child)) }
+        ensures fault { IfErr result (λ e. e ≡ Fault.NoMemory) }
+    {
+        let (mut number_text, mut free_text) = (Buffer::new(), Buffer::new());
+        let number = number_text.format(child).as_bytes();
+        let free = free_text.format(image.free(child)).as_bytes();
+        let huge = flag_text(image.huge(child));
+        self.add(&[b"child", number, free, &huge, digits])
+    }
+
+    // Adds the records of all trees.
+    fn add_trees(&mut self, image: &Image) -> Result<(), Fault>
+        ensures text { OnOk result (self.new ≡ self.old
+            ++ text_of (tree_rows (key_in image.now) image.now.words
+            (range_with_len 0 (tree_count (key_in image.now))))) }
+        ensures fault { IfErr result (λ e. e ≡ Fault.NoMemory) }
+    {
+        let geometry = image.geometry();
+        for tree in 0..geometry.trees() {
+            self.add_tree(image, tree)?;
+        }
+        Ok(())
+    }
+
+    // Adds the record of a tree.
+    #[tactic(auto, unfolding(crate::specs::ImageText::tree_row))]
+    fn add_tree(&mut self, image: &Image, tree: u32) -> Result<(), Fault>
+        requires { tree < tree_count (key_in image.now) }
+        ensures text { OnOk result (self.new ≡ self.old
+            ++ row_text default_writer (tree_row (key_in image.now) image.now.words tree)) }
+        ensures fault { IfErr result (λ e. e ≡ Fault.NoMemory) }
+    {
+        let (mut number_text, mut free_text) = (Buffer::new(), Buffer::new());
+        let number = number_text.format(tree).as_bytes();
+        let free = free_text.format(image.tree_free(tree)).as_bytes();
+        let reserved = flag_text(image.tree_reserved(tree));
+        self.add(&[b"tree", number, free, &reserved, b""])
+    }
+
+    // Adds the records of all cores.
+    fn add_cores(&mut self, image: &Image) -> Result<(), Fault>
+        ensures text { OnOk result (self.new ≡ self.old
+            ++ text_of (core_rows (key_in image.now) image.now.words
+            (range_with_len 0 image.now.geometry.cores))) }
+        ensures fault { IfErr result (λ e. e ≡ Fault.NoMemory) }
+    {
+        let geometry = image.geometry();
+        for core in 0..geometry.cores {
+            self.add_core(core, image.local_at(core))?;
+        }
+        Ok(())
+    }
+
+    // Adds the record of a core with this reservation.
+    #[tactic(auto, unfolding(crate::specs::ImageText::rest_row))]
+    fn add_core(&mut self, core: u32, rest: Option<(u32, u32)>) -> Result<(), Fault>
+        ensures text { OnOk result
+            (self.new ≡ self.old ++ row_text default_writer (rest_row core rest)) }
+        ensures fault { IfErr result (λ e. e ≡ Fault.NoMemory) }
+    {
+        let mut number_text = Buffer::new();
+        let number = number_text.format(core).as_bytes();
+        match rest {
+            Some((tree, free)) => {
+                let (mut tree_text, mut free_text) = (Buffer::new(), Buffer::new());
+                let tree = tree_text.format(tree).as_bytes();
+                let free = free_text.format(free).as_bytes();
+                self.add(&[b"core", number, tree, free, b""])
+            }
+            None => self.add(&[b"core", number, b"", b"", b""]),
+        }
+    }
 }
 
 // Writes the digits of the bit words of a child.
@@ -151,69 +211,6 @@ fn push_child(digits: &mut Vec<u8>, image: &Image, child: u32) -> Result<(), Fau
         push_word(digits, image.word(child, word))?;
     }
     Ok(())
-}
-
-// Adds the records of all trees.
-fn write_trees(writer: &mut RecordWriter, image: &Image) -> Result<(), Fault>
-    ensures text { OnOk result (writer.new ≡ writer.old
-        ++ text_of (tree_rows (key_in image.now) image.now.words
-        (range_with_len 0 (tree_count (key_in image.now))))) }
-    ensures fault { IfErr result (λ e. e ≡ Fault.NoMemory) }
-{
-    let geometry = image.geometry();
-    for tree in 0..geometry.trees() {
-        write_tree(writer, image, tree)?;
-    }
-    Ok(())
-}
-
-// Adds the record of a tree.
-#[tactic(auto, unfolding(crate::specs::ImageText::tree_row))]
-fn write_tree(writer: &mut RecordWriter, image: &Image, tree: u32) -> Result<(), Fault>
-    requires { tree < tree_count (key_in image.now) }
-    ensures text { OnOk result (writer.new ≡ writer.old
-        ++ row_text default_writer (tree_row (key_in image.now) image.now.words tree)) }
-    ensures fault { IfErr result (λ e. e ≡ Fault.NoMemory) }
-{
-    let (mut number_text, mut free_text) = (Buffer::new(), Buffer::new());
-    let number = number_text.format(tree).as_bytes();
-    let free = free_text.format(image.tree_free(tree)).as_bytes();
-    let reserved = flag_text(image.tree_reserved(tree));
-    writer.add(&[b"tree", number, free, &reserved, b""])
-}
-
-// Adds the records of all cores.
-fn write_cores(writer: &mut RecordWriter, image: &Image) -> Result<(), Fault>
-    ensures text { OnOk result (writer.new ≡ writer.old
-        ++ text_of (core_rows (key_in image.now) image.now.words
-        (range_with_len 0 image.now.geometry.cores))) }
-    ensures fault { IfErr result (λ e. e ≡ Fault.NoMemory) }
-{
-    let geometry = image.geometry();
-    for core in 0..geometry.cores {
-        write_core(writer, core, image.local_at(core))?;
-    }
-    Ok(())
-}
-
-// Adds the record of a core with this reservation.
-#[tactic(auto, unfolding(crate::specs::ImageText::rest_row))]
-fn write_core(writer: &mut RecordWriter, core: u32, rest: Option<(u32, u32)>) -> Result<(), Fault>
-    ensures text { OnOk result
-        (writer.new ≡ writer.old ++ row_text default_writer (rest_row core rest)) }
-    ensures fault { IfErr result (λ e. e ≡ Fault.NoMemory) }
-{
-    let mut number_text = Buffer::new();
-    let number = number_text.format(core).as_bytes();
-    match rest {
-        Some((tree, free)) => {
-            let (mut tree_text, mut free_text) = (Buffer::new(), Buffer::new());
-            let tree = tree_text.format(tree).as_bytes();
-            let free = free_text.format(free).as_bytes();
-            writer.add(&[b"core", number, tree, free, b""])
-        }
-        None => writer.add(&[b"core", number, b"", b"", b""]),
-    }
 }
 
 // A flag as its digit.

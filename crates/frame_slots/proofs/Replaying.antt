@@ -20,12 +20,12 @@ use Rattle.frame_table.specs.declared.block.Block.{Block}
 use Rattle.core_frames.specs.Cores.{view_in, lent_by, kept_by}
 use Rattle.core_frames.specs.Splits.{AreHalves}
 use Rattle.core_frames.specs.Uses.{HasGiven}
-use Rattle.core_frames.specs.declared.allocator.Allocator.{Allocator}
-use Rattle.core_frames.specs.declared.allocator.Core.{Core}
+use Rattle.core_frames.specs.declared.shared.allocator.Allocator.{Allocator}
+use Rattle.core_frames.specs.declared.shared.allocator.Core.{Core}
 use Rattle.frame_slots.specs.Calls.{laid_down}
 use Rattle.frame_slots.specs.Numbers.{IsFreeIn, AreAllHeld}
 use Rattle.frame_slots.specs.Reopenings.{IsFollowing, KeepsRest, MakeUp, LendsJust, HasLaid, HasHalved, among, waiting_blocks}
-use Rattle.frame_slots.specs.declared.resting.Receipt.{Receipt}
+use Rattle.frame_slots.specs.declared.receipt.Receipt.{Receipt}
 use Rattle.frame_slots.proofs.Overlaps.{covered, uncovered, holders_cons, holders_none}
 
 module _ {A : Type 0} (f : A → FrameBlock) (x : ℕ) where

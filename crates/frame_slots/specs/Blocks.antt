@@ -4,8 +4,8 @@ use Rattle.frame_table.specs.Seats.{block_in}
 use Rattle.frame_table.specs.declared.block.Block.{Block}
 use Rattle.core_frames.specs.Cores.{IsOutOf}
 use Rattle.core_frames.specs.Splits.{AreHalves}
-use Rattle.core_frames.specs.declared.allocator.Allocator.{Allocator}
-use Rattle.core_frames.specs.declared.allocator.Core.{Core}
+use Rattle.core_frames.specs.declared.shared.allocator.Allocator.{Allocator}
+use Rattle.core_frames.specs.declared.shared.allocator.Core.{Core}
 use Rattle.frame_slots.specs.Calls.{allocator_of}
 use Rattle.frame_slots.specs.Slots.{TakesAt, SplitsAt}
 use Rattle.frame_slots.specs.declared.core_state.CoreState.{CoreState}

@@ -5,9 +5,9 @@ use Rattle.frame_words.specs.declared.fault.TakeFault.{TakeFault}
 use Rattle.frame_core.specs.Block.{block}
 use Rattle.frame_model.specs.declared.block.FrameBlock.{FrameBlock}
 use Rattle.core_frames.specs.Cores.{memory_of}
-use Rattle.core_frames.specs.declared.allocator.Allocator.{Allocator}
+use Rattle.core_frames.specs.declared.shared.allocator.Allocator.{Allocator}
 use Rattle.frame_slots.specs.Slots.{TakesAt, GivesAt, SplitsAt, FindsNothing, FindsNoSlot, LosesAt, LendsAsBefore, IsRefusedBlock, IsRefusedTake, one_more}
-use Rattle.frame_slots.specs.declared.resting.Receipt.{Receipt}
+use Rattle.frame_slots.specs.declared.receipt.Receipt.{Receipt}
 use Rattle.frame_slots.specs.declared.core_state.CoreState.{CoreState}
 
 -- the allocator that the core belongs to

@@ -4,7 +4,7 @@ use Rattle.std.specs.Arc.{arc_value}
 use Rattle.std.specs.List.{All}
 use Rattle.frame_model.specs.declared.key.Key.{Key}
 use Rattle.core_frames.specs.Cores.{memory_of, lent_by, kept_by}
-use Rattle.core_frames.specs.declared.allocator.Core.{Core}
+use Rattle.core_frames.specs.declared.shared.allocator.Core.{Core}
 use Rattle.frame_slots.specs.declared.core_state.CoreState.{CoreState}
 use Rattle.frame_slots.specs.declared.shared.Shared.{Shared}
 

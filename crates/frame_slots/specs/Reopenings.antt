@@ -9,15 +9,15 @@ use Rattle.frame_core.specs.Holding.{holders, IsFree, IsHeld}
 use Rattle.frame_table.specs.Seats.{block_in}
 use Rattle.frame_table.specs.declared.block.Block.{Block}
 use Rattle.core_frames.specs.Cores.{memory_of, lent_by, kept_by}
-use Rattle.core_frames.specs.declared.allocator.Allocator.{Allocator}
+use Rattle.core_frames.specs.declared.shared.allocator.Allocator.{Allocator}
 use Rattle.core_frames.specs.Uses.{HasSplit}
-use Rattle.core_frames.specs.declared.allocator.Core.{Core}
+use Rattle.core_frames.specs.declared.shared.allocator.Core.{Core}
 use Rattle.frame_slots.specs.Calls.{laid_down}
 use Rattle.frame_slots.specs.Numbers.{IsHeldBy}
 use Rattle.frame_slots.specs.Openings.{Shares, IsUnusedState}
 use Rattle.frame_slots.specs.Slots.{FindsNothing}
 use Rattle.frame_slots.specs.declared.core_state.CoreState.{CoreState}
-use Rattle.frame_slots.specs.declared.resting.Receipt.{Receipt}
+use Rattle.frame_slots.specs.declared.receipt.Receipt.{Receipt}
 use Rattle.frame_slots.specs.declared.shared.Shared.{Shared}
 
 -- just these blocks were laid down at their slots before any core was handed out

@@ -10,8 +10,8 @@ use Rattle.low_frames.specs.Outcomes.{HasNoBootFrame}
 use Rattle.frame_table.specs.Seats.{id_of}
 use Rattle.core_frames.specs.Cores.{memory_of, lent_by, kept_by, losses_by}
 use Rattle.core_frames.specs.Uses.{HasMovedForEach, IsRefusedFor}
-use Rattle.core_frames.specs.declared.allocator.Allocator.{Allocator}
-use Rattle.core_frames.specs.declared.allocator.Core.{Core}
+use Rattle.core_frames.specs.declared.shared.allocator.Allocator.{Allocator}
+use Rattle.core_frames.specs.declared.shared.allocator.Core.{Core}
 use Rattle.frame_slots.specs.declared.slot.Slot.{Slot}
 
 -- the slot is one for a block of this allocator's memory

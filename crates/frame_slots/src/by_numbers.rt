@@ -6,8 +6,8 @@ ghost use Rattle.core_frames.specs.Uses.{HasGiven};
 ghost use Rattle.frame_slots.specs.Slots.{TakesAt, GivesAt, SplitsAt, IsRefusedTake};
 ghost use Rattle.frame_slots.specs.Refusals.{IsRefusedSplit};
 
+use crate::receipt::Receipt;
 use crate::refusal::Refusal;
-use crate::resting::Receipt;
 use crate::shared::Shared;
 use core_frames::Core;
 use frame_core::HeldBlock;

@@ -3,7 +3,7 @@
 ghost use Rattle.std.specs.Arc.{arc_value};
 ghost use Rattle.core_frames.specs.Cores.{IsCoreOf};
 
-use crate::resting::Receipt;
+use crate::receipt::Receipt;
 use crate::shared::Shared;
 use core_frames::Core;
 use std::alloc::Global;

@@ -2,32 +2,32 @@
 //! its numbers are out.
 #![tactic(auto)]
 
-mod bare_opening;
+mod bare_openings;
 mod blocks;
 mod by_numbers;
 mod calls;
 mod claims;
 mod core_state;
 mod numbers;
-mod opening;
+mod openings;
+mod receipt;
 mod refusal;
-mod reopening;
+mod reopenings;
 mod replay;
-mod resting;
 mod shared;
 mod slot;
 mod slots;
-mod stopping;
+mod stops;
 
-pub use bare_opening::open_bare_cores;
+pub use bare_openings::open_bare_cores;
 pub use claims::{are_apart, are_held_as, is_claimed};
 pub use core_state::CoreState;
 pub use numbers::{CHILD_NUMBERS, is_free, is_held, is_huge, is_image};
-pub use opening::open_cores;
+pub use openings::open_cores;
+pub use receipt::Receipt;
 pub use refusal::Refusal;
-pub use reopening::reopen_cores;
+pub use reopenings::reopen_cores;
 pub use replay::MOST_STEPS;
-pub use resting::Receipt;
 pub use shared::Shared;
 pub use slot::Slot;
-pub use stopping::StopFault;
+pub use stops::StopFault;

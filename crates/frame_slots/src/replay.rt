@@ -14,7 +14,7 @@ ghost use Rattle.frame_slots.specs.Reopenings.{HasFoundNone, HasHalved, HasLaid,
 use crate::by_numbers::lay_down;
 use crate::claims::is_claimed;
 use crate::numbers::{is_free, is_held_whole};
-use crate::resting::Receipt;
+use crate::receipt::Receipt;
 use crate::shared::Shared;
 use core_frames::{Allocator, Core};
 use frame_core::{FrameBlock, HeldBlock};

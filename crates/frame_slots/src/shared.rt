@@ -5,7 +5,7 @@ ghost use Rattle.std.specs.List.{All};
 ghost use Rattle.core_frames.specs.Cores.{memory_of, IsCoreOf};
 ghost use Rattle.frame_slots.specs.Slots.{IsSlotOf, AreSlotsOf, IsUsedAsBefore};
 
-use crate::resting::Receipt;
+use crate::receipt::Receipt;
 use crate::slot::Slot;
 use crate::slots::slots_of;
 use core_frames::{Allocator, Core};

@@ -3,24 +3,24 @@
 #![tactic(auto)]
 
 mod block;
-mod closing;
+mod closings;
 mod ground_seat;
 mod laws;
-mod opening;
+mod openings;
 mod plays;
 mod rule;
 mod seated;
 mod seats;
 mod shared;
 mod steps;
-mod stopping;
+mod stops;
 mod table;
 
 pub use block::Block;
-pub use closing::{TableFault, close_table};
+pub use closings::{TableFault, close_table};
 pub use ground_seat::GroundSeat;
 pub use laws::{shared_words_are_honest, shared_words_are_safe};
-pub use opening::{open_table, open_table_at, open_table_with};
+pub use openings::{open_table, open_table_at, open_table_with};
 pub use seated::Seated;
 pub use seats::CoreSeat;
 pub use shared::SharedMoves;

@@ -1,6 +1,6 @@
 //! The moves of a core on the shared table, each one atomic step.
 
-mod keeping;
+mod kept_blocks;
 mod moves;
 
 ghost use Rattle.frame_table.specs.Seats.{Sits};

@@ -1,9 +1,9 @@
-mod closing;
-mod crossing;
+mod closings;
 mod cut;
 mod random;
 mod ranges;
-mod reopening;
+mod reopenings;
 mod seats;
 mod stops;
 mod sums;
+mod two_threads;

@@ -3,7 +3,7 @@ use Rattle.std.proofs.Common.{◌≡◌, ◌≢◌, ◌<◌, ◌≤◌, ◌+◌,
 use Rattle.std.proofs.lemmas.Bool.{cases_order}
 use Rattle.std.proofs.lemmas.Nat.{pow-add}
 use Rattle.std.proofs.Math.Nat.{one-le-pow, mul_assoc, add_comm, add-mul-mod_self_right}
-use Rattle.core_frames.specs.declared.allocator.Allocator.{Allocator}
+use Rattle.core_frames.specs.declared.shared.allocator.Allocator.{Allocator}
 use Rattle.frame_zones.specs.Spans.{most_zone_frames}
 use Rattle.frame_zones.specs.Zones.{first_frame_of, IsOutIn}
 use Rattle.frame_zones.specs.Laws.{LiesInZone, AreApart}

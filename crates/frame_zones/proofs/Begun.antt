@@ -4,8 +4,8 @@ use Rattle.std.specs.List.{All}
 use Rattle.frame_model.specs.declared.key.Key.{Key}
 use Rattle.std.proofs.lemmas.Bool.{cases_lt}
 use Rattle.std.proofs.lemmas.List.{get_or_append_left, get_or_push, length_push, get_or_default}
-use Rattle.core_frames.specs.declared.allocator.Allocator.{Allocator}
-use Rattle.core_frames.specs.declared.allocator.Core.{Core}
+use Rattle.core_frames.specs.declared.shared.allocator.Allocator.{Allocator}
+use Rattle.core_frames.specs.declared.shared.allocator.Core.{Core}
 use Rattle.core_frames.specs.Cores.{IsNewCore, IsOpened}
 use Rattle.frame_zones.specs.Sizes.{AreLaidOut, HaveCores}
 use Rattle.frame_zones.specs.Spans.{Place, MayComeAfter, MayBeZones, HoldsLawful}

@@ -5,8 +5,8 @@ use Rattle.std.proofs.lemmas.Bool.{cases_lt}
 use Rattle.std.proofs.lemmas.List.{get_or_append_left, get_or_push, length_push, length-reverse, get_or-reverse}
 use Rattle.frame_table.specs.Closing.{IsClosingOf}
 use Rattle.frame_table.specs.declared.seats.CoreSeat.{CoreSeat}
-use Rattle.core_frames.specs.declared.allocator.Allocator.{Allocator}
-use Rattle.core_frames.specs.declared.allocator.Core.{Core}
+use Rattle.core_frames.specs.declared.shared.allocator.Allocator.{Allocator}
+use Rattle.core_frames.specs.declared.shared.allocator.Core.{Core}
 use Rattle.core_frames.specs.Cores.{memory_of, seat_of, IsCoreOf}
 use Rattle.frame_zones.specs.Closing.{seats_in, IsZoneClosed, AreClosedFrom, HasSameParts, AreLeft, AreAllLeft, HasClosedLast}
 use Rattle.frame_zones.specs.Openings.{IsLonger, AreDealt}

@@ -2,8 +2,8 @@
 use Rattle.std.proofs.Common.{◌≡◌, ℕ, ◌+◌, ◌<◌, List, [], ◌∷◌, ◌++◌, length, slice_index_or, slice_set, refl, sym, ◌∙◌, ap, subst, arith, length-set, get_or-set_same, get_or-set_other, inl, inr}
 use Rattle.std.proofs.lemmas.Bool.{cases_lt, cases_eq}
 use Rattle.std.proofs.lemmas.List.{get_or_append_left, get_or_push, length_push, get_or_default}
-use Rattle.core_frames.specs.declared.allocator.Allocator.{Allocator}
-use Rattle.core_frames.specs.declared.survivors.Survivors.{Survivors}
+use Rattle.core_frames.specs.declared.shared.allocator.Allocator.{Allocator}
+use Rattle.core_frames.specs.declared.shared.survivors.Survivors.{Survivors}
 use Rattle.core_frames.specs.Left.{left_blocks, IsSurvivorsOf}
 use Rattle.frame_zones.specs.Reopening.{held_at, AreLeftOf, AreSurvivorsOf, AreHeldAt}
 use Rattle.frame_zones.specs.Zones.{zone_count, zone_at}

@@ -3,8 +3,8 @@ use Rattle.std.specs.Prelude.{◌≡◌, ℕ, ◌+◌, ◌<◌, List, length, ma
 use Rattle.std.specs.List.{All}
 use Rattle.frame_table.specs.Closing.{IsClosingOf}
 use Rattle.frame_table.specs.declared.seats.CoreSeat.{CoreSeat}
-use Rattle.core_frames.specs.declared.allocator.Allocator.{Allocator}
-use Rattle.core_frames.specs.declared.allocator.Core.{Core}
+use Rattle.core_frames.specs.declared.shared.allocator.Allocator.{Allocator}
+use Rattle.core_frames.specs.declared.shared.allocator.Core.{Core}
 use Rattle.core_frames.specs.Cores.{memory_of, seat_of}
 use Rattle.frame_zones.specs.Zones.{zone_count, zone_at, core_at, first_frame_of, HasCoresIn}
 use Rattle.frame_zones.specs.declared.image.ZoneImage.{ZoneImage}

@@ -2,7 +2,7 @@
 use Rattle.std.specs.Prelude.{ℕ, Contains}
 use Rattle.frame_model.specs.declared.block.FrameBlock.{FrameBlock}
 use Rattle.frame_table.specs.Keeping.{HasKept, HasRecalled}
-use Rattle.core_frames.specs.declared.allocator.Core.{Core}
+use Rattle.core_frames.specs.declared.shared.allocator.Core.{Core}
 use Rattle.core_frames.specs.Cores.{view_in, kept_by}
 use Rattle.frame_zones.specs.Zones.{core_at}
 use Rattle.frame_zones.specs.Uses.{OthersStay}

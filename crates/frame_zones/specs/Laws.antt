@@ -3,7 +3,7 @@ use Rattle.std.specs.Prelude.{◌≡◌, ℕ, ◌+◌, ◌%◌, ◌^◌, ◌<◌
 use Rattle.frame_core.specs.View.{holder}
 use Rattle.frame_core.specs.Events.{eye}
 use Rattle.frame_table.specs.Seats.{block_in}
-use Rattle.core_frames.specs.declared.allocator.Allocator.{Allocator}
+use Rattle.core_frames.specs.declared.shared.allocator.Allocator.{Allocator}
 use Rattle.core_frames.specs.Cores.{memory_of, IsOutOf}
 use Rattle.frame_zones.specs.Sizes.{end_from}
 use Rattle.frame_zones.specs.Zones.{zone_at, first_frame_of, first_frame_in}

@@ -4,8 +4,8 @@ use Rattle.std.specs.List.{All}
 use Rattle.frame_words.specs.declared.fault.Fault.{Fault}
 use Rattle.frame_words.specs.declared.fault.Fault.TheVariants.{BadRange, NoMemory}
 use Rattle.frame_core.specs.Key.{IsKey}
-use Rattle.core_frames.specs.declared.allocator.Allocator.{Allocator}
-use Rattle.core_frames.specs.declared.allocator.Core.{Core}
+use Rattle.core_frames.specs.declared.shared.allocator.Allocator.{Allocator}
+use Rattle.core_frames.specs.declared.shared.allocator.Core.{Core}
 use Rattle.core_frames.specs.Cores.{memory_of, IsNewCore}
 use Rattle.frame_zones.specs.Spans.{Place, place_of, place_at, MayBeZones, HoldsLawful}
 use Rattle.frame_zones.specs.Zones.{zone_count, AreCoresOf, InEach}

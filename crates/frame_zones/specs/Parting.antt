@@ -1,8 +1,8 @@
 -- What is parted off for a closing.
 use Rattle.std.specs.Prelude.{◌≡◌, ℕ, ◌<◌, ◌++◌, ◌∷◌, List, [], length, slice_index_or, vec_len, vec_capacity}
 use Rattle.std.specs.List.{All}
-use Rattle.core_frames.specs.declared.allocator.Allocator.{Allocator}
-use Rattle.core_frames.specs.declared.allocator.Core.{Core}
+use Rattle.core_frames.specs.declared.shared.allocator.Allocator.{Allocator}
+use Rattle.core_frames.specs.declared.shared.allocator.Core.{Core}
 use Rattle.core_frames.specs.Cores.{IsCoreOf}
 use Rattle.frame_zones.specs.Openings.{AreDealt}
 use Rattle.frame_zones.specs.Zones.{HasCoresIn}

@@ -6,8 +6,8 @@ use Rattle.frame_core.specs.Rebuilt.{IsRebuilt}
 use Rattle.frame_core.specs.Openings.{held_blocks}
 use Rattle.frame_core.specs.Without.{without}
 use Rattle.frame_table.specs.Openings.{unsealed_key}
-use Rattle.core_frames.specs.declared.allocator.Allocator.{Allocator}
-use Rattle.core_frames.specs.declared.survivors.Survivors.{Survivors}
+use Rattle.core_frames.specs.declared.shared.allocator.Allocator.{Allocator}
+use Rattle.core_frames.specs.declared.shared.survivors.Survivors.{Survivors}
 use Rattle.core_frames.specs.Left.{left_blocks, IsSurvivorsOf, IsAdopted, IsUnadoptedFor}
 use Rattle.frame_zones.specs.Zones.{zone_count, zone_at}
 use Rattle.frame_zones.specs.declared.image.ZoneImage.{ZoneImage}

@@ -1,6 +1,6 @@
 -- Where the allocators of a memory lie.
 use Rattle.std.specs.Prelude.{◌≡◌, ℕ, ◌+◌, ◌*◌, ◌%◌, ◌<◌, ◌≤◌, List, length, slice_index_or}
-use Rattle.core_frames.specs.declared.allocator.Allocator.{Allocator}
+use Rattle.core_frames.specs.declared.shared.allocator.Allocator.{Allocator}
 use Rattle.core_frames.specs.Cores.{memory_of}
 use Rattle.frame_zones.specs.Spans.{most_zones, most_zone_frames}
 

@@ -2,22 +2,22 @@
 #![tactic(auto)]
 
 mod block;
-mod closing;
-mod giving;
+mod closings;
+mod gives;
 mod image;
-mod keeping;
+mod kept_blocks;
+mod last_zone;
 mod laws;
 mod numbers;
-mod opening;
-mod parting;
-mod reopening;
+mod openings;
+mod reopenings;
 mod spans;
-mod splitting;
-mod taking;
+mod splits;
+mod takes;
 mod zones;
 
 pub use block::ZoneBlock;
-pub use closing::ZonesFault;
+pub use closings::ZonesFault;
 pub use image::ZoneImage;
 pub use laws::blocks_lie_in_zones;
 pub use spans::Span;

@@ -1,4 +1,4 @@
 mod devices;
 mod images;
-mod reopening;
+mod reopenings;
 mod texts;

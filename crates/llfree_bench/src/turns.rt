@@ -29,118 +29,120 @@ impl Task {
     {
         hand.refused = 0;
         match self {
-            Task::Pairs { order, count } => pairs(memory, &mut hand, order, count),
-            Task::Fill { order, times } => fill(memory, &mut hand, order, times),
-            Task::Gather => gather(memory, &mut hand),
-            Task::Turns { count } => turns(memory, &mut hand, count),
-            Task::GiveAll => give_all(memory, &mut hand),
+            Task::Pairs { order, count } => hand.pairs(memory, order, count),
+            Task::Fill { order, times } => hand.fill(memory, order, times),
+            Task::Gather => hand.gather(memory),
+            Task::Turns { count } => hand.turns(memory, count),
+            Task::GiveAll => hand.give_all(memory),
         }
         hand
     }
 }
 
-fn pairs(memory: &Allocator, hand: &mut Hand, order: u8, count: u32)
-    requires { IsHandOf memory.now hand.old }
-    ensures { IsHandOf memory.now hand.new }
-{
-    for _i in 0..count {
-        match memory.take(&mut hand.core, order) {
-            Ok(block) => memory.give(&mut hand.core, block),
-            Err(_) => hand.refused = hand.refused.wrapping_add(1),
+impl Hand {
+    fn pairs(&mut self, memory: &Allocator, order: u8, count: u32)
+        requires { IsHandOf memory.now self.old }
+        ensures { IsHandOf memory.now self.new }
+    {
+        for _i in 0..count {
+            match memory.take(&mut self.core, order) {
+                Ok(block) => memory.give(&mut self.core, block),
+                Err(_) => self.refused = self.refused.wrapping_add(1),
+            }
         }
     }
-}
 
-fn fill(memory: &Allocator, hand: &mut Hand, order: u8, times: u64)
-    requires { IsHandOf memory.now hand.old }
-    ensures { IsHandOf memory.now hand.new }
-{
-    for _i in 0..times {
-        fill_once(memory, hand, order);
-        give_all(memory, hand);
+    fn fill(&mut self, memory: &Allocator, order: u8, times: u64)
+        requires { IsHandOf memory.now self.old }
+        ensures { IsHandOf memory.now self.new }
+    {
+        for _i in 0..times {
+            self.fill_once(memory, order);
+            self.give_all(memory);
+        }
     }
-}
 
-fn fill_once(memory: &Allocator, hand: &mut Hand, order: u8)
-    requires { IsHandOf memory.now hand.old }
-    ensures { IsHandOf memory.now hand.new }
-{
-    for _i in 0..hand.most {
-        take(memory, hand, order);
+    fn fill_once(&mut self, memory: &Allocator, order: u8)
+        requires { IsHandOf memory.now self.old }
+        ensures { IsHandOf memory.now self.new }
+    {
+        for _i in 0..self.most {
+            self.take(memory, order);
+        }
     }
-}
 
-fn gather(memory: &Allocator, hand: &mut Hand)
-    requires { IsHandOf memory.now hand.old }
-    ensures { IsHandOf memory.now hand.new }
-{
-    for _i in 0..hand.most {
-        take_any(memory, hand);
+    fn gather(&mut self, memory: &Allocator)
+        requires { IsHandOf memory.now self.old }
+        ensures { IsHandOf memory.now self.new }
+    {
+        for _i in 0..self.most {
+            self.take_any(memory);
+        }
     }
-}
 
-fn turns(memory: &Allocator, hand: &mut Hand, count: u32)
-    requires { IsHandOf memory.now hand.old }
-    ensures { IsHandOf memory.now hand.new }
-{
-    for _i in 0..count {
-        turn(memory, hand);
+    fn turns(&mut self, memory: &Allocator, count: u32)
+        requires { IsHandOf memory.now self.old }
+        ensures { IsHandOf memory.now self.new }
+    {
+        for _i in 0..count {
+            self.turn(memory);
+        }
     }
-}
 
-fn give_all(memory: &Allocator, hand: &mut Hand)
-    requires { IsHandOf memory.now hand.old }
-    ensures { IsHandOf memory.now hand.new }
-{
-    while let Some(block) = hand.blocks.pop() {
-        memory.give(&mut hand.core, block);
+    fn give_all(&mut self, memory: &Allocator)
+        requires { IsHandOf memory.now self.old }
+        ensures { IsHandOf memory.now self.new }
+    {
+        while let Some(block) = self.blocks.pop() {
+            memory.give(&mut self.core, block);
+        }
     }
-}
 
-// Where the list is full, one block leaves it and is given. A block of a random order is put last.
-fn turn(memory: &Allocator, hand: &mut Hand)
-    requires { IsHandOf memory.now hand.old }
-    ensures { IsHandOf memory.now hand.new }
-{
-    if hand.blocks.len() == hand.most {
-        hand.random = next(hand.random);
-        let place = (hand.random >> 32).wrapping_mul(hand.most as u64) >> 32;
-        give_at(memory, hand, place as usize);
+    // Where the list is full, one block leaves it and is given. A block of a random order is put last.
+    fn turn(&mut self, memory: &Allocator)
+        requires { IsHandOf memory.now self.old }
+        ensures { IsHandOf memory.now self.new }
+    {
+        if self.blocks.len() == self.most {
+            self.random = next(self.random);
+            let place = (self.random >> 32).wrapping_mul(self.most as u64) >> 32;
+            self.give_at(memory, place as usize);
+        }
+        self.take_any(memory);
     }
-    take_any(memory, hand);
-}
 
-// The last block of the list takes the place of the one that leaves.
-fn give_at(memory: &Allocator, hand: &mut Hand, place: usize)
-    requires { IsHandOf memory.now hand.old }
-    ensures { IsHandOf memory.now hand.new }
-{
-    if place < hand.blocks.len() {
-        let block = hand.blocks.swap_remove(place);
-        memory.give(&mut hand.core, block);
+    // The last block of the list takes the place of the one that leaves.
+    fn give_at(&mut self, memory: &Allocator, place: usize)
+        requires { IsHandOf memory.now self.old }
+        ensures { IsHandOf memory.now self.new }
+    {
+        if place < self.blocks.len() {
+            let block = self.blocks.swap_remove(place);
+            memory.give(&mut self.core, block);
+        }
     }
-}
 
-fn take_any(memory: &Allocator, hand: &mut Hand)
-    requires { IsHandOf memory.now hand.old }
-    ensures { IsHandOf memory.now hand.new }
-{
-    hand.random = next(hand.random);
-    let order = hand.random.trailing_zeros().min(HUGE_ORDER);
-    take(memory, hand, order as u8);
-}
+    fn take_any(&mut self, memory: &Allocator)
+        requires { IsHandOf memory.now self.old }
+        ensures { IsHandOf memory.now self.new }
+    {
+        self.random = next(self.random);
+        let order = self.random.trailing_zeros().min(HUGE_ORDER);
+        self.take(memory, order as u8);
+    }
 
-// A refused take puts nothing.
-fn take(memory: &Allocator, hand: &mut Hand, order: u8)
-    requires { IsHandOf memory.now hand.old }
-    ensures { IsHandOf memory.now hand.new }
-{
-    let Ok(block) = memory.take(&mut hand.core, order) else {
-        hand.refused = hand.refused.wrapping_add(1);
-        return;
-    };
-    // There is room for it.
-    let _ = hand.blocks.push(block);
+    // A refused take puts nothing.
+    fn take(&mut self, memory: &Allocator, order: u8)
+        requires { IsHandOf memory.now self.old }
+        ensures { IsHandOf memory.now self.new }
+    {
+        let Ok(block) = memory.take(&mut self.core, order) else {
+            self.refused = self.refused.wrapping_add(1);
+            return;
+        };
+        // There is room for it.
+        let _ = self.blocks.push(block);
+    }
 }
 
 // The random number behind another.

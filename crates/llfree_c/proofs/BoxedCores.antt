@@ -11,7 +11,7 @@ use Rattle.frame_model.specs.declared.block.FrameBlock.{FrameBlock}
 use Rattle.frame_core.specs.Holding.{holders, IsFree, IsHeld}
 use Rattle.core_frames.proofs.PlainHeld.{holders_same}
 use Rattle.core_frames.specs.Cores.{kept_by}
-use Rattle.core_frames.specs.declared.allocator.Core.{Core}
+use Rattle.core_frames.specs.declared.shared.allocator.Core.{Core}
 use Rattle.frame_slots.specs.Numbers.{IsHeldBy}
 use Rattle.frame_slots.specs.Openings.{IsUnusedState}
 use Rattle.frame_slots.specs.Reopenings.{HasKeeper, KeepsRest}

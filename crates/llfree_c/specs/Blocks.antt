@@ -4,7 +4,7 @@ use Rattle.frame_core.specs.Block.{block, IsBlock}
 use Rattle.frame_table.specs.Seats.{id_of}
 use Rattle.frame_table.specs.declared.block.Block.{Block}
 use Rattle.core_frames.specs.Cores.{memory_of}
-use Rattle.core_frames.specs.declared.allocator.Allocator.{Allocator}
+use Rattle.core_frames.specs.declared.shared.allocator.Allocator.{Allocator}
 use Rattle.frame_slots.specs.Calls.{allocator_of}
 use Rattle.frame_slots.specs.Slots.{TakesAt, SplitsAt}
 use Rattle.frame_slots.specs.declared.core_state.CoreState.{CoreState}

@@ -10,7 +10,7 @@ ghost use Rattle.llfree_c.specs.SeenCores.{OnCores};
 use crate::block_handle::BlockHandle;
 use crate::block_steps::{give_block, split_block, take_block};
 use crate::core_handle::CoreHandle;
-use crate::crossing::may_cross;
+use crate::crossings::may_cross;
 use crate::statuses::CLOSED;
 use std::alloc::Global;
 

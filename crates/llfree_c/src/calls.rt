@@ -7,7 +7,7 @@ ghost use Rattle.llfree_c.specs.Status.{ok, no_block, bad_order, not_held, close
 ghost use Rattle.llfree_c.specs.Seen.{Both, OpensFresh, plain_frames, BlockTaken, NoneWasFree, HasNoOrder};
 ghost use Rattle.llfree_c.specs.Seen.{BlockGiven, BlockSplit, HasNoHalves, WasNotOut};
 
-use crate::crossing::may_cross;
+use crate::crossings::may_cross;
 use crate::handle::PlainHandle;
 use crate::plain::Plain;
 use crate::ranges::FrameRange;

@@ -10,9 +10,9 @@ ghost use Rattle.llfree_c.specs.Status.{ok, bad_order, not_held, closed, contend
 ghost use Rattle.llfree_c.specs.OpenCores.{HasNoCores, IsClosedHandle, OpensCores};
 ghost use Rattle.llfree_c.specs.SeenCores.{OnCores, frames_behind};
 
-use crate::core_closing::leave_core_image;
 use crate::core_handle::CoreHandle;
-use crate::core_opening::{boxed_cores, hand_over};
+use crate::core_images::leave_core_image;
+use crate::core_openings::{boxed_cores, hand_over};
 use crate::core_steps::{give, split, take};
 use crate::ranges::FrameRange;
 use crate::statuses::{CLOSED, OK};

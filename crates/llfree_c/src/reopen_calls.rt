@@ -8,8 +8,8 @@ ghost use Rattle.llfree_c.specs.Status.{ok, not_closed};
 
 use crate::blocks::ClaimedBlock;
 use crate::core_handle::CoreHandle;
-use crate::core_opening::hand_over;
-use crate::crossing::may_cross;
+use crate::core_openings::hand_over;
+use crate::crossings::may_cross;
 use crate::handle::PlainHandle;
 use crate::plain::Plain;
 use crate::reopened::reopened_cores;

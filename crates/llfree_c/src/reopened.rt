@@ -7,7 +7,7 @@ ghost use Rattle.llfree_c.specs.Reopenings.{HasNoCoresAt, IsNotReopened, Reopens
 
 use crate::blocks::{ClaimedBlock, claimed_in};
 use crate::core_handle::CoreHandle;
-use crate::core_opening::boxed;
+use crate::core_openings::boxed;
 use crate::plain::Plain;
 use crate::replay::replay;
 use crate::sizes::geometry_of;

@@ -9,7 +9,7 @@ ghost use Rattle.llfree_c.specs.StoppedWords.{HasFramesAndCores, HasNoNumbers, S
 ghost use Rattle.frame_model.specs.declared.key.Key.{Key};
 
 use crate::images::llfree_image_words;
-use crate::rebuilding::write_rebuilt;
+use crate::rebuilt_image::write_rebuilt;
 use crate::sizes::geometry_of;
 use crate::statuses::{BAD_IMAGE, NO_ROOM, OK};
 use frame_core::layout::word_count;

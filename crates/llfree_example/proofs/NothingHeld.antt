@@ -14,7 +14,7 @@ use Rattle.frame_model.specs.Words.{bit_of}
 use Rattle.frame_core.specs.Moves.{HasSizes}
 use Rattle.frame_table.specs.Closing.{kept_through, lent_through}
 use Rattle.core_frames.specs.Cores.{kept_by, lent_by, seat_of}
-use Rattle.core_frames.specs.declared.allocator.Core.{Core}
+use Rattle.core_frames.specs.declared.shared.allocator.Core.{Core}
 use Rattle.llfree_example.specs.Memory.{eight_children}
 
 zeros : (f : ℕ → ℕ) (a n : ℕ) → ((x : ℕ) → x < a + n → f x ≡ 0) → sum_by f (range_with_len a n) ≡ 0

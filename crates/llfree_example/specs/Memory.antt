@@ -3,8 +3,8 @@ use Rattle.std.specs.Prelude.{◌≡◌, ℤ, pos, [], Option, None, Some, IfSom
 use Rattle.frame_model.specs.declared.key.Key.{Key}
 use Rattle.frame_table.specs.declared.block.Block.{Block}
 use Rattle.core_frames.specs.Cores.{kept_by, lent_by, IsCoreOf, IsOutOf}
-use Rattle.core_frames.specs.declared.allocator.Allocator.{Allocator}
-use Rattle.core_frames.specs.declared.allocator.Core.{Core}
+use Rattle.core_frames.specs.declared.shared.allocator.Allocator.{Allocator}
+use Rattle.core_frames.specs.declared.shared.allocator.Core.{Core}
 
 -- eight children, 4,096 page frames, none of which is held back, and two cores
 abbrev pub eight_children : Key

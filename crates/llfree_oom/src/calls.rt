@@ -44,15 +44,15 @@ impl Calls {
             self.answered = self.answered.saturating_add(1);
         }
     }
-}
 
-/// An empty list with room for so many.
-pub fn room<T>(alloc: Global, calls: &mut Calls, count: usize) -> Result<Vec<T>, Fault> {
-    match Vec::with_capacity(alloc, count) {
-        Ok(list) => Ok(list),
-        Err(_) => {
-            calls.refuse();
-            Ok(Vec::with_capacity(alloc, count)?)
+    /// An empty list with room for so many.
+    pub fn room<T>(&mut self, alloc: Global, count: usize) -> Result<Vec<T>, Fault> {
+        match Vec::with_capacity(alloc, count) {
+            Ok(list) => Ok(list),
+            Err(_) => {
+                self.refuse();
+                Ok(Vec::with_capacity(alloc, count)?)
+            }
         }
     }
 }

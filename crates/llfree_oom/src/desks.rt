@@ -35,43 +35,45 @@ fn label() -> Result<Label, Fault> {
     Label::of(b"a").ok_or(Fault::NotHeld)
 }
 
-fn take(
-    allocator: &Allocator,
-    calls: &mut Calls,
-    desk: &mut Desk,
-    label: &Label,
-) -> Result<(u32, u8), Fault>
-    requires { IsDeskOf allocator.now desk.old }
-    ensures { IsDeskOf allocator.now desk.new }
-{
-    twice!(calls, desk.take(allocator, label.again(), 3))
-}
-
-fn taken_under_a_label(alloc: Global, calls: &mut Calls) -> Result<(), Fault> {
-    let (allocator, mut desk) = twice!(calls, open(alloc))?;
-    let label = label()?;
-    let taken = take(&allocator, calls, &mut desk, &label)?;
-    calls.look(taken == (0, 3) && desk.len() == 1);
-    Ok(())
-}
-
-fn laid_under_a_label(alloc: Global, calls: &mut Calls) -> Result<(), Fault> {
-    let (allocator, mut desk) = twice!(calls, open(alloc))?;
-    let label = label()?;
-    take(&allocator, calls, &mut desk, &label)?;
-    let block = desk.lift(&allocator, &label)?;
-    if let Err(block) = desk.lay(&allocator, label.again(), block) {
-        calls.refuse();
-        if desk.lay(&allocator, label.again(), block).is_err() {
-            return Err(Fault::NoMemory);
-        }
+impl Calls {
+    fn take_at_desk(
+        &mut self,
+        allocator: &Allocator,
+        desk: &mut Desk,
+        label: &Label,
+    ) -> Result<(u32, u8), Fault>
+        requires { IsDeskOf allocator.now desk.old }
+        ensures { IsDeskOf allocator.now desk.new }
+    {
+        twice!(self, desk.take(allocator, label.again(), 3))
     }
-    calls.look(desk.len() == 1);
-    Ok(())
-}
 
-/// Each call of these, once.
-pub fn make_all(alloc: Global, calls: &mut Calls) -> Result<(), Fault> {
-    taken_under_a_label(alloc, calls)?;
-    laid_under_a_label(alloc, calls)
+    fn taken_under_a_label(&mut self, alloc: Global) -> Result<(), Fault> {
+        let (allocator, mut desk) = twice!(self, open(alloc))?;
+        let label = label()?;
+        let taken = self.take_at_desk(&allocator, &mut desk, &label)?;
+        self.look(taken == (0, 3) && desk.len() == 1);
+        Ok(())
+    }
+
+    fn laid_under_a_label(&mut self, alloc: Global) -> Result<(), Fault> {
+        let (allocator, mut desk) = twice!(self, open(alloc))?;
+        let label = label()?;
+        self.take_at_desk(&allocator, &mut desk, &label)?;
+        let block = desk.lift(&allocator, &label)?;
+        if let Err(block) = desk.lay(&allocator, label.again(), block) {
+            self.refuse();
+            if desk.lay(&allocator, label.again(), block).is_err() {
+                return Err(Fault::NoMemory);
+            }
+        }
+        self.look(desk.len() == 1);
+        Ok(())
+    }
+
+    /// Each call on desks, once.
+    pub fn make_on_desks(&mut self, alloc: Global) -> Result<(), Fault> {
+        self.taken_under_a_label(alloc)?;
+        self.laid_under_a_label(alloc)
+    }
 }

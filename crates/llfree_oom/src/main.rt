@@ -17,18 +17,20 @@ use std::io;
 use std::sync::Wait;
 use std::thread::Threads;
 
-fn make_all<R: Threads + Wait>(rt: &R, alloc: Global, calls: &mut Calls) -> Result<(), Fault> {
-    words::make_all(alloc, calls)?;
-    texts::make_all(alloc, calls)?;
-    tables::make_all(alloc, calls)?;
-    allocators::make_all(alloc, calls)?;
-    desks::make_all(alloc, calls)?;
-    traces::make_all(rt, alloc, calls)
+impl Calls {
+    fn make_all<R: Threads + Wait>(&mut self, rt: &R, alloc: Global) -> Result<(), Fault> {
+        self.make_on_words(alloc)?;
+        self.make_on_texts(alloc)?;
+        self.make_on_tables(alloc)?;
+        self.make_on_allocators(alloc)?;
+        self.make_on_desks(alloc)?;
+        self.make_on_traces(rt, alloc)
+    }
 }
 
 fn main(rt: HostRuntime) -> io::Result<()> {
     let mut calls = Calls::new();
-    if let Err(fault) = make_all(&rt, rt.alloc(), &mut calls) {
+    if let Err(fault) = calls.make_all(&rt, rt.alloc()) {
         eprintln!(rt; "{fault}")?;
     }
     println!(rt; "{} calls answered", calls.answered)?;

@@ -6,7 +6,6 @@ ghost use Rattle.frame_table.specs.Seats.{IsIdleSeat};
 
 use crate::calls::{Calls, twice};
 use crate::samples::{RANGES, SMALL};
-use crate::texts::rebuilt_image;
 use frame_core::Image;
 use frame_image::held_frames;
 use frame_table::{
@@ -15,24 +14,26 @@ use frame_table::{
 use frame_words::Fault;
 use std::alloc::Global;
 
-fn new_table(alloc: Global, calls: &mut Calls) -> Result<(), Fault> {
-    let (_, seats) = twice!(calls, open_table(alloc, &SMALL))?;
-    calls.look(seats.len() == 1);
-    Ok(())
-}
+impl Calls {
+    fn new_table(&mut self, alloc: Global) -> Result<(), Fault> {
+        let (_, seats) = twice!(self, open_table(alloc, &SMALL))?;
+        self.look(seats.len() == 1);
+        Ok(())
+    }
 
-#[tactic(auto, unfolding(frame_model::specs::Key::AreRanges))]
-fn table_with_ranges(alloc: Global, calls: &mut Calls) -> Result<(), Fault> {
-    let (_, seats) = twice!(calls, open_table_with(alloc, &SMALL, &RANGES))?;
-    calls.look(seats.len() == 1);
-    Ok(())
-}
+    #[tactic(auto, unfolding(frame_model::specs::Key::AreRanges))]
+    fn table_with_ranges(&mut self, alloc: Global) -> Result<(), Fault> {
+        let (_, seats) = twice!(self, open_table_with(alloc, &SMALL, &RANGES))?;
+        self.look(seats.len() == 1);
+        Ok(())
+    }
 
-fn table_at_an_image(alloc: Global, calls: &mut Calls) -> Result<(), Fault> {
-    let image = rebuilt_image(alloc, calls)?;
-    let (_, seats, _) = twice!(calls, open_table_at(alloc, &image))?;
-    calls.look(seats.len() == 1);
-    Ok(())
+    fn table_at_an_image(&mut self, alloc: Global) -> Result<(), Fault> {
+        let image = self.rebuilt_image(alloc)?;
+        let (_, seats, _) = twice!(self, open_table_at(alloc, &image))?;
+        self.look(seats.len() == 1);
+        Ok(())
+    }
 }
 
 fn open(alloc: Global) -> Result<(FrameTable, Vec<CoreSeat>), Fault>
@@ -41,34 +42,36 @@ fn open(alloc: Global) -> Result<(FrameTable, Vec<CoreSeat>), Fault>
     open_table(alloc, &SMALL)
 }
 
-fn close(
-    alloc: Global,
-    calls: &mut Calls,
-    table: FrameTable,
-    seats: Vec<CoreSeat>,
-) -> Result<Image, Fault>
-    requires { All (IsIdleSeat table) seats.items }
-{
-    match close_table(alloc, table, seats) {
-        Ok(image) => Ok(image),
-        Err(TableFault { table, seats, .. }) => {
-            calls.refuse();
-            close_table(alloc, table, seats).map_err(|e| e.fault)
+impl Calls {
+    fn image_of_table(
+        &mut self,
+        alloc: Global,
+        table: FrameTable,
+        seats: Vec<CoreSeat>,
+    ) -> Result<Image, Fault>
+        requires { All (IsIdleSeat table) seats.items }
+    {
+        match close_table(alloc, table, seats) {
+            Ok(image) => Ok(image),
+            Err(TableFault { table, seats, .. }) => {
+                self.refuse();
+                close_table(alloc, table, seats).map_err(|e| e.fault)
+            }
         }
     }
-}
 
-fn closed_table(alloc: Global, calls: &mut Calls) -> Result<(), Fault> {
-    let (table, seats) = twice!(calls, open(alloc))?;
-    let image = close(alloc, calls, table, seats)?;
-    calls.look(held_frames(&image) == 0);
-    Ok(())
-}
+    fn closed_table(&mut self, alloc: Global) -> Result<(), Fault> {
+        let (table, seats) = twice!(self, open(alloc))?;
+        let image = self.image_of_table(alloc, table, seats)?;
+        self.look(held_frames(&image) == 0);
+        Ok(())
+    }
 
-/// Each call of these, once.
-pub fn make_all(alloc: Global, calls: &mut Calls) -> Result<(), Fault> {
-    new_table(alloc, calls)?;
-    table_with_ranges(alloc, calls)?;
-    table_at_an_image(alloc, calls)?;
-    closed_table(alloc, calls)
+    /// Each call on tables, once.
+    pub fn make_on_tables(&mut self, alloc: Global) -> Result<(), Fault> {
+        self.new_table(alloc)?;
+        self.table_with_ranges(alloc)?;
+        self.table_at_an_image(alloc)?;
+        self.closed_table(alloc)
+    }
 }

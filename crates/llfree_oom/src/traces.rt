@@ -3,7 +3,7 @@
 ghost use Rattle.std.specs.Prelude.{◌≤◌, IfOk};
 ghost use Rattle.trace_text.specs.Trace.{core_count};
 
-use crate::calls::{Calls, room, twice};
+use crate::calls::{Calls, twice};
 use crate::samples::{
     MOVES, MOVES_ANSWERED, REBUILT, REPORT, SHARED, SMALL, STOPPED, TAKES, TAKES_ANSWERED,
 };
@@ -28,106 +28,100 @@ fn parsed(alloc: Global, geometry: &Geometry, text: &[u8]) -> Result<Trace, Faul
     parse_trace(alloc, geometry, text)
 }
 
-fn read_trace(alloc: Global, calls: &mut Calls) -> Result<(), Fault> {
-    let trace = twice!(calls, parse_trace(alloc, &SMALL, TAKES))?;
-    calls.look(trace.lines().len() == 3 && trace.cores() == 1);
-    Ok(())
-}
-
-fn run_on_one_core(alloc: Global, calls: &mut Calls) -> Result<(), Fault> {
-    let trace = twice!(calls, parsed(alloc, &SMALL, TAKES))?;
-    let outcome = twice!(calls, run_one(alloc, SMALL, &trace))?;
-    calls.look(outcome.answers.len() == 3 && held_frames(&outcome.image) == 10);
-    Ok(())
-}
-
-fn run_on_threads<R: Threads + Wait>(
-    rt: &R,
-    alloc: Global,
-    calls: &mut Calls,
-) -> Result<(), Fault> {
-    let trace = twice!(calls, parsed(alloc, &SHARED, MOVES))?;
-    let outcome = twice!(calls, run_trace(rt, alloc, SHARED, &trace, &OpenGate))?;
-    calls.look(outcome.answers.len() == 3 && held_frames(&outcome.image) == 0);
-    Ok(())
-}
-
-fn run_over_one_core(alloc: Global, calls: &mut Calls) -> Result<(), Fault> {
-    let mut written = room(alloc, calls, ROOM)?;
-    {
-        let mut output = Watched::new(&mut written);
-        twice!(
-            calls,
-            run_over(
-                alloc,
-                SMALL,
-                Show::Answers,
-                &mut Watched::new(TAKES),
-                &mut output
-            )
-        )?;
+impl Calls {
+    fn read_trace(&mut self, alloc: Global) -> Result<(), Fault> {
+        let trace = twice!(self, parse_trace(alloc, &SMALL, TAKES))?;
+        self.look(trace.lines().len() == 3 && trace.cores() == 1);
+        Ok(())
     }
-    calls.look(written.as_slice() == TAKES_ANSWERED);
-    Ok(())
-}
 
-fn run_over_threads<R: Threads + Wait>(
-    rt: &R,
-    alloc: Global,
-    calls: &mut Calls,
-) -> Result<(), Fault> {
-    let mut written = room(alloc, calls, ROOM)?;
-    {
-        let mut output = Watched::new(&mut written);
-        twice!(
-            calls,
-            run_many_over(
-                rt,
-                alloc,
-                SHARED,
-                Show::Answers,
-                &OpenGate,
-                &mut Watched::new(MOVES),
-                &mut output
-            )
-        )?;
+    fn run_on_one_core(&mut self, alloc: Global) -> Result<(), Fault> {
+        let trace = twice!(self, parsed(alloc, &SMALL, TAKES))?;
+        let outcome = twice!(self, run_one(alloc, SMALL, &trace))?;
+        self.look(outcome.answers.len() == 3 && held_frames(&outcome.image) == 10);
+        Ok(())
     }
-    calls.look(written.as_slice() == MOVES_ANSWERED);
-    Ok(())
-}
 
-fn rebuild_text(alloc: Global, calls: &mut Calls) -> Result<(), Fault> {
-    let mut written = room(alloc, calls, ROOM)?;
-    {
-        let mut output = Watched::new(&mut written);
-        twice!(
-            calls,
-            rebuild_over(alloc, &mut Watched::new(STOPPED), &mut output)
-        )?;
+    fn run_on_threads<R: Threads + Wait>(&mut self, rt: &R, alloc: Global) -> Result<(), Fault> {
+        let trace = twice!(self, parsed(alloc, &SHARED, MOVES))?;
+        let outcome = twice!(self, run_trace(rt, alloc, SHARED, &trace, &OpenGate))?;
+        self.look(outcome.answers.len() == 3 && held_frames(&outcome.image) == 0);
+        Ok(())
     }
-    calls.look(written.as_slice() == REBUILT);
-    Ok(())
-}
 
-fn report_text(alloc: Global, calls: &mut Calls) -> Result<(), Fault> {
-    let mut written = room(alloc, calls, ROOM)?;
-    {
-        let mut output = Watched::new(&mut written);
-        twice!(
-            calls,
-            report_over(alloc, &mut Watched::new(STOPPED), &mut output)
-        )?;
+    fn run_over_one_core(&mut self, alloc: Global) -> Result<(), Fault> {
+        let mut written = self.room(alloc, ROOM)?;
+        {
+            let mut output = Watched::new(&mut written);
+            twice!(
+                self,
+                run_over(
+                    alloc,
+                    SMALL,
+                    Show::Answers,
+                    &mut Watched::new(TAKES),
+                    &mut output
+                )
+            )?;
+        }
+        self.look(written.as_slice() == TAKES_ANSWERED);
+        Ok(())
     }
-    calls.look(written.as_slice() == REPORT);
-    Ok(())
-}
 
-fn word(alloc: Global, calls: &mut Calls, text: &str) -> Result<String, Fault> {
-    match String::from_str(alloc, text) {
-        Ok(word) => Ok(word),
-        Err(_) => {
-            calls.refuse();
-            Ok(String::from_str(alloc, text)?)
+    fn run_over_threads<R: Threads + Wait>(&mut self, rt: &R, alloc: Global) -> Result<(), Fault> {
+        let mut written = self.room(alloc, ROOM)?;
+        {
+            let mut output = Watched::new(&mut written);
+            twice!(
+                self,
+                run_many_over(
+                    rt,
+                    alloc,
+                    SHARED,
+                    Show::Answers,
+                    &OpenGate,
+                    &mut Watched::new(MOVES),
+                    &mut output
+                )
+            )?;
+        }
+        self.look(written.as_slice() == MOVES_ANSWERED);
+        Ok(())
+    }
+
+    fn rebuild_text(&mut self, alloc: Global) -> Result<(), Fault> {
+        let mut written = self.room(alloc, ROOM)?;
+        {
+            let mut output = Watched::new(&mut written);
+            twice!(
+                self,
+                rebuild_over(alloc, &mut Watched::new(STOPPED), &mut output)
+            )?;
+        }
+        self.look(written.as_slice() == REBUILT);
+        Ok(())
+    }
+
+    fn report_text(&mut self, alloc: Global) -> Result<(), Fault> {
+        let mut written = self.room(alloc, ROOM)?;
+        {
+            let mut output = Watched::new(&mut written);
+            twice!(
+                self,
+                report_over(alloc, &mut Watched::new(STOPPED), &mut output)
+            )?;
+        }
+        self.look(written.as_slice() == REPORT);
+        Ok(())
+    }
+
+    fn word(&mut self, alloc: Global, text: &str) -> Result<String, Fault> {
+        match String::from_str(alloc, text) {
+            Ok(word) => Ok(word),
+            Err(_) => {
+                self.refuse();
+                Ok(String::from_str(alloc, text)?)
+            }
         }
     }
 }
@@ -150,34 +144,36 @@ fn status<R: Threads + Wait>(
     )
 }
 
-fn run_the_program<R: Threads + Wait>(
-    rt: &R,
-    alloc: Global,
-    calls: &mut Calls,
-) -> Result<(), Fault> {
-    let mut words = room(alloc, calls, 3)?;
-    for text in ["run", "8", "2"] {
-        words.push(word(alloc, calls, text)?)?;
+impl Calls {
+    fn run_the_program<R: Threads + Wait>(&mut self, rt: &R, alloc: Global) -> Result<(), Fault> {
+        let mut words = self.room(alloc, 3)?;
+        for text in ["run", "8", "2"] {
+            words.push(self.word(alloc, text)?)?;
+        }
+        let mut written = self.room(alloc, ROOM)?;
+        let mut errors = self.room(alloc, ROOM)?;
+        let mut ended = status(rt, alloc, &words, &mut written, &mut errors);
+        if ended == 3 && errors.as_slice() == NO_MEMORY {
+            self.refuse();
+            ended = status(rt, alloc, &words, &mut written, &mut errors);
+        }
+        self.look(ended == 0 && written.as_slice() == MOVES_ANSWERED);
+        Ok(())
     }
-    let mut written = room(alloc, calls, ROOM)?;
-    let mut errors = room(alloc, calls, ROOM)?;
-    let mut ended = status(rt, alloc, &words, &mut written, &mut errors);
-    if ended == 3 && errors.as_slice() == NO_MEMORY {
-        calls.refuse();
-        ended = status(rt, alloc, &words, &mut written, &mut errors);
-    }
-    calls.look(ended == 0 && written.as_slice() == MOVES_ANSWERED);
-    Ok(())
-}
 
-/// Each call of these, once.
-pub fn make_all<R: Threads + Wait>(rt: &R, alloc: Global, calls: &mut Calls) -> Result<(), Fault> {
-    read_trace(alloc, calls)?;
-    run_on_one_core(alloc, calls)?;
-    run_on_threads(rt, alloc, calls)?;
-    run_over_one_core(alloc, calls)?;
-    run_over_threads(rt, alloc, calls)?;
-    rebuild_text(alloc, calls)?;
-    report_text(alloc, calls)?;
-    run_the_program(rt, alloc, calls)
+    /// Each call on traces, once.
+    pub fn make_on_traces<R: Threads + Wait>(
+        &mut self,
+        rt: &R,
+        alloc: Global,
+    ) -> Result<(), Fault> {
+        self.read_trace(alloc)?;
+        self.run_on_one_core(alloc)?;
+        self.run_on_threads(rt, alloc)?;
+        self.run_over_one_core(alloc)?;
+        self.run_over_threads(rt, alloc)?;
+        self.rebuild_text(alloc)?;
+        self.report_text(alloc)?;
+        self.run_the_program(rt, alloc)
+    }
 }

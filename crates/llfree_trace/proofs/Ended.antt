@@ -31,8 +31,8 @@ use Rattle.frame_table.specs.declared.seats.CoreSeat.{CoreSeat}
 use Rattle.held_blocks.specs.Desk.{blocks_of, MayRefuse}
 use Rattle.core_frames.specs.Cores.{memory_of, seat_of}
 use Rattle.core_frames.specs.Desks.{core_of, IsDeskOf, list_of}
-use Rattle.core_frames.specs.declared.allocator.Allocator.{Allocator}
-use Rattle.core_frames.specs.declared.desk.Desk.{Desk}
+use Rattle.core_frames.specs.declared.shared.allocator.Allocator.{Allocator}
+use Rattle.core_frames.specs.declared.shared.desk.Desk.{Desk}
 use Rattle.core_frames.proofs.PlainCalls.{same_geometry}
 use Rattle.llfree_trace.specs.Outcome.{all_blocks, HoldsFrames, IsAnsweredBy, key_under, Runs}
 use Rattle.llfree_trace.specs.Rounds.{GoesOn, lent_by_desks, lists_at}

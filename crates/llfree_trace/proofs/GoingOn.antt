@@ -6,7 +6,7 @@ use Rattle.std.proofs.lemmas.List.{append-nil, append_assoc, take_all}
 use Rattle.held_blocks.specs.Desk.{MayRefuse}
 use Rattle.core_frames.specs.Cores.{memory_of}
 use Rattle.core_frames.specs.Desks.{IsDeskOf}
-use Rattle.core_frames.specs.declared.allocator.Allocator.{Allocator}
+use Rattle.core_frames.specs.declared.shared.allocator.Allocator.{Allocator}
 use Rattle.llfree_trace.specs.Outcome.{Runs}
 use Rattle.llfree_trace.specs.Rounds.{asks_from, GoesOn, IsAsk, lists_at, MovesAt, RoundRan}
 use Rattle.trace_text.specs.Trace.{cores_in}

@@ -10,8 +10,8 @@ use Rattle.std.proofs.lemmas.List.{get_or-set_other, length-map}
 use Rattle.std.proofs.lemmas.List.Elements.{All-head, All-tail}
 use Rattle.core_frames.specs.Cores.{memory_of}
 use Rattle.core_frames.specs.Desks.{IsDeskOf, list_of as list_in}
-use Rattle.core_frames.specs.declared.allocator.Allocator.{Allocator}
-use Rattle.core_frames.specs.declared.desk.Desk.{Desk}
+use Rattle.core_frames.specs.declared.shared.allocator.Allocator.{Allocator}
+use Rattle.core_frames.specs.declared.shared.desk.Desk.{Desk}
 use Rattle.held_blocks.specs.declared.labelled_block.LabelledBlock.{LabelledBlock}
 use Rattle.held_blocks.specs.Desk.{MayRefuse, blocks_of}
 use Rattle.frame_core.specs.Holding.{IsHolding}

@@ -14,8 +14,8 @@ use Rattle.held_blocks.specs.declared.labelled_block.LabelledBlock.{LabelledBloc
 use Rattle.core_frames.specs.Desks.{list_of}
 use Rattle.frame_table.specs.Closing.{lent_through}
 use Rattle.core_frames.specs.Cores.{memory_of}
-use Rattle.core_frames.specs.declared.allocator.Allocator.{Allocator}
-use Rattle.core_frames.specs.declared.desk.Desk.{Desk}
+use Rattle.core_frames.specs.declared.shared.allocator.Allocator.{Allocator}
+use Rattle.core_frames.specs.declared.shared.desk.Desk.{Desk}
 use Rattle.frame_model.specs.declared.key.Key.{Key}
 use Rattle.trace_text.specs.declared.reply.Answer.{Answer}
 use Rattle.llfree_trace.specs.declared.lines.Done.{Done}

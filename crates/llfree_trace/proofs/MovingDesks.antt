@@ -21,9 +21,9 @@ use Rattle.held_blocks.specs.LabelledBlocks.{IsUnder}
 use Rattle.held_blocks.specs.declared.labelled_block.LabelledBlock.{LabelledBlock}
 use Rattle.core_frames.specs.Cores.{memory_of, lent_by}
 use Rattle.core_frames.specs.Desks.{core_of, list_of as list_in, IsDeskOf, IsLeftAlone}
-use Rattle.core_frames.specs.declared.allocator.Allocator.{Allocator}
-use Rattle.core_frames.specs.declared.allocator.Core.{Core}
-use Rattle.core_frames.specs.declared.desk.Desk.{Desk}
+use Rattle.core_frames.specs.declared.shared.allocator.Allocator.{Allocator}
+use Rattle.core_frames.specs.declared.shared.allocator.Core.{Core}
+use Rattle.core_frames.specs.declared.shared.desk.Desk.{Desk}
 use Rattle.llfree_trace.specs.Outcome.{core_list, Moves}
 use Rattle.llfree_trace.specs.Rounds.{lent_by_desks, lists_at, MovesAt}
 use Rattle.trace_text.specs.declared.reply.Reply.TheVariants as reply

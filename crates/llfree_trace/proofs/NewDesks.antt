@@ -8,9 +8,9 @@ use Rattle.frame_table.specs.Closing.{lent_through}
 use Rattle.core_frames.specs.Cores.{memory_of, IsCoreOf, IsNewCore}
 use Rattle.held_blocks.specs.declared.labelled_block.LabelledBlock.{LabelledBlock}
 use Rattle.core_frames.specs.Desks.{core_of, list_of, IsDeskOf}
-use Rattle.core_frames.specs.declared.allocator.Allocator.{Allocator}
-use Rattle.core_frames.specs.declared.allocator.Core.{Core}
-use Rattle.core_frames.specs.declared.desk.Desk.{Desk}
+use Rattle.core_frames.specs.declared.shared.allocator.Allocator.{Allocator}
+use Rattle.core_frames.specs.declared.shared.allocator.Core.{Core}
+use Rattle.core_frames.specs.declared.shared.desk.Desk.{Desk}
 use Rattle.llfree_trace.specs.Rounds.{lent_by_desks}
 use Rattle.llfree_trace.proofs.Running.{none_lawful}
 

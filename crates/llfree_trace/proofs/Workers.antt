@@ -11,8 +11,8 @@ use Rattle.held_blocks.specs.declared.labelled_block.LabelledBlock.{LabelledBloc
 use Rattle.held_blocks.specs.Desk.{MayRefuse}
 use Rattle.core_frames.specs.Cores.{lent_by}
 use Rattle.core_frames.specs.Desks.{core_of, IsDeskOf}
-use Rattle.core_frames.specs.declared.allocator.Allocator.{Allocator}
-use Rattle.core_frames.specs.declared.desk.Desk.{Desk}
+use Rattle.core_frames.specs.declared.shared.allocator.Allocator.{Allocator}
+use Rattle.core_frames.specs.declared.shared.desk.Desk.{Desk}
 use Rattle.frame_model.specs.declared.key.Key.{Key}
 use Rattle.llfree_trace.specs.Outcome.{DeskStep}
 use Rattle.trace_text.specs.declared.reply.Answer.{Answer}

@@ -10,8 +10,8 @@ use Rattle.held_blocks.specs.Desk.{MayRefuse}
 use Rattle.held_blocks.specs.declared.labelled_block.LabelledBlock.{LabelledBlock}
 use Rattle.core_frames.specs.Cores.{memory_of, lent_by, seat_of}
 use Rattle.core_frames.specs.Desks.{list_of, core_of, IsDeskOf}
-use Rattle.core_frames.specs.declared.allocator.Allocator.{Allocator}
-use Rattle.core_frames.specs.declared.desk.Desk.{Desk}
+use Rattle.core_frames.specs.declared.shared.allocator.Allocator.{Allocator}
+use Rattle.core_frames.specs.declared.shared.desk.Desk.{Desk}
 use Rattle.llfree_trace.specs.Outcome.{DeskStep, Moves, Runs}
 use Rattle.trace_text.specs.declared.line.Line.{Line}
 use Rattle.trace_text.specs.declared.line.Line.TheVariants as line

@@ -14,7 +14,7 @@ mod outcome;
 mod program;
 mod progress;
 mod rounds;
-mod seating;
+mod run_desks;
 mod streams;
 mod transfers;
 

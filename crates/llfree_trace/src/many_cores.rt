@@ -10,7 +10,7 @@ ghost use Rattle.trace_text.specs.Trace.{core_count, ranges_in};
 use crate::gate::Gate;
 use crate::outcome::Outcome;
 use crate::progress::{Progress, run_all};
-use crate::seating::{finish_all, open_desks};
+use crate::run_desks::{finish_all, open_desks};
 use core_frames::Allocator;
 use frame_words::{Fault, Geometry};
 use std::alloc::Global;

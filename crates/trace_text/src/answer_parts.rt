@@ -4,7 +4,7 @@ ghost use Rattle.std.specs.Prelude.{◌≡◌, ◌<◌, ◌≤◌, [], IfErr, If
 ghost use Rattle.trace_text.specs.AnswerText.{answers_of, answer_rows_text};
 
 use crate::answers::{rows_text, write_closing};
-use crate::going::{Going, TURNS, join_all, keep};
+use crate::in_flight::{Going, TURNS, join_all, keep};
 use crate::reply::Answer;
 use frame_words::Fault;
 use std::alloc::Global;

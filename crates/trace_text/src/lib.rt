@@ -3,7 +3,7 @@
 
 mod answer_parts;
 mod answers;
-mod going;
+mod in_flight;
 mod line;
 mod parser;
 mod parts;

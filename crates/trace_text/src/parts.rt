@@ -8,7 +8,7 @@ ghost use Rattle.trace_text.specs.Parts.{goes_behind as the_first_goes_behind};
 ghost use Rattle.trace_text.specs.Trace.{core_count};
 ghost use Rattle.trace_text.specs.TraceText.{ExplainsTrace, trace_of};
 
-use crate::going::{Going, TURNS, join_all, keep};
+use crate::in_flight::{Going, TURNS, join_all, keep};
 use crate::line::{Line, Trace};
 use crate::parser::{MOST_RECORDS, may_follow, most_records_of, parse_trace};
 use frame_words::{Fault, Geometry};

@@ -1,7 +1,7 @@
 //! What no clause says.
 
 mod calls;
-mod closing;
+mod closings;
 mod memory;
 mod openings;
 mod threads;

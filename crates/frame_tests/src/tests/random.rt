@@ -3,7 +3,7 @@
 ghost use Rattle.std.specs.Prelude.{◌≡◌, ◌<◌, ℕ, IfOk, IfSome, vec_len, slice_index_or};
 ghost use Rattle.std.specs.List.{All};
 ghost use Rattle.core_frames.specs.Cores.{IsCoreOf, IsOutOf};
-ghost use Rattle.core_frames.specs.declared.allocator.Core.{Core as ACore};
+ghost use Rattle.core_frames.specs.declared.shared.allocator.Core.{Core as ACore};
 
 use super::sums::assert_adds_up;
 use core_frames::{Allocator, Core};

@@ -4,7 +4,7 @@ use Rattle.frame_model.specs.Report.{held_frames}
 use Rattle.frame_core.specs.Moves.{HasSizes}
 use Rattle.frame_table.specs.Closing.{kept_through, lent_through}
 use Rattle.core_frames.specs.Cores.{memory_of, seat_of}
-use Rattle.core_frames.specs.declared.allocator.Core.{Core}
+use Rattle.core_frames.specs.declared.shared.allocator.Core.{Core}
 use Rattle.llfree_example.specs.Memory.{eight_children}
 use Rattle.llfree_example.proofs.NothingHeld.{is_eight, kept_by_two, lent_by_two, nothing_held}
 use Rattle.llfree_example.proofs.close.Goals as goal

@@ -3,7 +3,7 @@
 ghost use Rattle.std.specs.Prelude.{IfSome};
 ghost use Rattle.frame_zones.specs.Zones.{AreCoresOf, IsOutIn};
 
-use super::closing::held_once_closed;
+use super::closings::held_once_closed;
 use super::memory::{next_core, open_two};
 use frame_zones::{ZoneBlock, ZoneCore, Zones};
 use std::test::Fail;

@@ -3,7 +3,7 @@ use Rattle.frame_words.specs.declared.fault.Fault.TheVariants as fault
 use Rattle.frame_words.specs.declared.geometry.Geometry.{Geometry}
 use Rattle.frame_model.specs.declared.block.FrameBlock.{FrameBlock}
 use Rattle.frame_table.specs.Openings.{IsLeft}
-use Rattle.core_frames.specs.declared.allocator.Allocator.{Allocator}
+use Rattle.core_frames.specs.declared.shared.allocator.Allocator.{Allocator}
 use Rattle.core_frames.specs.Cores.{memory_of}
 use Rattle.core_frames.specs.Left.{IsUnadoptedFor}
 use Rattle.core_frames.specs.Ranges.{IsUnopenedFor, MayHoldBack}

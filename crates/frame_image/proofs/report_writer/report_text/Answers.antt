@@ -9,4 +9,4 @@ pub loop-tree-preserved : goal.loop-tree-preserved
 loop-tree-preserved c =
     table_more c.args.report.now.trees c.loop-tree.tree _ _ _ _ (omega (arith, c.loop-tree-test.true, c.trees-tree-end.ensures))
     c.loop-tree.invariant
-    (c.as_bytes-place.ensures.value ∙ c.format.ensures.text) c.of_tree.ensures c.in_ok-write_numbers.ensures.text
+    (c.as_bytes-place.ensures.value ∙ c.format.ensures.text) c.of_tree.ensures c.in_ok-add_numbers.ensures.text

@@ -1,8 +1,8 @@
 use Rattle.std.proofs.Common.{◌≡◌, ℕ, List, length, vec_len, sym, subst, rules}
 use Rattle.frame_table.specs.declared.block.Block.{Block}
-use Rattle.core_frames.specs.declared.allocator.Core.{Core}
+use Rattle.core_frames.specs.declared.shared.allocator.Core.{Core}
 use Rattle.frame_slots.specs.Reopenings.{IsFollowing, LendsJust}
-use Rattle.frame_slots.specs.declared.resting.Receipt.{Receipt}
+use Rattle.frame_slots.specs.declared.receipt.Receipt.{Receipt}
 use Rattle.frame_slots.proofs.Replaying.{begin_following, next_following, end_following}
 use Rattle.frame_slots.proofs.replay.replay.Goals as goal
 use Rattle.frame_slots.proofs.replay.replay.Goals.{else-loop-step-test, then-loop-step-test+in_default}

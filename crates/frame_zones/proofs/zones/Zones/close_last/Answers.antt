@@ -1,6 +1,6 @@
 use Rattle.std.proofs.Common.{List, [], ◌∷◌, ◌++◌, refl, sym, ◌∙◌, ap, subst}
-use Rattle.core_frames.specs.declared.allocator.Allocator.{Allocator}
-use Rattle.core_frames.specs.declared.allocator.Core.{Core}
+use Rattle.core_frames.specs.declared.shared.allocator.Allocator.{Allocator}
+use Rattle.core_frames.specs.declared.shared.allocator.Core.{Core}
 use Rattle.frame_zones.specs.Openings.{AreDealt}
 use Rattle.frame_zones.proofs.Closed.{closed_last, all_back}
 use Rattle.frame_zones.proofs.Parted.{parts_off, laid_less, cores_less}

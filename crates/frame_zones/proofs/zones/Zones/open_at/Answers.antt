@@ -1,7 +1,7 @@
 use Rattle.std.proofs.Common.{◌≡◌, ◌+◌, ◌++◌, ◌∷◌, [], length, map, slice_index_or, List, ℕ, refl, sym, ◌∙◌, ap, subst, arith, rules}
 use Rattle.std.proofs.lemmas.List.{length-map}
-use Rattle.core_frames.specs.declared.allocator.Allocator.{Allocator}
-use Rattle.core_frames.specs.declared.survivors.Survivors.{Survivors}
+use Rattle.core_frames.specs.declared.shared.allocator.Allocator.{Allocator}
+use Rattle.core_frames.specs.declared.shared.survivors.Survivors.{Survivors}
 use Rattle.frame_zones.specs.Reopening.{AreLeftOf, AreHeldAt}
 use Rattle.frame_zones.specs.Spans.{Place, place_at}
 use Rattle.frame_zones.specs.declared.image.ZoneImage.{ZoneImage}

@@ -2,7 +2,7 @@ use Rattle.std.proofs.Common.{refl, sym, subst}
 use Rattle.std.specs.Prelude.{Contains}
 use Rattle.frame_core.specs.Block.{block}
 use Rattle.core_frames.specs.Cores.{kept_by}
-use Rattle.core_frames.specs.declared.allocator.Core.{Core}
+use Rattle.core_frames.specs.declared.shared.allocator.Core.{Core}
 use Rattle.frame_zones.proofs.Placing.{core_read, stay_cores}
 use Rattle.frame_zones.proofs.Sums.{just_more}
 use Rattle.frame_zones.proofs.zones.Zones.recall.Goals as goal

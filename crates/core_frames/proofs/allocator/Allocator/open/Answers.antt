@@ -1,7 +1,0 @@
-use Rattle.std.proofs.Common.{[]}
-use Rattle.core_frames.proofs.RangeLemmas.{only_memory, no_ranges}
-use Rattle.core_frames.proofs.allocator.Allocator.open.Goals as goal
-
-pub returns-clause-err : goal.returns-clause-err
-returns-clause-err c =
-    only_memory c.args.geometry [] c.open_with.result (no_ranges c.args.geometry) c.open_with.ensures.refused

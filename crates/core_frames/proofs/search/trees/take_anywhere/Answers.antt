@@ -1,0 +1,60 @@
+use Rattle.std.proofs.Common.{◌≡◌, ◌≤◌, ℕ, ◌*◌, ◌-◌, List, ap, ◌∙◌, arith}
+use Rattle.frame_words.specs.Geometry.{trees_for}
+use Rattle.frame_core.specs.Key.{tree_count}
+use Rattle.low_frames.specs.Alone.{FindsOf}
+use Rattle.low_frames.proofs.TakeLemmas.{wider}
+use Rattle.core_frames.specs.Bounds.{most_visit, most_in_pass}
+use Rattle.core_frames.specs.Alone.{WereTried}
+use Rattle.core_frames.specs.declared.search.trees.Pass.TheVariants.{AnyFree}
+use Rattle.core_frames.proofs.KeptFrames.{keeps_found}
+use Rattle.core_frames.proofs.SearchSteps.{searched_twice}
+use Rattle.core_frames.proofs.AloneSearch.{tried_all}
+use Rattle.core_frames.proofs.search.trees.take_anywhere.Goals as goal
+
+pub take_between-requires : goal.take_between-requires
+take_between-requires g c =
+    let m = g.M.Moves.at c.args.m.now in
+    let all : c.trees.result ≡ tree_count m.key = c.trees.ensures.value ∙ ap trees_for c.geometry-geometry.ensures.0 in
+    record {
+      core = c.requires.core;
+      order = c.requires.order;
+      begins = omega (arith, c.first_tree-start.ensures, c.trees.ensures.value);
+      ends = omega (arith, all);
+      idle = c.requires.idle;
+    }
+
+pub returns-in-Some : goal.returns-in-Some
+returns-in-Some g c =
+    let M = g.M.Moves in
+    let m = M.at c.args.m.now in
+    let all : c.trees.result ≡ tree_count m.key = c.trees.ensures.value ∙ ap trees_for c.geometry-geometry.ensures.0 in
+    let now = c.in-Some.ensures in
+    record {
+      keeps = now.keeps;
+      counts = wider M.tick M.is_exact g.met.M.Moves.ticks (most_visit * (c.trees.result - c.first_tree-start.result)) (most_in_pass m.key)
+          (omega (arith, all)) now.counts;
+      sure = now.sure;
+      some = now.some;
+      none = tt;
+    }
+
+pub returns : goal.returns
+returns g c =
+    let M = g.M.Moves in
+    let m = M.at c.args.m.now in
+    let u = M.at c.take_between.new.m in
+    let w = M.at c.take_between-2.new.m in
+    let E = c.args.pass ≡ AnyFree in
+    let start = c.first_tree-start.result in
+    let trees = c.trees.result in
+    let all : trees ≡ tree_count m.key = c.trees.ensures.value ∙ ap trees_for c.geometry-geometry.ensures.0 in
+    let low : start ≤ trees = omega (arith, c.first_tree-start.ensures, c.trees.ensures.value) in
+    let one = c.in_default.ensures in
+    searched_twice g.met.M.Moves.ticks {a = m} {b = u} {c = w} (trees - start)
+    (start - 0) (tree_count m.key) (most_visit * (trees - start)) (most_visit * (start - 0))
+    (most_in_pass m.key)
+    (omega (arith, low, all)) (omega (arith, low, all)) one
+    (λ alone. keeps_found m.key (λ (ws : List ℕ). E → WereTried m.key c.args.order start trees ws) m.words u.words (one.none.alone alone))
+    (FindsOf (λ (ws : List ℕ). E → WereTried m.key c.args.order 0 (tree_count m.key) ws))
+    (λ x y. tried_all m.key u.key E c.args.order start trees m.words u.words w.words one.keeps.same_key all x y)
+    c.take_between-2.ensures

@@ -1,0 +1,39 @@
+//! Takes and gives of cores.
+
+ghost use Rattle.std.specs.Prelude.{◌≡◌, ◌+◌, ◌≤◌};
+ghost use Rattle.core_frames.specs.Bounds.{most_moves, most_in_give};
+ghost use Rattle.core_frames.specs.Cores.{memory_of, moves_by, IsCoreOf, StaysCoreOf, IsOutOf};
+ghost use Rattle.core_frames.specs.Uses.{TakesThrough, HasGiven};
+
+use crate::gives::give_by;
+use crate::shared::allocator::{Allocator, Core};
+use crate::takes::take_by;
+use frame_table::{Block, SharedMoves};
+use frame_words::TakeFault;
+
+impl Allocator {
+    /// Takes a block of `2^order` frames. No memory is needed, and nobody waits.
+    pub fn take(&self, core: &mut Core, order: u8) -> Result<Block, TakeFault>
+        requires { IsCoreOf self.now core.old }
+        ensures core { StaysCoreOf self.now core.old core.new }
+        ensures takes { TakesThrough self.now order result core.old core.new }
+        ensures moves { moves_by core.new ≤ moves_by core.old
+            + most_moves (memory_of self.now) }
+    {
+        let mut m = SharedMoves::new(&self.table, &mut core.seat);
+        take_by(&mut m, &mut core.habit, order)
+    }
+
+    /// Gives the block back, whichever core took it. It always succeeds. No memory is needed, and
+    /// nobody waits.
+    pub fn give(&self, core: &mut Core, block: Block)
+        requires core { IsCoreOf self.now core.old }
+        requires block { IsOutOf self.now block }
+        ensures core { StaysCoreOf self.now core.old core.new }
+        ensures gives { HasGiven core.old core.new }
+        ensures moves { moves_by core.new ≤ moves_by core.old + most_in_give }
+    {
+        let mut m = SharedMoves::new(&self.table, &mut core.seat);
+        give_by(&mut m, &mut core.habit, block);
+    }
+}

@@ -1,6 +1,0 @@
-use Rattle.frame_core.specs.Key.{AreRanges}
-use Rattle.frame_table.proofs.opening.open_table.Goals as goal
-
-pub open_table_with-requires-clause-ranges : goal.open_table_with-requires-clause-ranges
-unfolding AreRanges
-open_table_with-requires-clause-ranges c = tt

@@ -1,5 +1,0 @@
-use Rattle.frame_core.specs.Seats.{part_ground}
-use Rattle.frame_table.proofs.opening.part_ground_off.Given as goal
-
-abbrev pub ghosts-cut_seat : goal.ghosts-cut_seat
-ghosts-cut_seat a = record { cut = part_ground }

@@ -1,0 +1,100 @@
+//! Opening zones.
+
+ghost use Rattle.std.specs.Prelude.{◌≡◌, ◌<◌, IfOk, IfErr, OnOk, vec_len, map};
+ghost use Rattle.std.specs.List.{All};
+ghost use Rattle.core_frames.specs.Cores.{IsOpened};
+ghost use Rattle.core_frames.specs.Ranges.{IsUnopenedFor};
+ghost use Rattle.frame_zones.specs.Spans.{place_of, HoldsLawful};
+ghost use Rattle.frame_zones.specs.Openings.{IsLonger, AreDealt, IsBegun, AreOpened, AreUnopenedFor};
+
+use crate::spans::{Span, may_be_zones};
+use crate::zones::{ZoneCore, Zones};
+use core_frames::{Allocator, Core};
+use frame_words::Fault;
+use std::alloc::Global;
+
+impl Zones {
+    /// A zone for each span, and so many cores of all zones, of which no frame is held but those past
+    /// the end of each zone and in its ranges. Refused as `BadRange` where zones may not lie so or
+    /// hold that back, else for want of memory.
+    pub fn open(alloc: Global, cores: u32, spans: &[Span]) -> Result<(Zones, Vec<ZoneCore>), Fault>
+        ensures opened { IfOk result (λ r. AreOpened cores (map place_of spans.now) r.0 r.1.items) }
+        ensures lawful { IfOk result (λ _. All HoldsLawful spans.now) }
+        ensures refused { IfErr result (AreUnopenedFor cores spans.now) }
+    {
+        if !may_be_zones(cores, spans) {
+            return Err(Fault::BadRange);
+        }
+        let mut all = begun(alloc, cores, spans.len() as u32)?;
+        let mut zones = Vec::with_capacity(alloc, spans.len())?;
+        let mut firsts = Vec::with_capacity(alloc, spans.len())?;
+        for span in spans {
+            let (zone, parts) = open_zone(alloc, span)?;
+            deal(&mut all, parts)?;
+            zones.push_reserved(zone);
+            firsts.push_reserved(span.first);
+        }
+        Ok((
+            Zones {
+                zones,
+                firsts,
+                cores,
+            },
+            all,
+        ))
+    }
+}
+
+// The allocator of the span, with its cores.
+fn open_zone(alloc: Global, span: &Span) -> Result<(Allocator, Vec<Core>), Fault>
+    ensures opened { IfOk result (λ r. IsOpened (place_of span.now).key r.0 r.1.items) }
+    ensures lawful { IfOk result (λ r. HoldsLawful span.now) }
+    ensures refused { IfErr result (IsUnopenedFor span.now.geometry span.now.ranges.items) }
+{
+    Allocator::open_with(alloc, span.geometry, &span.ranges)
+}
+
+/// So many cores with no part yet, whose homes lie evenly among so many zones.
+pub(crate) fn begun(alloc: Global, cores: u32, zones: u32) -> Result<Vec<ZoneCore>, Fault>
+    requires { 0 < zones }
+    ensures count { IfOk result (λ all. vec_len all ≡ cores) }
+    ensures begun { IfOk result (λ all. All (IsBegun zones) all.items) }
+    ensures err { IfErr result (λ e. e ≡ Fault.NoMemory) }
+{
+    let Ok(mut all) = Vec::with_capacity(alloc, cores as usize) else {
+        return Err(Fault::NoMemory);
+    };
+    for number in 0..cores {
+        all.push_reserved(ZoneCore {
+            cores: Vec::new(alloc),
+            home: number % zones,
+        });
+    }
+    Ok(all)
+}
+
+/// A part to each core, in order. Refused only for want of memory.
+pub(crate) fn deal(cores: &mut Vec<ZoneCore>, mut parts: Vec<Core>) -> Result<(), Fault>
+    requires { vec_len parts ≡ vec_len cores.old }
+    ensures dealt { OnOk result (AreDealt cores.old.items parts.items cores.new.items) }
+    ensures err { IfErr result (λ e. e ≡ Fault.NoMemory) }
+{
+    while let Some(part) = parts.pop() {
+        let number = parts.len();
+        cores[number].add(part)?;
+    }
+    Ok(())
+}
+
+impl ZoneCore {
+    // The core of one zone more.
+    fn add(&mut self, part: Core) -> Result<(), Fault>
+        ensures longer { OnOk result (IsLonger self.old part self.new) }
+        ensures err { IfErr result (λ e. e ≡ Fault.NoMemory) }
+    {
+        let Ok(()) = self.cores.push(part) else {
+            return Err(Fault::NoMemory);
+        };
+        Ok(())
+    }
+}

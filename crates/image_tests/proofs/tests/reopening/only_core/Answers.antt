@@ -1,7 +1,0 @@
-use Rattle.std.proofs.lemmas.List.Elements.{All-pop}
-use Rattle.core_frames.specs.Cores.{IsCoreOf}
-use Rattle.image_tests.proofs.tests.reopening.only_core.Goals as goal
-
-pub returns : goal.returns
-returns c =
-    (All-pop (IsCoreOf c.args.allocator.now) _ _ c.pop.result c.pop.ensures.items c.requires).1

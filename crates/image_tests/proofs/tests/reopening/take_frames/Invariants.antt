@@ -1,5 +1,0 @@
-use Rattle.core_frames.specs.Cores.{IsCoreOf}
-use Rattle.image_tests.proofs.tests.reopening.take_frames.Given as goal
-
-abbrev pub invariant-loop-i : goal.invariant-loop-i
-invariant-loop-i l = IsCoreOf l.allocator l.core

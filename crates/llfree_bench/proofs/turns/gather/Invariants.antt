@@ -1,5 +1,0 @@
-use Rattle.llfree_bench.specs.Hands.{IsHandOf}
-use Rattle.llfree_bench.proofs.turns.gather.Given as goal
-
-abbrev pub invariant-loop-i : goal.invariant-loop-i
-invariant-loop-i l = IsHandOf l.memory l.hand

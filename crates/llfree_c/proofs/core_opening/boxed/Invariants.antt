@@ -1,5 +1,0 @@
-use Rattle.std.proofs.Common.{◌≡◌, map}
-use Rattle.llfree_c.proofs.core_opening.boxed.Given as goal
-
-abbrev pub invariant-loop-state : goal.invariant-loop-state
-invariant-loop-state l = map (λ b. b.value) l.cores.items ≡ l.yielded

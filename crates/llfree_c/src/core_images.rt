@@ -1,0 +1,72 @@
+//! The last core leaves an image of the memory.
+
+ghost use Rattle.std.specs.Prelude.{◌≡◌, ◌≢◌, ◌⊎◌, ◌↔◌, length, IfOk, IfErr};
+ghost use Rattle.llfree_c.specs.Status.{ok, no_memory, cores_open};
+ghost use Rattle.frame_slots.specs.Calls.{frames_by};
+ghost use Rattle.llfree_c.specs.CoreImages.{StopsCore, HasNoStop};
+ghost use Rattle.llfree_c.specs.Images.{image_words, StaysBehind};
+
+use crate::images::llfree_image_words;
+use crate::rebuilt_image::write_rebuilt;
+use crate::sizes::geometry_of;
+use crate::statuses::{CORES_OPEN, NO_MEMORY, NO_ROOM, OK};
+use frame_slots::{CoreState, StopFault, open_cores};
+use frame_words::Fault;
+use std::alloc::Global;
+use std::mem::replace;
+
+/// Writes the numbers of the memory's image. A core of a fresh memory is behind it then, which stood
+/// in its place so that a refusal can put it back.
+pub(crate) fn leave_core_image(state: &mut CoreState, heap: Global, numbers: &mut [u64]) -> u32
+    ensures left { result ≡ ok → StopsCore state.old numbers.new }
+    ensures behind { result ≡ ok
+        → StaysBehind (image_words (frames_by state.old)) numbers.old numbers.new }
+    ensures same { result ≢ ok → state.new ≡ state.old }
+    ensures refused { result ≢ ok → (numbers.new ≡ numbers.old)
+        × HasNoStop state.old (length numbers.old) result }
+{
+    if numbers.len() < llfree_image_words(state.frames()) {
+        return NO_ROOM;
+    }
+    let other = match spare_core(heap) {
+        Ok(other) => other,
+        Err(status) => return status,
+    };
+    match replace(state, other).stop(heap) {
+        Ok(image) => {
+            write_rebuilt(image.geometry(), image.words(), numbers);
+            OK
+        }
+        Err(StopFault { fault, core }) => {
+            *state = core;
+            stop_status(fault)
+        }
+    }
+}
+
+// Other cores are open just where the fault says so.
+fn stop_status(fault: Fault) -> u32
+    ensures open { (result ≡ cores_open) ↔ (fault ≡ Fault.MissingCores) }
+    ensures known { (result ≡ cores_open) ⊎ (result ≡ no_memory) }
+{
+    if fault == Fault::MissingCores {
+        CORES_OPEN
+    } else {
+        NO_MEMORY
+    }
+}
+
+fn spare_core(heap: Global) -> Result<CoreState, u32>
+    ensures { IfErr result (λ e. e ≡ no_memory) }
+{
+    let Ok(geometry) = geometry_of(1, 1) else {
+        return Err(NO_MEMORY);
+    };
+    let Ok(mut cores) = open_cores(heap, geometry, &[]) else {
+        return Err(NO_MEMORY);
+    };
+    match cores.pop() {
+        Some(core) => Ok(core),
+        None => Err(NO_MEMORY),
+    }
+}
