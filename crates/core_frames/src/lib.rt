@@ -17,6 +17,7 @@ pub use gives::give_by;
 pub use held_blocks::{Label, LabelledBlock, LabelledBlocks};
 pub use laws::{wrong_answers_are_not_told, wrong_refusals_are_not_told};
 pub use plain::PlainAllocator;
+pub use ranges::MOST_RANGES;
 pub use search::Habit;
 pub use shared::{Allocator, CloseFault, Core, Desk, Survivors};
 pub use splits::split_by;

@@ -3,6 +3,8 @@ use Rattle.std.specs.Prelude.{◌≡◌, ℕ, ◌+◌, ◌-◌, ◌*◌, ◌<◌
 use Rattle.std.specs.List.{sum_by, list_any, range_with_len}
 use Rattle.std.specs.Int.{bit_at}
 use Rattle.std.specs.Option.{ForSome}
+use Rattle.frame_words.specs.Geometry.{child_frames, word_frames}
+use Rattle.frame_words.specs.Runs.{child_words}
 use Rattle.frame_words.specs.declared.geometry.Geometry.{Geometry}
 use Rattle.frame_model.specs.declared.key.Key.{Key}
 use Rattle.frame_model.specs.Key.{key_of, frame_count, tree_count, children_of, size_of, is_in_range}
@@ -25,16 +27,20 @@ FitsTree key rest = (rest.0 < tree_count key) × (rest.1 ≤ size_of key rest.0)
 
 -- the bits of a bit word that lie past the end, as ones
 unfoldable pub bits_past : Key → ℕ → ℕ
-bits_past key word = run (min 64 (key.frames - 64 * word)) (64 - min 64 (key.frames - 64 * word))
+bits_past key word =
+    run (min word_frames (key.frames - word_frames * word))
+        (word_frames - min word_frames (key.frames - word_frames * word))
 
 -- the words of an image of which no part is known yet: all are 0, but the bits past the end are set
 unfoldable pub blank_words : Key → List ℕ
 blank_words key =
-    replicate (bits_place key 0) 0 ++ map (bits_past key) (range_with_len 0 (8 * key.children))
+    replicate (bits_place key 0) 0
+    ++ map (bits_past key) (range_with_len 0 (child_words * key.children))
 
 -- the bits of a bit word that lie past the end are set in this one
 abbrev pub SetsPastEnd : Key → ℕ → ℕ → Type 0
-SetsPastEnd key word bits = (i : ℕ) → i < 64 → key.frames ≤ 64 * word + i → bit_at bits i ≡ 1
+SetsPastEnd key word bits =
+    (i : ℕ) → i < word_frames → key.frames ≤ word_frames * word + i → bit_at bits i ≡ 1
 
 -- the words are those of a table, no counter exceeds its tree, and nothing past the end is free
 pub record IsImage (key : Key) (words : List ℕ) : Type 0 where
@@ -44,13 +50,13 @@ pub record IsImage (key : Key) (words : List ℕ) : Type 0 where
   -- the frames past the end are set
   pub past_end : (x : ℕ) → key.frames ≤ x → x < frame_count key → bit_of key words x ≡ 1
   -- a child that is not whole has no flag
-  pub cut : (c : ℕ) → c < key.children → key.frames < 512 * (c + 1) → huge_of words c ≡ 0
+  pub cut : (c : ℕ) → c < key.children → key.frames < child_frames * (c + 1) → huge_of words c ≡ 0
 
 -- no frame is held, nothing is reserved, and every counter says so
 pub record IsAllFree (key : Key) (words : List ℕ) : Type 0 where
-  pub free : (c : ℕ) → c < key.children → free_of words c ≡ 512
+  pub free : (c : ℕ) → c < key.children → free_of words c ≡ child_frames
   pub huge : (c : ℕ) → c < key.children → huge_of words c ≡ 0
-  pub bits : (w : ℕ) → w < 8 * key.children → bit_word_of key words w ≡ 0
+  pub bits : (w : ℕ) → w < child_words * key.children → bit_word_of key words w ≡ 0
   pub trees : (t : ℕ) → t < tree_count key → tree_free_of key words t ≡ size_of key t
   pub unreserved : (t : ℕ) → t < tree_count key → reserved_of key words t ≡ 0
   pub resting : (k : ℕ) → k < key.cores → rest_of key words k ≡ None
@@ -65,7 +71,7 @@ pub record IsUncounted (key : Key) (words : List ℕ) : Type 0 where
 
 -- no child is whole, nothing is reserved, and the children and trees below these count what is not set
 pub record IsCountedBelow (key : Key) (words : List ℕ) (child tree : ℕ) : Type 0 where
-  pub free : (c : ℕ) → c < child → free_of words c + set_of key words c ≡ 512
+  pub free : (c : ℕ) → c < child → free_of words c + set_of key words c ≡ child_frames
   pub huge : (c : ℕ) → c < key.children → huge_of words c ≡ 0
   pub trees : (t : ℕ) → t < tree
       → tree_free_of key words t ≡ sum_by (free_of words) (children_of key t)
@@ -95,4 +101,4 @@ with_bit_list key words word (n ∷ ns) = with_bit_list key (with_bits key words
 -- the entry of a child and its bit words are replaced
 abbrev pub with_child : Key → List ℕ → ℕ → ℕ → List ℕ → List ℕ
 with_child key words child entry bits =
-    with_bit_list key (with_entry words child entry) (8 * child) bits
+    with_bit_list key (with_entry words child entry) (child_words * child) bits

@@ -3,6 +3,7 @@ use Rattle.std.specs.Prelude.{◌≡◌, ℕ, ◌/◌, ◌<◌, ◌≤◌, List,
 use Rattle.std.proofs.Common.{refl, arith, eq-eqb}
 use Rattle.std.proofs.Math.Logic.{∥∥₁_elim}
 use Rattle.std.proofs.Math.Bridge.{le_prop}
+use Rattle.frame_words.specs.Runs.{child_words}
 use Rattle.frame_words.specs.declared.geometry.Geometry.{Geometry}
 use Rattle.frame_model.specs.declared.block.FrameBlock.{FrameBlock}
 use Rattle.frame_model.specs.declared.key.Key.{Key}
@@ -39,7 +40,8 @@ no_whole child bs e = rw e refl
 
 own_none : (key : Key) (v : View) → IsViewOf key v → v.own ≡ []
     → (n : ℕ) → 0 < names n v.filled → 1 ≤ 0
-own_none key v is own n some = omega (arith, (is.filled n some).own, no_whole (n / 8) v.own own)
+own_none key v is own n some =
+    omega (arith, (is.filled n some).own, no_whole (n / child_words) v.own own)
 
 -- a view with no block in flight has filled no word
 pub fills_none : (key : Key) (v : View) → ∥ IsViewOf key v ∥₁ → v.own ≡ [] → v.filled ≡ []

@@ -1,5 +1,7 @@
 -- What a mover is told and tells: which word a place is, and what a step leaves of the words.
 use Rattle.std.specs.Prelude.{◌≡◌, ◌≢◌, ℕ, ◌+◌, ◌*◌, ◌^◌, ◌<◌, ◌≤◌, List, Option, Some, IfSome, Bool, MatchBool, slice_index}
+use Rattle.frame_words.specs.Geometry.{child_frames, word_frames, tree_frames}
+use Rattle.frame_words.specs.Runs.{child_words}
 use Rattle.frame_words.specs.declared.geometry.Geometry.{Geometry}
 use Rattle.frame_words.specs.Words.{free_in, flag_in, lane_in, rest_in}
 use Rattle.frame_model.specs.declared.block.FrameBlock.{FrameBlock}
@@ -30,15 +32,16 @@ place_of key (Local core) = local_place key core
 -- the memory has this word
 abbrev pub IsPlace : Key → Place → Type 0
 IsPlace key (Entry child) = child < key.children
-IsPlace key (Bits word) = word < 8 * key.children
+IsPlace key (Bits word) = word < child_words * key.children
 IsPlace key (Tree tree) = tree < tree_count key
 IsPlace key (Local core) = core < key.cores
 
 -- the word found there counts no more than its place can have
 abbrev pub HasLayout : Key → Place → ℕ → Type 0
-HasLayout key (Entry child) n = (free_in (lane_in n child) ≤ 512) × (flag_in (lane_in n child) ≤ 1)
+HasLayout key (Entry child) n =
+    (free_in (lane_in n child) ≤ child_frames) × (flag_in (lane_in n child) ≤ 1)
 HasLayout key (Bits word) n = n < 2 ^ 64
-HasLayout key (Tree tree) n = (free_in n ≤ 4096) × (flag_in n ≤ 1)
+HasLayout key (Tree tree) n = (free_in n ≤ tree_frames) × (flag_in n ≤ 1)
 HasLayout key (Local core) n = IsRest key (rest_in n)
 
 -- of every word but one, what was read is as before
@@ -50,15 +53,15 @@ ReadsBut place old new = (i : ℕ) → i ≢ place → new i ≡ old i
 -- a run of frames in flight is given up
 abbrev pub release_run : ℕ → ℕ → ℕ → Kind
 release_run word from order =
-    release word from order (without (block (64 * word + from) order))
+    release word from order (without (block (word_frames * word + from) order))
 
 -- a huge frame in flight is given up
 abbrev pub give_whole : ℕ → Kind
-give_whole child = give_huge child (without (block (512 * child) 9))
+give_whole child = give_huge child (without (block (child_frames * child) 9))
 
 -- a huge frame in flight loses its flag
 abbrev pub drop_whole : ℕ → Kind
-drop_whole child = drop_flag child (without (block (512 * child) 9))
+drop_whole child = drop_flag child (without (block (child_frames * child) 9))
 
 -- a block in flight is handed out
 abbrev pub hand_out_block : FrameBlock → Cut

@@ -8,9 +8,7 @@ ghost use Rattle.frame_image.specs.ImageText as Spec;
 use crate::fields::five_fields;
 use crate::image_parts::count_below;
 use csv::ByteRecord;
-use frame_words::{CHILD_FRAMES, Geometry, MOST_CHILDREN, MOST_CORES};
-
-const MOST_FRAMES: u32 = CHILD_FRAMES * MOST_CHILDREN;
+use frame_words::{CHILD_FRAMES, Geometry, MOST_CHILDREN, MOST_CORES, MOST_FRAMES};
 
 // The sizes that the first record of an image says.
 pub(crate) fn header_said(row: &ByteRecord) -> Option<Geometry>

@@ -1,6 +1,7 @@
 -- Blocks, and how many of them hold a frame or are a whole child.
 use Rattle.std.specs.Prelude.{◌≡◌, ℕ, ◌+◌, ◌*◌, ◌%◌, ◌^◌, ◌≤◌, List, ◌&&◌, nat_eq, nat_lt, nat_le, if◌then◌else◌}
 use Rattle.std.specs.List.{sum_by}
+use Rattle.frame_words.specs.Geometry.{child_frames}
 use Rattle.frame_model.specs.declared.block.FrameBlock.{FrameBlock}
 use Rattle.frame_model.specs.declared.key.Key.{Key}
 use Rattle.frame_model.specs.Key.{frame_count}
@@ -25,7 +26,7 @@ small_at frame b = if nat_lt b.order 9 then covers b frame else 0
 
 -- 1 where the block is the whole child
 unfoldable pub whole_at : ℕ → FrameBlock → ℕ
-whole_at child b = if nat_eq b.order 9 && nat_eq b.frame (512 * child) then 1 else 0
+whole_at child b = if nat_eq b.order 9 && nat_eq b.frame (child_frames * child) then 1 else 0
 
 -- how many blocks of a list, below order 9, hold the frame
 unfoldable pub smalls : ℕ → List FrameBlock → ℕ

@@ -2,6 +2,7 @@
 use Rattle.std.specs.Prelude.{◌≡◌, ℕ, ◌+◌, ◌<◌, ◌≤◌, List, ◌∷◌}
 use Rattle.std.specs.List.{sum_by, All}
 use borrow.Author.Differences.{up, down}
+use Rattle.frame_words.specs.Geometry.{child_frames}
 use Rattle.frame_model.specs.declared.key.Key.{Key}
 use Rattle.frame_model.specs.declared.view.View.{View}
 use Rattle.frame_model.specs.Key.{frame_count, tree_count, child_of, size_of}
@@ -27,7 +28,7 @@ pub record Fit (key : Key) (shares : ℕ) (words : List ℕ) (views : List View)
       → total key (small_in x) views + huge_of words (child_of x) ≤ 1
   -- the free, the charged and the held frames of a child are all of it
   pub entries_add_up : (c : ℕ) → c < key.children
-      → free_of words c + total key (charged_in c) views + held_of key words c ≡ 512
+      → free_of words c + total key (charged_in c) views + held_of key words c ≡ child_frames
   -- the free, the resting, the paid and the held frames of a tree are all of it
   pub trees_add_up : (t : ℕ) → t < tree_count key
       → tree_free_of key words t + resting_on key words t + total key (paid_on t) views

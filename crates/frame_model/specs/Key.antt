@@ -1,6 +1,7 @@
 -- The key of a memory: its children, cores and frames, and what its opening held back.
 use Rattle.std.specs.Prelude.{◌≡◌, ℕ, ◌+◌, ◌-◌, ◌*◌, ◌/◌, ◌<◌, ◌≤◌, List, [], ◌∷◌, length, Bool, true, false, ◌&&◌, ◌||◌, nat_lt, nat_le, min}
 use Rattle.std.specs.List.{range_with_len, list_any}
+use Rattle.frame_words.specs.Geometry.{child_frames, tree_children, tree_frames, most_children, most_cores}
 use Rattle.frame_words.specs.declared.geometry.Geometry.{Geometry}
 use Rattle.frame_model.specs.declared.key.Key.{Key}
 
@@ -20,35 +21,35 @@ sealed_key geometry ranges = record (key_of geometry) { ranges = ranges }
 
 -- the frames of all children, also those past the end
 abbrev pub frame_count : Key → ℕ
-frame_count key = 512 * key.children
+frame_count key = child_frames * key.children
 
 -- a tree has eight children, the last one perhaps fewer
 abbrev pub tree_count : Key → ℕ
-tree_count key = (key.children + 7) / 8
+tree_count key = (key.children + 7) / tree_children
 
 -- the child that a frame lies in
 abbrev pub child_of : ℕ → ℕ
-child_of frame = frame / 512
+child_of frame = frame / child_frames
 
 -- the tree that a frame lies in
 abbrev pub tree_of : ℕ → ℕ
-tree_of frame = frame / 4096
+tree_of frame = frame / tree_frames
 
 -- the tree that a child belongs to
 abbrev pub tree_of_child : ℕ → ℕ
-tree_of_child child = child / 8
+tree_of_child child = child / tree_children
 
 -- how many children a tree has
 abbrev pub children_in : Key → ℕ → ℕ
-children_in key tree = min 8 (key.children - 8 * tree)
+children_in key tree = min tree_children (key.children - tree_children * tree)
 
 -- the children of a tree
 abbrev pub children_of : Key → ℕ → List ℕ
-children_of key tree = range_with_len (8 * tree) (children_in key tree)
+children_of key tree = range_with_len (tree_children * tree) (children_in key tree)
 
 -- the frames of a tree, counted over whole children
 abbrev pub size_of : Key → ℕ → ℕ
-size_of key tree = 512 * children_in key tree
+size_of key tree = child_frames * children_in key tree
 
 -- the frame lies in the range
 unfoldable pub is_in_range : ℕ → ℕ × ℕ → Bool
@@ -72,11 +73,11 @@ most_ranges = 1024
 -- the sizes lie within the limits
 pub record AreSizes (key : Key) : Type 0 where
   pub some_children : 1 ≤ key.children
-  pub few_children : key.children ≤ 4096
+  pub few_children : key.children ≤ most_children
   pub some_cores : 1 ≤ key.cores
-  pub few_cores : key.cores ≤ 64
-  pub last_child : 512 * (key.children - 1) < key.frames
-  pub inside : key.frames ≤ 512 * key.children
+  pub few_cores : key.cores ≤ most_cores
+  pub last_child : child_frames * (key.children - 1) < key.frames
+  pub inside : key.frames ≤ child_frames * key.children
 
 -- the sizes lie within the limits, and the ranges are apart and inside
 pub record IsKey (key : Key) : Type 0 where

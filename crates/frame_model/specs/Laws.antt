@@ -1,5 +1,6 @@
 -- What the fit says to a user: of held blocks and counters at any time, and of sums at the end.
 use Rattle.std.specs.Prelude.{◌≡◌, ℕ, pos, ◌+◌, ◌<◌, ◌≤◌, List, [], ◌∷◌, ◌++◌, length, true, if◌then◌else◌, not, filter, map, Contains}
+use Rattle.frame_words.specs.Geometry.{child_frames}
 use Rattle.frame_model.specs.declared.block.FrameBlock.{FrameBlock}
 use Rattle.frame_model.specs.declared.key.Key.{Key}
 use Rattle.frame_model.specs.declared.view.Eye.{Eye}
@@ -34,7 +35,7 @@ seats_of views = filter (λ v. not v.is_ground) views
 pub record IsSafe (key : Key) (words : List ℕ) (views : List View) : Type 0 where
   pub held : IsHolding key (holding_of key views)
   pub inside : (x : ℕ) → key.frames ≤ x → holders x (blocks_with (seats_of views)) ≡ 0
-  pub entries : (c : ℕ) → c < key.children → free_of words c + set_of key words c ≤ 512
+  pub entries : (c : ℕ) → c < key.children → free_of words c + set_of key words c ≤ child_frames
   pub huge : (c : ℕ) → c < key.children → 0 < huge_of words c → free_of words c ≡ 0
   pub trees : (t : ℕ) → t < tree_count key
       → tree_free_of key words t + resting_on key words t + held_in_tree key words t ≤ size_of key t
@@ -46,7 +47,7 @@ EveryFitIsSafe = (key : Key) (shares : ℕ) (words : List ℕ) (views : List Vie
 
 -- the counters add up to exactly what is not held, and rebuilding makes the same of them
 pub record AddsUp (key : Key) (words : List ℕ) : Type 0 where
-  pub entries : (c : ℕ) → c < key.children → free_of words c + held_of key words c ≡ 512
+  pub entries : (c : ℕ) → c < key.children → free_of words c + held_of key words c ≡ child_frames
   pub trees : (t : ℕ) → t < tree_count key
       → tree_free_of key words t + resting_on key words t + held_in_tree key words t ≡ size_of key t
   pub reserved : (t : ℕ) → t < tree_count key → cores_on key words t ≡ reserved_of key words t

@@ -1,6 +1,7 @@
 -- How a memory begins: words that equal their own rebuilding, and views that hold what is held.
 use Rattle.std.specs.Prelude.{◌≡◌, ℕ, ◌*◌, ◌<◌, ◌≤◌, List, [], ◌∷◌, ◌++◌, true, false, nat_eq, if◌then◌else◌, map, filter}
 use Rattle.std.specs.List.{range_with_len}
+use Rattle.frame_words.specs.Geometry.{child_frames}
 use Rattle.frame_model.specs.declared.block.FrameBlock.{FrameBlock}
 use Rattle.frame_model.specs.declared.key.Key.{Key}
 use Rattle.frame_model.specs.declared.view.View.{View}
@@ -20,7 +21,7 @@ set_blocks key words =
 -- the huge frames of these words
 unfoldable pub huge_blocks : Key → List ℕ → List FrameBlock
 huge_blocks key words =
-    map (λ c. block (512 * c) 9)
+    map (λ c. block (child_frames * c) 9)
     (filter (λ c. nat_eq (huge_of words c) 1) (range_with_len 0 key.children))
 
 -- all that is held in these words

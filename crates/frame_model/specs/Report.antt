@@ -1,6 +1,7 @@
 -- What a report counts: frames and blocks that are held or not, by bits and huge flags alone.
 use Rattle.std.specs.Prelude.{ℕ, ◌+◌, ◌-◌, ◌*◌, ◌/◌, ◌^◌, List, max, nat_eq, if◌then◌else◌}
 use Rattle.std.specs.List.{sum_by, range_with_len}
+use Rattle.frame_words.specs.Geometry.{tree_frames}
 use Rattle.frame_model.specs.declared.block.FrameBlock.{FrameBlock}
 use Rattle.frame_model.specs.declared.key.Key.{Key}
 use Rattle.frame_model.specs.Key.{child_of, frame_count, size_of}
@@ -27,7 +28,7 @@ clear_within key words order from n =
 
 -- the held frames of a tree
 abbrev pub held_frames_of : Key → List ℕ → ℕ → ℕ
-held_frames_of key words tree = held_within key words (4096 * tree) (size_of key tree)
+held_frames_of key words tree = held_within key words (tree_frames * tree) (size_of key tree)
 
 -- the free frames of a tree
 abbrev pub free_frames_of : Key → List ℕ → ℕ → ℕ
@@ -35,7 +36,8 @@ free_frames_of key words tree = size_of key tree - held_frames_of key words tree
 
 -- the blocks of an order in a tree that have no held frame
 abbrev pub clear_blocks_of : Key → List ℕ → ℕ → ℕ → ℕ
-clear_blocks_of key words order tree = clear_within key words order (4096 * tree) (size_of key tree)
+clear_blocks_of key words order tree =
+    clear_within key words order (tree_frames * tree) (size_of key tree)
 
 -- the held frames of all memory
 abbrev pub held_frames : Key → List ℕ → ℕ

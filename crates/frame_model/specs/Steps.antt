@@ -1,6 +1,8 @@
 -- The kinds of step as data: the word that each changes, and what becomes of it and of the view.
 use Rattle.std.specs.Prelude.{◌≡◌, ℕ, pos, ◌+◌, ◌-◌, ◌*◌, ◌/◌, ◌%◌, ◌^◌, ◌<◌, ◌≤◌, bit_and, bit_or, List, [], ◌∷◌, Option, Some, None, slice_index, slice_set}
 use Rattle.std.specs.Int.{bit_not, w64}
+use Rattle.frame_words.specs.Geometry.{child_frames, word_frames, tree_words}
+use Rattle.frame_words.specs.Runs.{child_words}
 use Rattle.frame_words.specs.Words.{entry_word, free_in, flag_in, lane_in, lane_put, lane_shift, rest_in, local_word}
 use Rattle.frame_model.specs.declared.block.FrameBlock.{FrameBlock}
 use Rattle.frame_model.specs.declared.key.Key.{Key}
@@ -136,24 +138,24 @@ effect t (charge child seen n) found v = record v {
 }
 effect t (refund child n) found v = record v { charged = less child n v.charged; moves = t v.moves }
 effect t (claim word seen from order) found v = record v {
-  charged = less (word / 8) (2 ^ order) v.charged;
-  paid = less (word / 64) (2 ^ order) v.paid;
-  own = block (64 * word + from) order ∷ v.own;
+  charged = less (word / child_words) (2 ^ order) v.charged;
+  paid = less (word / tree_words) (2 ^ order) v.paid;
+  own = block (word_frames * word + from) order ∷ v.own;
   moves = t v.moves;
 }
 effect t (release word from order rest) found v = record v {
-  charged = more (word / 8) (2 ^ order) v.charged;
-  paid = more (word / 64) (2 ^ order) v.paid;
+  charged = more (word / child_words) (2 ^ order) v.charged;
+  paid = more (word / tree_words) (2 ^ order) v.paid;
   own = rest v.own;
   moves = t v.moves;
 }
 effect t (take_huge child seen) found v = record v {
-  paid = less (tree_of_child child) 512 v.paid;
-  own = block (512 * child) 9 ∷ v.own;
+  paid = less (tree_of_child child) child_frames v.paid;
+  own = block (child_frames * child) 9 ∷ v.own;
   moves = t v.moves;
 }
 effect t (give_huge child rest) found v = record v {
-  paid = more (tree_of_child child) 512 v.paid;
+  paid = more (tree_of_child child) child_frames v.paid;
   own = rest v.own;
   moves = t v.moves;
 }
@@ -188,7 +190,7 @@ effect t (collect tree seen) found v = record v {
 }
 effect t (fill_word word) found v = record v { filled = put_in word v.filled; moves = t v.moves }
 effect t (drop_flag child rest) found v = record v {
-  own = block (512 * child) 8 ∷ block (512 * child + 256) 8 ∷ rest v.own;
+  own = block (child_frames * child) 8 ∷ block (child_frames * child + 256) 8 ∷ rest v.own;
   filled = [];
   moves = t v.moves;
 }

@@ -1,6 +1,7 @@
 -- Stops: all threads end between two events, and the memory is opened again with rebuilt words.
 use Rattle.std.specs.Prelude.{◌≡◌, ℕ, zero, suc, ◌+◌, ◌*◌, ◌<◌, ◌≤◌, List, [], ◌∷◌, ◌++◌, Bool, true, false, not, ◌&&◌, nat_eq, nat_lt, if◌then◌else◌, replicate, map, filter, count_by, All}
 use Rattle.std.specs.List.{range_with_len}
+use Rattle.frame_words.specs.Geometry.{child_frames}
 use Rattle.frame_model.specs.declared.block.FrameBlock.{FrameBlock}
 use Rattle.frame_model.specs.declared.key.Key.{Key}
 use Rattle.frame_model.specs.declared.view.Eye.{Eye}
@@ -117,7 +118,7 @@ pub data Passes : Moment → Moment → Type 0 where
 
 -- the counters are exact: nothing is reserved, and each counts what is not held
 pub record IsExact (key : Key) (words : List ℕ) : Type 0 where
-  pub entries : (c : ℕ) → c < key.children → free_of words c + held_of key words c ≡ 512
+  pub entries : (c : ℕ) → c < key.children → free_of words c + held_of key words c ≡ child_frames
   pub trees : (t : ℕ) → t < tree_count key
       → tree_free_of key words t + held_in_tree key words t ≡ size_of key t
   pub unreserved : (t : ℕ) → t < tree_count key → reserved_of key words t ≡ 0
@@ -153,7 +154,7 @@ pub record KnownIsHeld (m : Moment) : Type 0 where
 -- what is known is held, and few frames are lost, which were in flight at a stop
 pub record Survives (shares : ℕ) (m : Moment) : Type 0 where
   pub known : KnownIsHeld m
-  pub few_lost : lost_frames m ≤ 512 * ended_shares shares m.key.cores m.stops
+  pub few_lost : lost_frames m ≤ child_frames * ended_shares shares m.key.cores m.stops
   pub were_in_flight : (x : ℕ) → x < frame_count m.key → is_lost m x ≡ true
       → 0 < holders x m.abandoned
 
@@ -167,7 +168,8 @@ EveryStopIsSurvived = (key : Key) (words : List ℕ) (shares : ℕ) (m : Moment)
 abbrev pub EveryStopLosesLittle : Type 0
 EveryStopLosesLittle = (key : Key) (words : List ℕ) (shares : ℕ) (m : Moment)
     → IsKey key → 0 < shares → shares ≤ key.cores → IsSealedOpening key words
-    → Passes (opening_moment key words shares) m → lost_frames m ≤ 512 * m.key.cores * m.stops
+    → Passes (opening_moment key words shares) m
+    → lost_frames m ≤ child_frames * m.key.cores * m.stops
 
 -- rebuilding makes exact counters of any words
 abbrev pub EveryRebuildingIsExact : Type 0
@@ -228,7 +230,7 @@ reopened_moment key words shares remembered = record {
 pub record StaysKnown (first m : Moment) : Type 0 where
   pub known : KnownIsHeld m
   pub few_lost : lost_frames m
-      ≤ lost_frames first + 512 * ended_shares first.shares m.key.cores m.stops
+      ≤ lost_frames first + child_frames * ended_shares first.shares m.key.cores m.stops
   pub were_in_flight : (x : ℕ) → x < frame_count m.key → is_lost m x ≡ true → is_lost first x ≡ false
       → 0 < holders x m.abandoned
   pub can_stop : (new : List ℕ) × IsRebuilt (unsealed m.key) m.state.words new

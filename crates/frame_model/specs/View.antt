@@ -1,6 +1,8 @@
 -- What a view has in flight: its readers, and the views of a fixed form.
 use Rattle.std.specs.Prelude.{◌≡◌, ◌≢◌, ◌⊎◌, ℕ, pos, ◌+◌, ◌*◌, ◌/◌, ◌<◌, ◌≤◌, List, [], ◌∷◌, length, Option, Some, None, true, false, not, ◌&&◌, nat_eq, if◌then◌else◌, map, filter}
 use Rattle.std.specs.List.{range_with_len, All}
+use Rattle.frame_words.specs.Geometry.{word_frames}
+use Rattle.frame_words.specs.Runs.{child_words}
 use Rattle.frame_model.specs.declared.block.FrameBlock.{FrameBlock}
 use Rattle.frame_model.specs.declared.key.Key.{Key}
 use Rattle.frame_model.specs.declared.view.Amount.{Amount}
@@ -46,7 +48,7 @@ whole_in child v = wholes child v.own + wholes child v.kept
 
 -- 1 where the view has filled the bit word of the frame
 abbrev pub fills : ℕ → View → ℕ
-fills frame v = names (frame / 64) v.filled
+fills frame v = names (frame / word_frames) v.filled
 
 -- how often the view asks for the bit of a frame to be set
 abbrev pub marks : ℕ → View → ℕ
@@ -148,9 +150,9 @@ pub record HasOneBlock (v : View) : Type 0 where
 
 -- a bit word that the view has filled is one of a huge frame in flight
 pub record HasFilled (key : Key) (v : View) (word : ℕ) : Type 0 where
-  pub inside : word < 8 * key.children
+  pub inside : word < child_words * key.children
   pub share : 0 < v.share
-  pub own : 0 < wholes (word / 8) v.own
+  pub own : 0 < wholes (word / child_words) v.own
 
 -- what holds of each view of a memory by itself
 pub record IsViewOf (key : Key) (v : View) : Type 0 where

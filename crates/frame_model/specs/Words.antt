@@ -3,6 +3,8 @@ use Rattle.std.specs.Prelude.{◌≡◌, ℕ, ◌+◌, ◌-◌, ◌*◌, ◌/◌
 use Rattle.std.specs.List.{sum_by, range_with_len}
 use Rattle.std.specs.Int.{bit_at}
 use Rattle.std.specs.Int.Count.{ones}
+use Rattle.frame_words.specs.Geometry.{child_frames, word_frames, tree_frames}
+use Rattle.frame_words.specs.Runs.{child_words}
 use Rattle.frame_words.specs.Words.{free_in, flag_in, lane_in, lane_put, rest_in, local_word}
 use Rattle.frame_model.specs.declared.key.Key.{Key}
 use Rattle.frame_model.specs.Key.{tree_count, children_of}
@@ -36,7 +38,8 @@ bits_place key word = 15 + entry_word_count key + tree_count key + 8 * key.cores
 
 -- how many words there are
 unfoldable pub word_count : Key → ℕ
-word_count key = 15 + entry_word_count key + tree_count key + 8 * key.cores + 8 * key.children
+word_count key =
+    15 + entry_word_count key + tree_count key + 8 * key.cores + child_words * key.children
 
 -- Readers.
 
@@ -78,15 +81,16 @@ bit_word_of key words word = slice_index words (bits_place key word)
 
 -- 1 where the frame is set: bit i of bit word w is frame 64 * w + i
 unfoldable pub bit_of : Key → List ℕ → ℕ → ℕ
-bit_of key words frame = bit_at (bit_word_of key words (frame / 64)) (frame % 64)
+bit_of key words frame = bit_at (bit_word_of key words (frame / word_frames)) (frame % word_frames)
 
 -- how many frames of a child are set, in its eight bit words
 unfoldable pub set_of : Key → List ℕ → ℕ → ℕ
-set_of key words child = sum_by ones (take 8 (drop (bits_place key (8 * child)) words))
+set_of key words child =
+    sum_by ones (take child_words (drop (bits_place key (child_words * child)) words))
 
 -- how many frames of a child are held: those that are set, or all of a huge frame
 unfoldable pub held_of : Key → List ℕ → ℕ → ℕ
-held_of key words child = max (set_of key words child) (512 * huge_of words child)
+held_of key words child = max (set_of key words child) (child_frames * huge_of words child)
 
 -- how many frames of a tree are held
 unfoldable pub held_in_tree : Key → List ℕ → ℕ → ℕ
@@ -139,7 +143,7 @@ with_bits key words word n = slice_set words (bits_place key word) n
 -- a local word is nothing, or names a tree of the key with a count that a tree can have
 abbrev pub IsRest : Key → Option (ℕ × ℕ) → Type 0
 IsRest key None = Unit {0}
-IsRest key (Some rest) = (rest.0 < tree_count key) × (rest.1 ≤ 4096)
+IsRest key (Some rest) = (rest.0 < tree_count key) × (rest.1 ≤ tree_frames)
 
 -- each word of the list has its layout and its ranges, and unused words and lanes are 0
 pub record AreInRange (key : Key) (words : List ℕ) : Type 0 where
@@ -147,15 +151,15 @@ pub record AreInRange (key : Key) (words : List ℕ) : Type 0 where
   pub anchor : (i : ℕ) → i < 8 → slice_index words i ≡ 0
   pub entry_words : (c : ℕ) → c < 4 * entry_word_count key
       → slice_index words (entry_place c) < 2 ^ 64
-  pub free : (c : ℕ) → c < key.children → free_of words c ≤ 512
+  pub free : (c : ℕ) → c < key.children → free_of words c ≤ child_frames
   pub huge : (c : ℕ) → c < key.children → huge_of words c ≤ 1
   pub absent : (c : ℕ) → key.children ≤ c → c < 4 * entry_word_count key → entry_of words c ≡ 0
-  pub tree_free : (t : ℕ) → t < tree_count key → tree_free_of key words t ≤ 4096
+  pub tree_free : (t : ℕ) → t < tree_count key → tree_free_of key words t ≤ tree_frames
   pub reserved : (t : ℕ) → t < tree_count key → reserved_of key words t ≤ 1
   pub locals : (k : ℕ) → k < key.cores
       → local_word_of key words k ≡ local_word (rest_of key words k)
   pub rests : (k : ℕ) → k < key.cores → IsRest key (rest_of key words k)
-  pub bits : (w : ℕ) → w < 8 * key.children → bit_word_of key words w < 2 ^ 64
+  pub bits : (w : ℕ) → w < child_words * key.children → bit_word_of key words w < 2 ^ 64
   pub between : (i : ℕ) → i < 7 → slice_index words (tree_place key (tree_count key) + i) ≡ 0
   pub beside : (k i : ℕ) → k < key.cores → 0 < i → i < 8
       → slice_index words (local_place key k + i) ≡ 0

@@ -1,5 +1,6 @@
 -- Worked runs: lists of events in a memory of one child and one core, and what the words then show.
 use Rattle.std.specs.Prelude.{◌≡◌, ℕ, ◌-◌, ◌*◌, ◌^◌, List, [], ◌∷◌, ◌++◌, replicate, Some, true}
+use Rattle.frame_words.specs.Geometry.{word_frames}
 use Rattle.frame_model.specs.declared.block.FrameBlock.{FrameBlock}
 use Rattle.frame_model.specs.declared.key.Key.{Key}
 use Rattle.frame_model.specs.declared.view.View.{View}
@@ -84,7 +85,7 @@ claims_word id word = makes id (claim word 0 0 6)
 
 -- and gives it back
 abbrev pub releases_word : ℕ → ℕ → Event
-releases_word id word = makes id (release word 0 6 (less_one (block (64 * word) 6)))
+releases_word id word = makes id (release word 0 6 (less_one (block (word_frames * word) 6)))
 
 -- The first group of two words is lost: seat 1 claims frame 64 when seat 0 has claimed word 0 already,
 -- so seat 0 gives word 0 back and takes words 2 and 3.

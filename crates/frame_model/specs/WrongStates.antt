@@ -1,5 +1,6 @@
 -- States that would be wrong: none of them is safe, adds up or survives.
 use Rattle.std.specs.Prelude.{◌≡◌, ◌≢◌, ℕ, ◌+◌, ◌<◌, ◌≤◌, List, ◌++◌, true, false, All, Contains}
+use Rattle.frame_words.specs.Geometry.{child_frames}
 use Rattle.frame_model.specs.declared.block.FrameBlock.{FrameBlock}
 use Rattle.frame_model.specs.declared.key.Key.{Key}
 use Rattle.frame_model.specs.declared.view.View.{View}
@@ -34,7 +35,8 @@ SeatIsPastTheEnd = (key : Key) (words : List ℕ) (views : List View) (v : View)
 -- an entry promises more frames than are clear
 abbrev pub EntryPromisesTooMuch : Type 0
 EntryPromisesTooMuch = (key : Key) (words : List ℕ) (views : List View) (c : ℕ)
-    → c < key.children → 512 < free_of words c + set_of key words c → ¬ IsSafe key words views
+    → c < key.children → child_frames < free_of words c + set_of key words c
+    → ¬ IsSafe key words views
 
 -- the entry of a huge frame promises any
 abbrev pub HugeFramePromises : Type 0
@@ -53,7 +55,7 @@ TreePromisesTooMuch = (key : Key) (words : List ℕ) (views : List View) (t : �
 -- a frame of a child is neither counted nor held, or both
 abbrev pub EntryIsOff : Type 0
 EntryIsOff = (key : Key) (words : List ℕ) (c : ℕ)
-    → c < key.children → free_of words c + held_of key words c ≢ 512 → ¬ AddsUp key words
+    → c < key.children → free_of words c + held_of key words c ≢ child_frames → ¬ AddsUp key words
 
 -- a frame of a tree is neither counted nor held, or both
 abbrev pub TreeIsOff : Type 0
@@ -142,7 +144,8 @@ LostWithoutAStop = (shares : ℕ) (m : Moment) (x : ℕ) → x < frame_count m.k
 
 -- of one share more than 512 frames are lost at one stop, or of nine and then one core more than 5,120 at two
 abbrev pub LosesTooMuch : Type 0
-LosesTooMuch = ((m : Moment) → m.key.cores ≡ 1 → m.stops ≡ 1 → 512 < lost_frames m → ¬ Survives 1 m)
+LosesTooMuch =
+    ((m : Moment) → m.key.cores ≡ 1 → m.stops ≡ 1 → child_frames < lost_frames m → ¬ Survives 1 m)
     × ((m : Moment) → m.key.cores ≡ 1 → m.stops ≡ 2 → 5120 < lost_frames m → ¬ Survives 9 m)
 
 -- Moments after a reopening at which something went wrong.
@@ -159,7 +162,7 @@ LostSinceThen = (first m : Moment) (x : ℕ) → x < frame_count m.key → is_lo
 -- of one share more than 512 frames are lost at one stop, beyond those that were lost first
 abbrev pub LosesMoreThanThen : Type 0
 LosesMoreThanThen = (first m : Moment) → first.shares ≡ 1 → m.key.cores ≡ 1 → m.stops ≡ 1
-    → lost_frames first + 512 < lost_frames m → ¬ StaysKnown first m
+    → lost_frames first + child_frames < lost_frames m → ¬ StaysKnown first m
 
 -- no words can be made of its words at a stop
 abbrev pub CanNotStop : Type 0
@@ -174,7 +177,7 @@ StopsInexactly = (first m : Moment) (new : List ℕ) → IsRebuilt (unsealed m.k
 -- an entry that was rebuilt is off
 abbrev pub ExactEntryIsOff : Type 0
 ExactEntryIsOff = (key : Key) (words : List ℕ) (c : ℕ)
-    → c < key.children → free_of words c + held_of key words c ≢ 512 → ¬ IsExact key words
+    → c < key.children → free_of words c + held_of key words c ≢ child_frames → ¬ IsExact key words
 
 -- the count of a tree that was rebuilt is off
 abbrev pub ExactTreeIsOff : Type 0

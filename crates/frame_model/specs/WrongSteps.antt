@@ -3,6 +3,8 @@
 use Rattle.std.specs.Prelude.{◌≡◌, ◌≢◌, ℕ, ◌*◌, ◌/◌, ◌^◌, ◌<◌, ◌≤◌, bit_and, List, [], ◌∷◌, ◌++◌, Some, slice_index, slice_set}
 use mathlib.Core.Option.{some}
 use lib.ListN.{get_elem?}
+use Rattle.frame_words.specs.Geometry.{child_frames}
+use Rattle.frame_words.specs.Runs.{child_words}
 use Rattle.frame_model.specs.declared.block.FrameBlock.{FrameBlock}
 use Rattle.frame_model.specs.declared.key.Key.{Key}
 use Rattle.frame_model.specs.declared.view.View.{View}
@@ -58,7 +60,7 @@ SeesClear key words word from order =
 abbrev pub ChargesTooFew : Key → List ℕ → View → (word from order : ℕ) → Type 0
 ChargesTooFew key words v word from order =
     IsRun key word from order × IsClearNow key words word from order
-    × (charged_in (word / 8) v < 2 ^ order)
+    × (charged_in (word / child_words) v < 2 ^ order)
 
 -- Bits are set, and the counter of the child is not lowered yet: the view owns the run, and its charge is as before.
 abbrev pub BitsBeforeTheCharge : Type 0
@@ -78,7 +80,8 @@ ClaimsUncharged = Everywhere (λ key words views id v. (word from order : ℕ)
 
 -- more frames of a child than are charged, and no more than it has
 abbrev pub RefundsTooMany : Key → View → (child n : ℕ) → Type 0
-RefundsTooMany key v child n = (child < key.children) × (n ≤ 512) × (charged_in child v < n)
+RefundsTooMany key v child n =
+    (child < key.children) × (n ≤ child_frames) × (charged_in child v < n)
 
 -- The counter is raised before the bits are cleared: the frames that it gains are not charged by any view.
 abbrev pub RefundBeforeTheRelease : Type 0
@@ -138,8 +141,8 @@ HandsOutHalf = Everywhere (λ key words views id v. (b : FrameBlock) (rest : Res
 
 -- a huge frame in flight, of which this word is not filled
 abbrev pub LacksAWord : Key → View → (child word : ℕ) → Rest → Type 0
-LacksAWord key v child word rest = (child < key.children) × (word / 8 ≡ child)
-    × Leaves key v.own (block (512 * child) 9) (rest v.own) × (names word v.filled ≡ 0)
+LacksAWord key v child word rest = (child < key.children) × (word / child_words ≡ child)
+    × Leaves key v.own (block (child_frames * child) 9) (rest v.own) × (names word v.filled ≡ 0)
 
 -- The flag of a huge frame is dropped, and one of its eight words is not filled.
 abbrev pub FlagDroppedBeforeTheBits : Type 0

@@ -6,7 +6,8 @@ ghost use Rattle.frame_slots.specs.Numbers.{image_bit, most_frames, IsEntry, IsC
 
 use frame_words::{CHILD_FRAMES, CHILD_WORDS, FLAG, HUGE_ORDER, WORD_FRAMES, child_of, frames_of};
 
-const CHILD_NUMBERS: usize = 1 + CHILD_WORDS as usize;
+/// The numbers of a child in an image: its entry and its bit words.
+pub const CHILD_NUMBERS: usize = 1 + CHILD_WORDS as usize;
 
 // A number that is not there is 0.
 fn number_at(numbers: &[u64], place: usize) -> u64

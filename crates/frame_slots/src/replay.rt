@@ -19,11 +19,11 @@ use crate::shared::Shared;
 use core_frames::{Allocator, Core};
 use frame_core::{FrameBlock, HeldBlock};
 use frame_table::Block;
-use frame_words::{Fault, HUGE_ORDER, TakeFault, frames_of};
+use frame_words::{Fault, HUGE_ORDER, MOST_FRAMES, TakeFault, frames_of};
 use std::alloc::Global;
 
-// A memory has fewer frames, and fewer blocks on the way to them.
-const MOST_STEPS: u32 = 2 * 512 * 4096;
+/// More steps than a replay has: a memory has fewer frames, and fewer blocks on the way to them.
+pub const MOST_STEPS: u32 = 2 * MOST_FRAMES;
 
 // What an image says of a block.
 #[derive(Drop)]

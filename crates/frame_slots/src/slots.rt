@@ -9,11 +9,8 @@ use crate::slot::Slot;
 use core_frames::{Allocator, Core};
 use frame_core::HeldBlock;
 use frame_table::Block;
-use frame_words::Fault;
+use frame_words::{Fault, MOST_FRAMES};
 use std::alloc::Global;
-
-// No memory has more frames.
-const MOST_FRAMES: u32 = 512 * 4096;
 
 /// A slot for each block of the order that is free, where it is looked for by its frame.
 pub(crate) fn slots_of(

@@ -3,6 +3,7 @@ use Rattle.std.specs.Prelude.{◌≡◌, ℕ, ◌<◌, ◌≤◌, false, List, [
 use Rattle.std.specs.List.{All}
 use Rattle.atomic_table.specs.Table.{Me}
 use Rattle.atomic_table.specs.Seated.{TableId}
+use Rattle.frame_words.specs.Geometry.{child_frames, tree_frames}
 use Rattle.frame_model.specs.declared.key.Key.{Key}
 use Rattle.frame_model.specs.declared.view.Eye.{Eye}
 use Rattle.frame_model.specs.declared.view.Sighting.{Sighting}
@@ -40,11 +41,11 @@ reads_of s = last_seen s.seat.me.0.read
 -- what was read of a word counts no more than its place can have
 pub record AreLaid (key : Key) (read : List Sighting) : Type 0 where
   pub entries : (c seen : ℕ) → c < key.children → last_seen read (entry_place c) ≡ Some seen
-      → (free_in (lane_in seen c) ≤ 512) × (flag_in (lane_in seen c) ≤ 1)
+      → (free_in (lane_in seen c) ≤ child_frames) × (flag_in (lane_in seen c) ≤ 1)
   pub trees : (t seen : ℕ) → t < tree_count key → last_seen read (tree_place key t) ≡ Some seen
-      → (free_in seen ≤ 4096) × (flag_in seen ≤ 1)
+      → (free_in seen ≤ tree_frames) × (flag_in seen ≤ 1)
   pub locals : (k seen tree resting : ℕ) → k < key.cores → last_seen read (local_place key k) ≡ Some seen
-      → rest_in seen ≡ Some (tree, resting) → (tree < tree_count key) × (resting ≤ 4096)
+      → rest_in seen ≡ Some (tree, resting) → (tree < tree_count key) × (resting ≤ tree_frames)
 
 -- the blocks that the view has, in flight or kept, are those of the memory
 abbrev pub HasBlocksOf : Key → View → Type 0

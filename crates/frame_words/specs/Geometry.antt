@@ -5,6 +5,10 @@ use Rattle.std.specs.Prelude.{ℕ, ◌+◌, ◌-◌, ◌*◌, ◌/◌, ◌<◌, 
 abbrev pub child_frames : ℕ
 child_frames = 512
 
+-- the frames that have their bits in one word
+abbrev pub word_frames : ℕ
+word_frames = 64
+
 -- the order of a block that is a child, the highest that there is
 abbrev pub huge_order : ℕ
 huge_order = 9
@@ -16,6 +20,10 @@ tree_children = 8
 -- the frames of a whole tree
 abbrev pub tree_frames : ℕ
 tree_frames = 4096
+
+-- the words that have the bits of a whole tree
+abbrev pub tree_words : ℕ
+tree_words = 64
 
 -- the most children that memory may have
 abbrev pub most_children : ℕ

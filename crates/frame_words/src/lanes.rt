@@ -3,9 +3,7 @@
 ghost use Rattle.std.specs.Prelude.{◌≡◌, ◌≢◌, ℕ, ◌%◌, ◌^◌, ◌<◌};
 ghost use Rattle.frame_words.specs.Words.{lane_count, lane_in, lane_put};
 
-use super::sizes::LANES;
-
-const LANE_BITS: u32 = 16;
+use super::sizes::{LANE_BITS, LANES};
 
 const LANE_VALUES: u64 = 0x1_0000;
 

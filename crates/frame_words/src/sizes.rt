@@ -27,8 +27,14 @@ pub const TREE_FRAMES: u32 = CHILD_FRAMES * TREE_CHILDREN;
 /// The entries that share a word.
 pub const LANES: u32 = 4;
 
+/// The bits of an entry.
+pub const LANE_BITS: u32 = 16;
+
 /// The most children that memory may have.
 pub const MOST_CHILDREN: u32 = 4096;
+
+/// The most frames that memory may have.
+pub const MOST_FRAMES: u32 = CHILD_FRAMES * MOST_CHILDREN;
 
 /// The most cores that may use memory.
 pub const MOST_CORES: u32 = 64;

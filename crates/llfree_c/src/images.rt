@@ -6,11 +6,8 @@ ghost use Rattle.llfree_c.specs.Images.{image_words, SaysOfChild, SaysAll, Stays
 ghost use Rattle.frame_slots.specs.Numbers.{most_frames};
 
 use frame_core::Image;
-use frame_words::{CHILD_FRAMES, CHILD_WORDS, MOST_CHILDREN, entry};
-
-pub(crate) const CHILD_NUMBERS: usize = 1 + CHILD_WORDS as usize;
-
-const MOST_FRAMES: u32 = CHILD_FRAMES * MOST_CHILDREN;
+use frame_slots::CHILD_NUMBERS;
+use frame_words::{CHILD_FRAMES, CHILD_WORDS, MOST_FRAMES, entry};
 
 /// How many numbers the image of so many frames has; none where there is no such memory.
 #[unsafe(no_mangle)]

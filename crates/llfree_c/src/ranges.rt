@@ -4,9 +4,8 @@ ghost use Rattle.std.specs.Prelude.{◌≡◌, IfOk, IfErr};
 ghost use Rattle.llfree_c.specs.Openings.{pairs_of, HasNoPairs};
 
 use crate::statuses::{BAD_RANGE, NO_MEMORY};
+use core_frames::MOST_RANGES;
 use std::alloc::Global;
-
-const MOST_RANGES: usize = 1024;
 
 /// So many frames from `first` on.
 #[repr(C)]

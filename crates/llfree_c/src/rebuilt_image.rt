@@ -8,8 +8,8 @@ ghost use Rattle.frame_core.specs.Words.{huge_of, set_of, bit_word_of, word_coun
 ghost use Rattle.llfree_c.specs.CoreImages.{SaysOfRebuilt, SaysRebuilt};
 ghost use Rattle.llfree_c.specs.Images.{StaysBehind};
 
-use crate::images::CHILD_NUMBERS;
 use frame_core::layout::{bits_place, entry_place};
+use frame_slots::CHILD_NUMBERS;
 use frame_words::{CHILD_FRAMES, CHILD_WORDS, Geometry, entry, entry_huge, lane};
 
 /// Writes the numbers of the image that the words are rebuilt to: each counter exact, from their bits

@@ -14,12 +14,9 @@ ghost use Rattle.llfree_c.specs.Replays.{StaysMemory, EndsReplay, FollowsImage, 
 use crate::statuses::{CONTENDED, NO_MEMORY};
 use core_frames::PlainAllocator;
 use frame_core::{FrameBlock, HeldBlock, PlainBlock};
-use frame_slots::{is_claimed, is_free, is_held, is_huge};
+use frame_slots::{MOST_STEPS, is_claimed, is_free, is_held, is_huge};
 use frame_words::{CHILD_FRAMES, HUGE_ORDER, TakeFault, child_of};
 use std::alloc::Global;
-
-// A memory has fewer frames, and fewer blocks on the way to them.
-const MOST_STEPS: u32 = 2 * 512 * 4096;
 
 /// Holds just what the image with these numbers holds. Of it the claimed blocks, which ascend, are out then, and
 /// all else is kept.

@@ -4,6 +4,7 @@ use Rattle.std.specs.List.{sum_by, All}
 use Rattle.std.specs.VecDeque.{deque_capacity}
 use lib.ListN.{get_elem?}
 use mathlib.Core.Option.{some}
+use Rattle.frame_words.specs.Runs.{child_words}
 use Rattle.frame_words.specs.declared.geometry.Geometry.{Geometry}
 use Rattle.frame_model.specs.declared.block.FrameBlock.{FrameBlock}
 use Rattle.frame_model.specs.declared.key.Key.{Key}
@@ -52,7 +53,7 @@ SomeBeginsElse child bs =
 
 -- the bit word is none of the child
 abbrev pub IsOutside : ℕ → ℕ → Type 0
-IsOutside child word = word / 8 ≢ child
+IsOutside child word = word / child_words ≢ child
 
 -- the view has no share
 abbrev pub HasNoShare : View → Type 0
@@ -60,7 +61,7 @@ HasNoShare u = u.share ≡ 0
 
 -- the party has room for a word of each child that it may fill
 abbrev pub HasRoomToFill : ℕ → Party → Type 0
-HasRoomToFill children p = 8 * children < deque_capacity p.filled
+HasRoomToFill children p = child_words * children < deque_capacity p.filled
 
 -- the party has nothing in flight
 pub record IsIdleParty (p : Party) : Type 0 where

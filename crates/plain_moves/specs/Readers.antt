@@ -1,5 +1,6 @@
 -- What the readers of an image say once a part of it was written.
 use Rattle.std.specs.Prelude.{◌≡◌, ◌≢◌, ℕ, ◌+◌, ◌*◌, ◌^◌, ◌<◌, List, length, Option, Bool, slice_index}
+use Rattle.frame_words.specs.Runs.{child_words}
 use Rattle.frame_words.specs.Words.{flag}
 use Rattle.frame_model.specs.declared.key.Key.{Key}
 use Rattle.frame_model.specs.Key.{tree_count}
@@ -9,7 +10,8 @@ use Rattle.frame_model.specs.Words.{free_of, huge_of, tree_free_of, reserved_of,
 -- the bits of the child are as before
 abbrev pub HasSameBitWords : Key → List ℕ → List ℕ → ℕ → Type 0
 HasSameBitWords key old new child =
-    (w : ℕ) → w < 8 → bit_word_of key new (8 * child + w) ≡ bit_word_of key old (8 * child + w)
+    (w : ℕ) → w < child_words
+    → bit_word_of key new (child_words * child + w) ≡ bit_word_of key old (child_words * child + w)
 
 -- the entry of the child says what it said
 abbrev pub HasSameEntry : List ℕ → List ℕ → ℕ → Type 0
@@ -38,9 +40,10 @@ AreSameCores key old new = (k : ℕ) → k < key.cores → rest_of key new k ≡
 -- these are eight bit words of the child, and the bits of frames past the end are set
 abbrev pub AreBits : Key → ℕ → List ℕ → Type 0
 AreBits key child bits =
-    (length bits ≡ 8)
-    × ((w : ℕ) → w < 8
-    → (slice_index bits w < 2 ^ 64) × SetsPastEnd key (8 * child + w) (slice_index bits w))
+    (length bits ≡ child_words)
+    × ((w : ℕ) → w < child_words
+    → (slice_index bits w < 2 ^ 64)
+    × SetsPastEnd key (child_words * child + w) (slice_index bits w))
 
 -- the entry of the child says this, and all else is as before
 pub record ReadsEntry (key : Key) (child free : ℕ) (huge : Bool) (old new : List ℕ) : Type 0 where
@@ -63,7 +66,8 @@ pub record ReadsWord (key : Key) (word bits : ℕ) (old new : List ℕ) : Type 0
 pub record ReadsChild (key : Key) (child free : ℕ) (huge : Bool) (bits old new : List ℕ) : Type 0 where
   pub count : free_of new child ≡ free
   pub is_huge : huge_of new child ≡ flag huge
-  pub here : (w : ℕ) → w < 8 → bit_word_of key new (8 * child + w) ≡ slice_index bits w
+  pub here : (w : ℕ) → w < child_words
+      → bit_word_of key new (child_words * child + w) ≡ slice_index bits w
   pub others : (c : ℕ) → c < key.children → c ≢ child
       → HasSameEntry old new c × HasSameBitWords key old new c
   pub trees : AreSameTrees key old new

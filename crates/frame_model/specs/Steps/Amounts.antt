@@ -1,6 +1,7 @@
 -- How steps change amounts, reservations and lists of blocks.
 use Rattle.std.specs.Prelude.{◌≡◌, ℕ, ◌+◌, ◌-◌, ◌*◌, ◌%◌, ◌^◌, ◌<◌, ◌≤◌, List, ◌∷◌, Option, Some, None, nat_eq, if◌then◌else◌}
 use Rattle.std.specs.List.{All, list_any}
+use Rattle.frame_words.specs.Runs.{child_words}
 use Rattle.frame_model.specs.declared.block.FrameBlock.{FrameBlock}
 use Rattle.frame_model.specs.declared.key.Key.{Key}
 use Rattle.frame_model.specs.declared.view.Amount.{Amount}
@@ -58,7 +59,7 @@ pub record Leaves (key : Key) (blocks : List FrameBlock) (b : FrameBlock)
 
 -- 2 ^ order bits of a bit word, from a multiple of their number on
 pub record IsRun (key : Key) (word from order : ℕ) : Type 0 where
-  pub inside : word < 8 * key.children
+  pub inside : word < child_words * key.children
   pub small : order ≤ 6
   pub aligned : from % 2 ^ order ≡ 0
   pub fits : from + 2 ^ order ≤ 64

@@ -1,5 +1,7 @@
 -- What a step asks of the view that makes it, and of the word that was seen.
 use Rattle.std.specs.Prelude.{◌≡◌, ℕ, ◌+◌, ◌*◌, ◌/◌, ◌^◌, ◌<◌, ◌≤◌, bit_and, List, Option, Some, None}
+use Rattle.frame_words.specs.Geometry.{child_frames, word_frames, tree_words}
+use Rattle.frame_words.specs.Runs.{child_words}
 use Rattle.frame_words.specs.Words.{free_in, flag_in, lane_in, rest_in}
 use Rattle.frame_model.specs.declared.block.FrameBlock.{FrameBlock}
 use Rattle.frame_model.specs.declared.key.Key.{Key}
@@ -26,32 +28,32 @@ pub record CanRefund (key : Key) (v : View) (child n : ℕ) : Type 0 where
 pub record CanClaim (key : Key) (v : View) (word seen from order : ℕ) : Type 0 where
   pub is_run : IsRun key word from order
   pub clear : bit_and seen (run from (2 ^ order)) ≡ 0
-  pub charged : 2 ^ order ≤ charged_in (word / 8) v
-  pub paid : 2 ^ order ≤ paid_on (word / 64) v
+  pub charged : 2 ^ order ≤ charged_in (word / child_words) v
+  pub paid : 2 ^ order ≤ paid_on (word / tree_words) v
 
 -- the frames of the run are in flight, and nothing is charged or paid elsewhere
 pub record CanRelease (key : Key) (v : View) (word from order : ℕ)
     (rest : List FrameBlock) : Type 0 where
   pub is_run : IsRun key word from order
-  pub leaves : Leaves key v.own (block (64 * word + from) order) rest
-  pub charged : NoneBut (word / 8) v.charged
-  pub paid : NoneBut (word / 64) v.paid
+  pub leaves : Leaves key v.own (block (word_frames * word + from) order) rest
+  pub charged : NoneBut (word / child_words) v.charged
+  pub paid : NoneBut (word / tree_words) v.paid
 
 -- the entry seen is that of a child that is free as a whole, and its frames are paid
 pub record CanTakeHuge (key : Key) (v : View) (child seen : ℕ) : Type 0 where
   pub inside : child < key.children
-  pub all_free : lane_in seen child ≡ 512
-  pub paid : 512 ≤ paid_on (tree_of_child child) v
+  pub all_free : lane_in seen child ≡ child_frames
+  pub paid : child_frames ≤ paid_on (tree_of_child child) v
   pub one_child : LiesIn v child
 
 -- the view has not filled a word of the child
 abbrev pub IsUnfilled : ℕ → View → Type 0
-IsUnfilled child v = (word : ℕ) → word / 8 ≡ child → names word v.filled ≡ 0
+IsUnfilled child v = (word : ℕ) → word / child_words ≡ child → names word v.filled ≡ 0
 
 -- the huge frame is in flight and unfilled, and nothing is paid on another tree
 pub record CanGiveHuge (key : Key) (v : View) (child : ℕ) (rest : List FrameBlock) : Type 0 where
   pub inside : child < key.children
-  pub leaves : Leaves key v.own (block (512 * child) 9) rest
+  pub leaves : Leaves key v.own (block (child_frames * child) 9) rest
   pub unfilled : IsUnfilled child v
   pub paid : NoneBut (tree_of_child child) v.paid
 
@@ -115,11 +117,11 @@ pub record CanCollect (key : Key) (v : View) (tree : ℕ) : Type 0 where
 
 -- the huge frame of the word is in flight
 pub record CanFillWord (key : Key) (v : View) (word : ℕ) : Type 0 where
-  pub inside : word < 8 * key.children
-  pub own : 0 < wholes (word / 8) v.own
+  pub inside : word < child_words * key.children
+  pub own : 0 < wholes (word / child_words) v.own
 
 -- the huge frame is in flight, and all of its words are filled
 pub record CanDropFlag (key : Key) (v : View) (child : ℕ) (rest : List FrameBlock) : Type 0 where
   pub inside : child < key.children
-  pub leaves : Leaves key v.own (block (512 * child) 9) rest
-  pub filled : (word : ℕ) → word / 8 ≡ child → names word v.filled ≡ 1
+  pub leaves : Leaves key v.own (block (child_frames * child) 9) rest
+  pub filled : (word : ℕ) → word / child_words ≡ child → names word v.filled ≡ 1
