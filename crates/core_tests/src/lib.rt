@@ -1,5 +1,5 @@
-//! Trials of `held_blocks` and `core_frames`: lists of blocks, which blocks are answered, in how many
-//! moves, and the words in between.
+//! Tests of `held_blocks` and `core_frames` that no run of the program reaches: each call once, and
+//! takes and splits with others in between.
 #![tactic(auto)]
 
 #[cfg(test)]

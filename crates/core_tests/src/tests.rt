@@ -1,9 +1,7 @@
 //! What no clause says.
 
 mod desk;
-mod labels;
 mod lists;
-mod moves;
 mod plain;
 mod random_scripts;
 mod scripted;

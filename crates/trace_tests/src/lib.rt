@@ -1,4 +1,4 @@
-//! Trials of `trace_text` and `llfree_trace`: worked traces, limits, and devices that are slow or fail.
+//! Tests of `trace_text` and `llfree_trace` that no run of the program reaches.
 #![tactic(auto)]
 
 #[cfg(test)]

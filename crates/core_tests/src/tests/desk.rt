@@ -104,73 +104,6 @@ fn is_not_held(rt: &impl Abort, allocator: &Allocator, desk: &mut Desk, frame: u
     assert_eq!(rt; answer.err(), Some(Fault::NotHeld));
 }
 
-// Asks for a block where none is free.
-fn finds_none(rt: &impl Abort, allocator: &Allocator, desk: &mut Desk, label: &Label, order: u8)
-    requires { IsDeskOf allocator.now desk.old }
-    ensures { IsDeskOf allocator.now desk.new }
-{
-    let answer = desk.take(allocator, label.again(), order);
-    assert_eq!(rt; answer.err(), Some(Fault::NoBlock));
-}
-
-#[test]
-fn a_desk_gives_the_oldest_block_under_a_label(rt: HostRuntime) -> Result<(), Fail> {
-    let (allocator, mut desk, other) = open(rt.alloc(), 1)?;
-    let (a, b) = (label(&rt, b"a"), label(&rt, b"b"));
-    let first = take(&allocator, &mut desk, &a, 0)?;
-    let middle = take(&allocator, &mut desk, &b, 6)?;
-    let last = take(&allocator, &mut desk, &a, 3)?;
-    assert_eq!(rt; (first.1, middle.1, last.1, desk.len()), (0, 6, 3, 3));
-    assert_eq!(rt; give(&allocator, &mut desk, &a)?, first);
-    assert_eq!(rt; give(&allocator, &mut desk, &a)?, last);
-    assert_eq!(rt; give(&allocator, &mut desk, &a).err(), Some(Fault::NotHeld));
-    assert_eq!(rt; give(&allocator, &mut desk, &b)?, middle);
-    assert_eq!(rt; desk.len(), 0);
-    let image = close(rt.alloc(), allocator, desk, other)?;
-    assert_eq!(rt; held_and_free(&image), (0, 512));
-    Ok(())
-}
-
-#[test]
-fn a_part_of_a_block_is_not_given(rt: HostRuntime) -> Result<(), Fail> {
-    let (allocator, mut desk, mut other) = open(rt.alloc(), 1)?;
-    let (frame, order) = take(&allocator, &mut desk, &label(&rt, b"a"), 5)?;
-    is_not_held(&rt, &allocator, &mut desk, frame, 4);
-    is_not_held(&rt, &allocator, &mut desk, frame, 6);
-    is_not_held(&rt, &allocator, &mut desk, frame ^ 1, 0);
-    is_not_held(&rt, &allocator, &mut desk, frame ^ 32, 5);
-    is_not_held(&rt, &allocator, &mut other, frame, order);
-    assert_eq!(rt;
-        desk.give_at(&allocator, frame, 10).err(),
-        Some(Fault::BadOrder)
-    );
-    assert_eq!(rt; desk.give_at(&allocator, frame, order)?, (frame, order));
-    assert_eq!(rt; desk.len(), 0);
-    let image = close(rt.alloc(), allocator, desk, other)?;
-    assert_eq!(rt; held_and_free(&image), (0, 512));
-    Ok(())
-}
-
-#[test]
-fn refused_takes_leave_the_list(rt: HostRuntime) -> Result<(), Fail> {
-    let (allocator, mut desk, other) = open(rt.alloc(), 1)?;
-    let a = label(&rt, b"a");
-    assert_eq!(rt;
-        desk.take(&allocator, a.again(), 10).err(),
-        Some(Fault::BadOrder)
-    );
-    assert_eq!(rt; take(&allocator, &mut desk, &a, 9)?, (0, 9));
-    finds_none(&rt, &allocator, &mut desk, &a, 0);
-    finds_none(&rt, &allocator, &mut desk, &a, 8);
-    finds_none(&rt, &allocator, &mut desk, &a, 9);
-    assert_eq!(rt; desk.len(), 1);
-    let (under, frame, order) = desk.at(0);
-    assert_eq!(rt; (under.bytes(), frame, order), (a.bytes(), 0, 9));
-    let image = close(rt.alloc(), allocator, desk, other)?;
-    assert_eq!(rt; (held_and_free(&image), image.huge(0)), ((512, 0), true));
-    Ok(())
-}
-
 #[test]
 fn a_block_moves_from_one_desk_to_another(rt: HostRuntime) -> Result<(), Fail> {
     let (allocator, mut from, mut to) = open(rt.alloc(), 8)?;
@@ -179,7 +112,13 @@ fn a_block_moves_from_one_desk_to_another(rt: HostRuntime) -> Result<(), Fail> {
     let stays = take(&allocator, &mut from, &a, 4)?;
     let before = take(&allocator, &mut to, &b, 0)?;
     assert_eq!(rt; move_over(&allocator, &mut from, &a, &mut to, &b)?, moved);
-    assert_eq!(rt; (from.len(), to.len()), (1, 2));
+    assert_eq!(rt; from.len(), 1);
+    assert_eq!(rt; to.len(), 2);
+    let (under, frame, order) = to.at(1);
+    assert_eq!(rt;
+        (under.bytes(), frame, order),
+        (b.bytes(), moved.0, moved.1)
+    );
     is_not_held(&rt, &allocator, &mut from, moved.0, moved.1);
     assert_eq!(rt;
         move_over(&allocator, &mut from, &b, &mut to, &a).err(),

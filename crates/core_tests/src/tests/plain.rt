@@ -3,10 +3,12 @@
 ghost use Rattle.std.specs.Prelude.{◌≡◌, ◌+◌, ◌<◌, [], IfOk, OnOk, vec_len};
 ghost use Rattle.std.specs.List.Sorted.{IsPermutation};
 
+use super::scripted::{Words, words_of};
 use core_frames::PlainAllocator;
 use frame_core::{HeldBlock, Image, PlainBlock};
 use frame_words::{Fault, Geometry, TakeFault};
 use std::alloc::Global;
+use std::process::Abort;
 use std::test::Fail;
 
 /// A call, with what it is to answer. Blocks stand in a list, oldest first.
@@ -21,8 +23,6 @@ enum Ask {
 }
 
 const NONE: Result<u32, TakeFault> = Err(TakeFault::NoBlock);
-
-const BAD_ORDER: Result<u32, TakeFault> = Err(TakeFault::BadOrder);
 
 fn take_into(
     allocator: &mut PlainAllocator,
@@ -118,13 +118,8 @@ fn answers_so(
 }
 
 // The image that the calls leave, if each answers as it is to.
-fn image_after(
-    alloc: Global,
-    geometry: Geometry,
-    ranges: &[(u32, u32)],
-    asks: &[Ask],
-) -> Result<Image, Fail> {
-    let mut allocator = PlainAllocator::open_with(alloc, geometry, ranges)?;
+fn image_after(alloc: Global, geometry: Geometry, asks: &[Ask]) -> Result<Image, Fail> {
+    let mut allocator = PlainAllocator::open(alloc, geometry)?;
     let mut blocks = Vec::new(alloc);
     for ask in asks {
         if !answers_so(&mut allocator, &mut blocks, geometry.cores(), *ask)? {
@@ -135,11 +130,6 @@ fn image_after(
         Ok(image) => Ok(image),
         Err(_) => Err(Fail::from("no memory")),
     }
-}
-
-// The same of a memory of whole children.
-fn image_of(alloc: Global, sizes: (u32, u32), asks: &[Ask]) -> Result<Image, Fail> {
-    image_after(alloc, Geometry::new(sizes.0, sizes.1)?, &[], asks)
 }
 
 // How many frames the words of an image hold, and how many its trees count as free or rest with a
@@ -166,298 +156,98 @@ pub(super) fn held_and_free(image: &Image) -> (u32, u32) {
     (held, free)
 }
 
-// The counter and the flag of a tree.
-fn tree_at(image: &Image, tree: u32) -> Option<(u32, bool)> {
-    if tree < image.geometry().trees() {
-        return Some((image.tree_free(tree), image.tree_reserved(tree)));
-    }
-    None
+// How many children there are, the calls, and the words that they leave of the last child.
+#[derive(Clone, Copy)]
+struct Run<'a> {
+    children: u32,
+    asks: &'a [Ask],
+    after: Words,
 }
 
-// The reservation of a core.
-fn rest_at(image: &Image, core: u32) -> Option<(u32, u32)> {
-    if core < image.geometry().cores() {
-        return image.local_at(core);
+// Checks the answers and the words of each run.
+fn are_answered(rt: &impl Abort, alloc: Global, runs: &[Run]) -> Result<(), Fail> {
+    for run in runs {
+        let image = image_after(alloc, Geometry::new(run.children, 1)?, run.asks)?;
+        let after = words_of(&image, run.children.saturating_sub(1))?;
+        assert_eq!(rt; after, run.after);
     }
-    None
-}
-
-// The counter and the flag of a child, and two of its bit words.
-fn child_at(image: &Image, child: u32, words: (u32, u32)) -> Option<(u32, bool, u64, u64)> {
-    if child < image.geometry().children() && words.0 < 8 && words.1 < 8 {
-        return Some((
-            image.free(child),
-            image.huge(child),
-            image.word(child, words.0),
-            image.word(child, words.1),
-        ));
-    }
-    None
-}
-
-#[test]
-fn one_frame(rt: HostRuntime) -> Result<(), Fail> {
-    let image = image_of(rt.alloc(), (1, 1), &[Ask::Take(0, 0, Ok(0))])?;
-    assert_eq!(rt; held_and_free(&image), (1, 511));
-    assert_eq!(rt; child_at(&image, 0, (0, 1)), Some((511, false, 1, 0)));
-    assert_eq!(rt; tree_at(&image, 0), Some((0, true)));
-    assert_eq!(rt; rest_at(&image, 0), Some((0, 511)));
     Ok(())
 }
 
-#[test]
-fn blocks_are_aligned(rt: HostRuntime) -> Result<(), Fail> {
-    let asks = [
-        Ask::Take(0, 0, Ok(0)),
-        Ask::Take(0, 3, Ok(8)),
-        Ask::Take(0, 0, Ok(1)),
-    ];
-    let image = image_of(rt.alloc(), (1, 1), &asks)?;
-    assert_eq!(rt; held_and_free(&image), (10, 502));
-    assert_eq!(rt; child_at(&image, 0, (0, 1)), Some((502, false, 65283, 0)));
-    assert_eq!(rt; rest_at(&image, 0), Some((0, 502)));
-    Ok(())
+// A child whose tree the core has reserved.
+fn reserved(entry: (u32, bool), rest: u32, bits: [u64; 8]) -> Words {
+    Words {
+        entry,
+        tree: (0, true),
+        rest: Some((0, rest)),
+        bits,
+    }
 }
 
-// The refused take puts the reservation back first.
 #[test]
-fn no_huge_frame_beside_a_block(rt: HostRuntime) -> Result<(), Fail> {
-    let asks = [
-        Ask::Take(0, 0, Ok(0)),
+fn blocks_are_taken_and_given(rt: HostRuntime) -> Result<(), Fail> {
+    let one = [Ask::Take(0, 0, Ok(0))];
+    let aligned = [one[0], Ask::Take(0, 3, Ok(8)), Ask::Take(0, 0, Ok(1))];
+    // The refused take puts the reservation back first.
+    let no_huge_frame = [
+        one[0],
         Ask::Take(0, 6, Ok(64)),
         Ask::Take(0, 7, Ok(128)),
         Ask::Take(0, 8, Ok(256)),
         Ask::Take(0, 9, NONE),
         Ask::Take(0, 0, Ok(1)),
     ];
-    let image = image_of(rt.alloc(), (1, 1), &asks)?;
-    assert_eq!(rt; held_and_free(&image), (450, 62));
-    assert_eq!(rt; tree_at(&image, 0), Some((0, true)));
-    assert_eq!(rt; rest_at(&image, 0), Some((0, 62)));
-    Ok(())
-}
-
-#[test]
-fn a_given_huge_frame_is_taken_again(rt: HostRuntime) -> Result<(), Fail> {
-    let asks = [
+    let again = [
         Ask::Take(0, 9, Ok(0)),
         Ask::Take(0, 0, NONE),
         Ask::Give(0, 0),
-        Ask::Take(0, 0, Ok(0)),
+        one[0],
     ];
-    let image = image_of(rt.alloc(), (1, 1), &asks)?;
-    assert_eq!(rt; held_and_free(&image), (1, 511));
-    assert_eq!(rt; rest_at(&image, 0), Some((0, 511)));
-    Ok(())
-}
-
-#[test]
-fn the_next_child_has_a_huge_frame(rt: HostRuntime) -> Result<(), Fail> {
-    let asks = [Ask::Take(0, 0, Ok(0)), Ask::Take(0, 9, Ok(512))];
-    let image = image_of(rt.alloc(), (2, 1), &asks)?;
-    assert_eq!(rt; held_and_free(&image), (513, 511));
-    assert_eq!(rt; child_at(&image, 1, (0, 7)), Some((0, true, 0, 0)));
-    assert_eq!(rt; rest_at(&image, 0), Some((0, 511)));
-    Ok(())
-}
-
-#[test]
-fn orders_end_at_9(rt: HostRuntime) -> Result<(), Fail> {
-    let asks = [
-        Ask::Take(0, 10, BAD_ORDER),
-        Ask::Take(0, 255, BAD_ORDER),
-        Ask::Take(0, 9, Ok(0)),
-        Ask::Take(0, 9, NONE),
-        Ask::Take(0, 10, BAD_ORDER),
+    let next_child = [one[0], Ask::Take(0, 9, Ok(512))];
+    let full = u64::MAX;
+    let runs = [
+        Run {
+            children: 1,
+            asks: &one,
+            after: reserved((511, false), 511, [1, 0, 0, 0, 0, 0, 0, 0]),
+        },
+        Run {
+            children: 1,
+            asks: &aligned,
+            after: reserved((502, false), 502, [0xff03, 0, 0, 0, 0, 0, 0, 0]),
+        },
+        Run {
+            children: 1,
+            asks: &no_huge_frame,
+            after: reserved(
+                (62, false),
+                62,
+                [3, full, full, full, full, full, full, full],
+            ),
+        },
+        Run {
+            children: 1,
+            asks: &again,
+            after: reserved((511, false), 511, [1, 0, 0, 0, 0, 0, 0, 0]),
+        },
+        Run {
+            children: 2,
+            asks: &next_child,
+            after: reserved((0, true), 511, [0; 8]),
+        },
     ];
-    let image = image_of(rt.alloc(), (1, 1), &asks)?;
-    assert_eq!(rt; held_and_free(&image), (512, 0));
-    Ok(())
+    are_answered(&rt, rt.alloc(), &runs)
 }
 
-// An order that is refused again without a search leaves the words as a search would: nothing rests.
+// The upper half of a huge frame is given; both frames of a pair are, and then all is one block again.
 #[test]
-fn a_refusal_puts_reservations_back(rt: HostRuntime) -> Result<(), Fail> {
-    let asks = [
-        Ask::Take(0, 0, Ok(0)),
-        Ask::Take(0, 9, NONE),
-        Ask::Take(0, 0, Ok(1)),
-        Ask::Take(0, 9, NONE),
-    ];
-    let image = image_of(rt.alloc(), (1, 1), &asks)?;
-    assert_eq!(rt; tree_at(&image, 0), Some((510, false)));
-    assert_eq!(rt; rest_at(&image, 0), None);
-    Ok(())
-}
-
-// After the ninth take the first tree is reserved no more; the fourth give in a row reserves it.
-#[test]
-fn the_fourth_give_reserves_its_tree(rt: HostRuntime) -> Result<(), Fail> {
-    let asks = [
-        Ask::Take(0, 9, Ok(0)),
-        Ask::Take(0, 9, Ok(512)),
-        Ask::Take(0, 9, Ok(1024)),
-        Ask::Take(0, 9, Ok(1536)),
-        Ask::Take(0, 9, Ok(2048)),
-        Ask::Take(0, 9, Ok(2560)),
-        Ask::Take(0, 9, Ok(3072)),
-        Ask::Take(0, 9, Ok(3584)),
-        Ask::Take(0, 9, Ok(4096)),
-        Ask::Give(0, 0),
-        Ask::Give(0, 0),
-        Ask::Give(0, 0),
-        Ask::Give(0, 0),
-    ];
-    let before = image_of(rt.alloc(), (16, 1), &asks[..9])?;
-    assert_eq!(rt;
-        (tree_at(&before, 0), rest_at(&before, 0)),
-        (Some((0, false)), Some((1, 3584)))
-    );
-    let third = image_of(rt.alloc(), (16, 1), &asks[..12])?;
-    assert_eq!(rt;
-        (tree_at(&third, 0), rest_at(&third, 0)),
-        (Some((1536, false)), Some((1, 3584)))
-    );
-    let image = image_of(rt.alloc(), (16, 1), &asks)?;
-    assert_eq!(rt; held_and_free(&image), (2560, 5632));
-    assert_eq!(rt;
-        (tree_at(&image, 0), tree_at(&image, 1)),
-        (Some((0, true)), Some((3584, false)))
-    );
-    assert_eq!(rt; rest_at(&image, 0), Some((0, 2048)));
-    Ok(())
-}
-
-// Three gives into the first tree, one into the own reservation, which clears the record, and three
-// more: only the next one reserves the tree.
-#[test]
-fn only_gives_in_a_row_reserve_a_tree(rt: HostRuntime) -> Result<(), Fail> {
-    let asks = [
-        Ask::Take(0, 9, Ok(0)),
-        Ask::Take(0, 9, Ok(512)),
-        Ask::Take(0, 9, Ok(1024)),
-        Ask::Take(0, 9, Ok(1536)),
-        Ask::Take(0, 9, Ok(2048)),
-        Ask::Take(0, 9, Ok(2560)),
-        Ask::Take(0, 9, Ok(3072)),
-        Ask::Take(0, 9, Ok(3584)),
-        Ask::Take(0, 9, Ok(4096)),
-        Ask::Give(0, 0),
-        Ask::Give(0, 0),
-        Ask::Give(0, 0),
-        Ask::Give(0, 5),
-        Ask::Give(0, 0),
-        Ask::Give(0, 0),
-        Ask::Give(0, 0),
-        Ask::Give(0, 0),
-    ];
-    let before = image_of(rt.alloc(), (16, 1), &asks[..16])?;
-    assert_eq!(rt;
-        (tree_at(&before, 0), rest_at(&before, 0)),
-        (Some((3072, false)), Some((1, 4096)))
-    );
-    let image = image_of(rt.alloc(), (16, 1), &asks)?;
-    assert_eq!(rt;
-        (tree_at(&image, 0), tree_at(&image, 1)),
-        (Some((0, true)), Some((4096, false)))
-    );
-    assert_eq!(rt; rest_at(&image, 0), Some((0, 3584)));
-    Ok(())
-}
-
-// The third core begins at a tree that is wholly free, and takes from one that is partly free.
-#[test]
-fn trees_that_are_partly_free_come_first(rt: HostRuntime) -> Result<(), Fail> {
-    let asks = [
-        Ask::Take(0, 9, Ok(0)),
-        Ask::Take(0, 9, Ok(512)),
-        Ask::Take(0, 9, Ok(1024)),
-        Ask::Take(0, 9, Ok(1536)),
-        Ask::Take(0, 9, Ok(2048)),
-        Ask::Take(0, 9, Ok(2560)),
-        Ask::Take(0, 9, Ok(3072)),
-        Ask::Take(0, 9, Ok(3584)),
-        Ask::Take(0, 9, Ok(4096)),
-        Ask::Give(0, 0),
-        Ask::Give(0, 0),
-        Ask::Give(0, 0),
-        Ask::Give(0, 0),
-        Ask::Take(2, 0, Ok(4608)),
-    ];
-    let image = image_of(rt.alloc(), (24, 3), &asks)?;
-    assert_eq!(rt; held_and_free(&image), (2561, 9727));
-    assert_eq!(rt; rest_at(&image, 2), Some((1, 3583)));
-    Ok(())
-}
-
-// Each core takes from the tree that it has reserved.
-#[test]
-fn cores_take_from_their_own_trees(rt: HostRuntime) -> Result<(), Fail> {
-    let asks = [
-        Ask::Take(0, 0, Ok(0)),
-        Ask::Take(1, 0, Ok(4096)),
-        Ask::Take(0, 0, Ok(1)),
-        Ask::Take(1, 0, Ok(4097)),
-        Ask::Give(1, 0),
-    ];
-    let image = image_of(rt.alloc(), (16, 2), &asks)?;
-    assert_eq!(rt; rest_at(&image, 0), Some((0, 4094)));
-    assert_eq!(rt; rest_at(&image, 1), Some((1, 4094)));
-    assert_eq!(rt; tree_at(&image, 0), Some((1, true)));
-    Ok(())
-}
-
-// The second core finds the only tree reserved, drains it and reserves it.
-#[test]
-fn a_core_drains_the_other(rt: HostRuntime) -> Result<(), Fail> {
-    let asks = [Ask::Take(0, 0, Ok(0)), Ask::Take(1, 0, Ok(1))];
-    let image = image_of(rt.alloc(), (8, 2), &asks)?;
-    assert_eq!(rt; child_at(&image, 0, (0, 1)), Some((510, false, 3, 0)));
-    assert_eq!(rt; tree_at(&image, 0), Some((0, true)));
-    assert_eq!(rt;
-        (rest_at(&image, 0), rest_at(&image, 1)),
-        (None, Some((0, 4094)))
-    );
-    Ok(())
-}
-
-// What the other core gave is collected into the reservation, which has too few.
-#[test]
-fn a_core_collects_what_another_gave(rt: HostRuntime) -> Result<(), Fail> {
-    let asks = [
-        Ask::Take(0, 9, Ok(0)),
-        Ask::Give(1, 0),
-        Ask::Take(0, 9, Ok(0)),
-    ];
-    let image = image_of(rt.alloc(), (1, 2), &asks)?;
-    assert_eq!(rt; child_at(&image, 0, (0, 7)), Some((0, true, 0, 0)));
-    assert_eq!(rt; tree_at(&image, 0), Some((0, true)));
-    assert_eq!(rt;
-        (rest_at(&image, 0), rest_at(&image, 1)),
-        (Some((0, 0)), None)
-    );
-    Ok(())
-}
-
-#[test]
-fn a_split_huge_frame_is_given_by_halves(rt: HostRuntime) -> Result<(), Fail> {
-    let asks = [
+fn blocks_are_split(rt: HostRuntime) -> Result<(), Fail> {
+    let half = [
         Ask::Take(0, 9, Ok(0)),
         Ask::Split(0, Some((0, 256))),
         Ask::Give(0, 1),
     ];
-    let image = image_of(rt.alloc(), (1, 1), &asks)?;
-    assert_eq!(rt;
-        child_at(&image, 0, (0, 3)),
-        Some((256, false, u64::MAX, u64::MAX))
-    );
-    assert_eq!(rt; child_at(&image, 0, (4, 7)), Some((256, false, 0, 0)));
-    Ok(())
-}
-
-#[test]
-fn both_halves_given_are_one_block(rt: HostRuntime) -> Result<(), Fail> {
-    let asks = [
+    let whole = [
         Ask::Take(0, 1, Ok(0)),
         Ask::Split(0, Some((0, 1))),
         Ask::Split(0, None),
@@ -465,97 +255,20 @@ fn both_halves_given_are_one_block(rt: HostRuntime) -> Result<(), Fail> {
         Ask::Give(0, 0),
         Ask::Take(0, 9, Ok(0)),
     ];
-    let image = image_of(rt.alloc(), (1, 1), &asks)?;
-    assert_eq!(rt; held_and_free(&image), (512, 0));
-    Ok(())
-}
-
-// 300 frames of the child exist: 256, 32, 8 and 4. Those past the end are set from the beginning.
-#[test]
-fn no_frame_past_the_end_is_taken(rt: HostRuntime) -> Result<(), Fail> {
-    let geometry = Geometry {
-        children: 1,
-        cores: 1,
-        frames: 300,
-    };
-    let fresh = image_after(rt.alloc(), geometry, &[], &[])?;
-    assert_eq!(rt;
-        child_at(&fresh, 0, (4, 7)),
-        Some((300, false, 0xffff_f000_0000_0000, u64::MAX))
-    );
-    assert_eq!(rt;
-        (tree_at(&fresh, 0), rest_at(&fresh, 0)),
-        (Some((300, false)), None)
-    );
-    let asks = [
-        Ask::Take(0, 8, Ok(0)),
-        Ask::Take(0, 8, NONE),
-        Ask::Take(0, 9, NONE),
-        Ask::Take(0, 5, Ok(256)),
-        Ask::Take(0, 3, Ok(288)),
-        Ask::Take(0, 2, Ok(296)),
-        Ask::Take(0, 0, NONE),
+    let full = u64::MAX;
+    let runs = [
+        Run {
+            children: 1,
+            asks: &half,
+            after: reserved((256, false), 256, [full, full, full, full, 0, 0, 0, 0]),
+        },
+        Run {
+            children: 1,
+            asks: &whole,
+            after: reserved((0, true), 0, [0; 8]),
+        },
     ];
-    let some = image_after(rt.alloc(), geometry, &[], &asks[..4])?;
-    assert_eq!(rt; held_and_free(&some), (500, 12));
-    let image = image_after(rt.alloc(), geometry, &[], &asks)?;
-    assert_eq!(rt; held_and_free(&image), (512, 0));
-    Ok(())
-}
-
-// How many frames are held and free of one child with a range after the calls, if each answers as it is to.
-fn counts_beside(alloc: Global, range: (u32, u32), asks: &[Ask]) -> Result<(u32, u32), Fail> {
-    let image = image_after(alloc, Geometry::new(1, 1)?, &[range], asks)?;
-    Ok(held_and_free(&image))
-}
-
-#[test]
-fn no_frame_of_a_range_is_taken(rt: HostRuntime) -> Result<(), Fail> {
-    let asks = [Ask::Take(0, 3, Ok(8)), Ask::Take(0, 0, Ok(16))];
-    assert_eq!(rt; counts_beside(rt.alloc(), (0, 8), &asks)?, (17, 495));
-    let none = [Ask::Take(0, 0, NONE)];
-    assert_eq!(rt; counts_beside(rt.alloc(), (0, 512), &none)?, (512, 0));
-    let last = image_after(rt.alloc(), Geometry::new(1, 1)?, &[(0, 1), (511, 1)], &[])?;
-    assert_eq!(rt;
-        child_at(&last, 0, (0, 7)),
-        Some((510, false, 1, 0x8000_0000_0000_0000))
-    );
-    Ok(())
-}
-
-// Is an opening with these ranges refused for them?
-fn are_bad(alloc: Global, children: u32, ranges: &[(u32, u32)]) -> Result<bool, Fault> {
-    match PlainAllocator::open_with(alloc, Geometry::new(children, 1)?, ranges) {
-        Ok(_) => Ok(false),
-        Err(Fault::BadRange) => Ok(true),
-        Err(fault) => Err(fault),
-    }
-}
-
-#[test]
-fn ranges_ascend_and_end_inside(rt: HostRuntime) -> Result<(), Fail> {
-    let alloc = rt.alloc();
-    assert!(rt; are_bad(alloc, 1, &[(0, 0)])?);
-    assert!(rt; are_bad(alloc, 1, &[(510, 3)])?);
-    assert!(rt; are_bad(alloc, 1, &[(8, 4), (11, 1)])?);
-    assert!(rt; are_bad(alloc, 1, &[(12, 1), (8, 4)])?);
-    assert!(rt; are_bad(alloc, 1, &[(u32::MAX, 1)])?);
-    assert!(rt; are_bad(alloc, 1, &[(1, u32::MAX)])?);
-    assert!(rt; !are_bad(alloc, 1, &[(8, 4), (12, 500)])?);
-    assert!(rt; !are_bad(alloc, 1, &[])?);
-    Ok(())
-}
-
-#[test]
-fn there_are_at_most_1024_ranges(rt: HostRuntime) -> Result<(), Fail> {
-    let mut ranges = Vec::new(rt.alloc());
-    for i in 0..1024u32 {
-        ranges.push((2 * i, 1u32))?;
-    }
-    assert!(rt; !are_bad(rt.alloc(), 5, &ranges)?);
-    ranges.push((2048, 1))?;
-    assert!(rt; are_bad(rt.alloc(), 5, &ranges)?);
-    Ok(())
+    are_answered(&rt, rt.alloc(), &runs)
 }
 
 // Keeps a block of the order that it takes.

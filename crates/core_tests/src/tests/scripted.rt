@@ -54,17 +54,18 @@ fn stranger(at: u32, act: Act) -> Cue {
     }
 }
 
-fn words_of(image: &Image) -> Result<Words, Fail> {
+// The words of a child, in a memory of one tree.
+pub(super) fn words_of(image: &Image, child: u32) -> Result<Words, Fail> {
     let geometry = image.geometry();
-    if geometry.children() != 1 || geometry.trees() != 1 {
+    if child >= geometry.children() || geometry.trees() != 1 {
         return Err(Fail::from("another memory"));
     }
     let mut bits = [0; 8];
     for word in 0..8u32 {
-        bits[word as usize] = image.word(0, word);
+        bits[word as usize] = image.word(child, word);
     }
     Ok(Words {
-        entry: (image.free(0), image.huge(0)),
+        entry: (image.free(child), image.huge(child)),
         tree: (image.tree_free(0), image.tree_reserved(0)),
         rest: image.local_at(0),
         bits,
@@ -129,9 +130,9 @@ fn outcome_of(
     before: u64,
     answer: Result<u32, TakeFault>,
 ) -> Result<Outcome, Fail> {
-    let after = words_of(&m.plain().image(alloc)?)?;
+    let after = words_of(&m.plain().image(alloc)?, 0)?;
     let stop = match m.stopped() {
-        Some(image) => Some(words_of(image)?),
+        Some(image) => Some(words_of(image, 0)?),
         None => None,
     };
     Ok(Outcome {

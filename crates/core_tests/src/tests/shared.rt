@@ -4,7 +4,6 @@ ghost use Rattle.std.specs.Prelude.{IfOk, IfSome};
 ghost use Rattle.std.specs.List.{All};
 ghost use Rattle.core_frames.specs.Cores.{IsCoreOf, IsOutOf};
 
-use super::plain::held_and_free;
 use core_frames::{Allocator, CloseFault, Core};
 use frame_core::{HeldBlock, Image};
 use frame_table::Block;
@@ -12,7 +11,6 @@ use frame_words::{Fault, Geometry, TakeFault};
 use std::alloc::Global;
 use std::process::Abort;
 use std::test::Fail;
-use std::thread::join;
 
 // The last core of a list.
 fn next_core(allocator: &Allocator, cores: &mut Vec<Core>) -> Option<Core>
@@ -130,74 +128,6 @@ fn a_huge_frame_is_split_to_the_end(rt: HostRuntime) -> Result<(), Fail> {
     let image = close_two(rt.alloc(), allocator, first, second)?;
     assert_eq!(rt; (image.free(0), image.huge(0)), (383, false));
     assert_eq!(rt; (image.word(0, 0), image.word(0, 2)), (1, u64::MAX));
-    Ok(())
-}
-
-#[test]
-fn ranges_are_refused_by_the_rule(rt: HostRuntime) -> Result<(), Fail> {
-    let geometry = Geometry::new(1, 1)?;
-    for (ranges, lawful) in [
-        ([(0, 8), (8, 8)], true),
-        ([(0, 1), (511, 1)], true),
-        ([(0, 0), (8, 8)], false),
-        ([(8, 4), (11, 1)], false),
-        ([(0, 1), (510, 3)], false),
-        ([(0, 1), (u32::MAX, u32::MAX)], false),
-    ] {
-        let opened = Allocator::open_with(rt.alloc(), geometry, &ranges);
-        assert_eq!(rt; opened.is_ok(), lawful);
-        if let Err(fault) = opened {
-            assert_eq!(rt; fault, Fault::BadRange);
-        }
-    }
-    Ok(())
-}
-
-#[test]
-fn each_core_takes_from_a_tree_of_its_own(rt: HostRuntime) -> Result<(), Fail> {
-    let (allocator, mut cores) = open(rt.alloc(), 16, 2)?;
-    let mut second = next_core(&allocator, &mut cores).ok_or("a core")?;
-    let mut first = next_core(&allocator, &mut cores).ok_or("a core")?;
-    let one = allocator.take(&mut first, 0).map_err(Fault::from)?;
-    let other = allocator.take(&mut second, 0).map_err(Fault::from)?;
-    assert_eq!(rt; (one.frame(), other.frame()), (0, 4096));
-    Ok(())
-}
-
-// Takes and gives, so many times. Answers the core.
-fn work(allocator: &Allocator, mut core: Core, order: u8, count: u64) -> Core
-    requires { IsCoreOf allocator.now core }
-    ensures { IsCoreOf allocator.entry.now result }
-{
-    for _i in 0..count {
-        if let Ok(block) = allocator.take(&mut core, order) {
-            allocator.give(&mut core, block);
-        }
-    }
-    core
-}
-
-#[test]
-fn two_threads_leave_all_frames_free(rt: HostRuntime) -> Result<(), Fail> {
-    for (left, right) in [(0, 0), (0, 9), (9, 9), (8, 3)] {
-        let (allocator, mut cores) = open(rt.alloc(), 8, 2)?;
-        let second = next_core(&allocator, &mut cores).ok_or("a core")?;
-        let first = next_core(&allocator, &mut cores).ok_or("a core")?;
-        let shared = &allocator;
-        let (first, second) = join(
-            &rt,
-            move || -> Core
-                requires { IsCoreOf shared.now first }
-                ensures { IsCoreOf shared.entry.now result }
-            { work(shared, first, left, 1000) },
-            move || -> Core
-                requires { IsCoreOf shared.now second }
-                ensures { IsCoreOf shared.entry.now result }
-            { work(shared, second, right, 1000) },
-        );
-        let image = close_two(rt.alloc(), allocator, first, second)?;
-        assert_eq!(rt; held_and_free(&image), (0, 4096));
-    }
     Ok(())
 }
 
