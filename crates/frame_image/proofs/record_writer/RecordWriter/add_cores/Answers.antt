@@ -3,7 +3,7 @@ use Rattle.csv.specs.Writing.{default_writer, row_text}
 use Rattle.frame_core.specs.Image.{key_in}
 use Rattle.frame_image.specs.ImageText.{core_row, rest_row}
 use Rattle.frame_image.proofs.Writing.{text_more, core_row_is}
-use Rattle.frame_image.proofs.image_writer.RecordWriter.add_cores.Goals as goal
+use Rattle.frame_image.proofs.record_writer.RecordWriter.add_cores.Goals as goal
 
 pub loop-core-preserved : goal.loop-core-preserved
 loop-core-preserved c =

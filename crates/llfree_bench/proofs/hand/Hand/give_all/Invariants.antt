@@ -1,6 +1,6 @@
 use Rattle.std.proofs.Common.{vec_len}
 use Rattle.llfree_bench.specs.Hands.{IsHandOf}
-use Rattle.llfree_bench.proofs.turns.Hand.give_all.Given as goal
+use Rattle.llfree_bench.proofs.hand.Hand.give_all.Given as goal
 
 abbrev pub invariant-loop-block : goal.invariant-loop-block
 invariant-loop-block l = IsHandOf l.memory l.self

@@ -1,5 +1,5 @@
 use Rattle.llfree_bench.specs.Hands.{IsHandOf}
-use Rattle.llfree_bench.proofs.turns.Hand.fill.Given as goal
+use Rattle.llfree_bench.proofs.hand.Hand.fill_once.Given as goal
 
 abbrev pub invariant-loop-i : goal.invariant-loop-i
 invariant-loop-i l = IsHandOf l.memory l.self
