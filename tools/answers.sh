@@ -124,6 +124,7 @@ answered() {
     done < <(rows answered/images)
     full_child
     half_free
+    cut_child
     held_back
     all_taken
     for orders in '0 0' '0 9' '9 9' '8 3'; do
@@ -233,6 +234,25 @@ half_free() {
     runs image 1 1 <"$work/input"
     expects 'the image of every second frame' 0 "$(lines_of 'llfree,1,1,1,\nchild,0,256,0,5{128}
 tree,0,256,0,\ncore,0,,,')" ''
+}
+
+# cut_child: of 300 frames of a child as many blocks of an order are taken as fit, one behind the other, and no more
+cut_child() {
+    local order size cores
+    for order in 9 8 7 6 5 4 3 2 1 0; do
+        size=$((1 << order))
+        lines $((300 / size + 1)) "0,take,a,$order" >"$work/input"
+        seq 0 $size $((300 - size)) | awk -v size=$size -v order=$order '
+            { print NR ",0,Taken," $1 "," order }
+            END { print NR + 1 ",0,NoBlock,,"
+                  print "end,,Closed," 212 + NR * size "," 300 - NR * size }' >"$work/answers"
+        for cores in 1 2; do
+            is_answered "a cut child, order $order" 1 "$cores" 300
+        done
+    done
+    runs image 1 1 300 <"$work/input"
+    expects 'the image of a cut child' 0 "$(lines_of 'llfree,2,1,1,300\nchild,0,0,0,f{128}
+tree,0,0,0,\ncore,0,,,')" ''
 }
 
 # held_back: all frames outside the ranges and before the end are taken, in their order, and given again

@@ -1,2 +1,1 @@
 pub mod PayLemmas
-pub mod InUse

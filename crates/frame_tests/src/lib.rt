@@ -1,4 +1,4 @@
-//! The work of cores in trees of one shared table, and trials of it with threads.
+//! The work of cores in trees of one shared table, and tests of it with threads.
 #![tactic(auto)]
 
 mod blocks;

@@ -1,8 +1,4 @@
 mod closings;
-mod cut;
-mod random;
-mod ranges;
-mod reopenings;
 mod seats;
 mod stops;
 mod sums;

@@ -1,4 +1,4 @@
-//! Trials of `frame_image` that no run of the program reaches.
+//! Tests of `frame_image` that no run of the program reaches.
 #![tactic(auto)]
 
 #[cfg(test)]

@@ -1,5 +1,5 @@
-//! Trials of `frame_words`, `frame_core`, `plain_moves` and `low_frames`: worked values, images, moves by
-//! hand and by scripts, what takes answer, and the words between two moves.
+//! Tests of `frame_words`, `frame_core`, `plain_moves` and `low_frames` that no run of the program
+//! reaches.
 #![tactic(auto)]
 
 #[cfg(test)]

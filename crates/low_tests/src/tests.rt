@@ -1,12 +1,5 @@
 //! What no clause says.
 
-mod answers;
-mod calls;
-mod counts;
-mod ends;
-mod fresh;
-mod image;
-mod plain;
-mod script;
+mod places;
 mod scripted;
 mod words;

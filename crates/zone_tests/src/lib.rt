@@ -1,4 +1,4 @@
-//! Trials of `frame_zones`: which zone a block is of, holes, blocks that another thread gives, refused openings, and
+//! Tests of `frame_zones`: which zone a block is of, holes, blocks that another thread gives, refused openings, and
 //! closings.
 #![tactic(auto)]
 

@@ -1,34 +1,11 @@
-//! What a closing asks, and what it gives where a block is out.
+//! What a closing gives where a block is out.
 
 use super::seats::{bring_back, next_seat};
 use crate::take_one;
 use frame_core::HeldBlock;
-use frame_table::{TableFault, close_table, open_table};
-use frame_words::{Fault, Geometry};
+use frame_table::{close_table, open_table};
+use frame_words::Geometry;
 use std::test::Fail;
-
-#[test]
-fn closing_wants_each_core(rt: HostRuntime) -> Result<(), Fail> {
-    let geometry = Geometry::new(1, 2)?;
-    let (table, mut seats) = open_table(rt.alloc(), &geometry)?;
-    let last = next_seat(&table, &mut seats).ok_or("a seat")?;
-    let Err(
-        TableFault {
-            fault,
-            table,
-            seats,
-        },
-    ) = close_table(rt.alloc(), table, seats)
-    else {
-        panic!(rt; "it closed without a core");
-    };
-    assert_eq!(rt; fault, Fault::MissingCores);
-    assert_eq!(rt; seats.len(), 1);
-    let seats = bring_back(&table, seats, last)?;
-    let image = close_table(rt.alloc(), table, seats).map_err(|e| e.fault)?;
-    assert_eq!(rt; image.geometry(), geometry);
-    Ok(())
-}
 
 // The lowest frames of a fresh child are taken first. A block below order 9 is held by its bits, a
 // huge frame by its flag.

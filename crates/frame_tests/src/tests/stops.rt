@@ -8,11 +8,10 @@ ghost use Rattle.core_frames.specs.Cores.{IsCoreOf, IsOutOf};
 ghost use Rattle.core_frames.specs.Left.{IsSurvivorsOf};
 ghost use Rattle.core_frames.specs.Searches.{MayBegin};
 
-use super::random::{bring_back, next_core};
 use super::sums::assert_adds_up;
 use core_frames::{Allocator, Core, Habit, Survivors, give_by, split_by, take_by};
 use frame_core::{Image, Moves, PlainBlock};
-use frame_image::{held_frames, rebuild, report};
+use frame_image::{held_frames, rebuild, reopen, report};
 use frame_table::Block;
 use frame_words::{Fault, Geometry};
 use plain_moves::{Cue, PlainMoves, ScriptMoves, What};
@@ -122,8 +121,7 @@ fn reopened(alloc: Global, image: &Image) -> Result<(Allocator, Vec<Core>, Survi
     ensures cores { IfOk result (λ r. All (IsCoreOf r.0) r.1.items) }
     ensures survivors { IfOk result (λ r. IsSurvivorsOf r.0 r.2) }
 {
-    let image = rebuild(alloc, image)?;
-    Allocator::open_at(alloc, &image)
+    reopen(alloc, image)
 }
 
 // A frame, an order, and why the block is not adopted, if it is not.
@@ -170,6 +168,28 @@ fn give_all(allocator: &Allocator, mut core: Core, mut blocks: Vec<Block>) -> Co
         }
     }
     core
+}
+
+// The last core of a list.
+fn next_core(allocator: &Allocator, cores: &mut Vec<Core>) -> Option<Core>
+    requires cores { All (IsCoreOf allocator.now) cores.old.items }
+    ensures core { IfSome result (IsCoreOf allocator.now) }
+    ensures left { All (IsCoreOf allocator.now) cores.new.items }
+{
+    let _ = allocator;
+    cores.pop()
+}
+
+fn bring_back(allocator: &Allocator, mut cores: Vec<Core>, core: Core) -> Result<Vec<Core>, Fault>
+    requires core { IsCoreOf allocator.now core }
+    requires cores { All (IsCoreOf allocator.now) cores.items }
+    ensures { IfOk result (λ all. All (IsCoreOf allocator.entry.now) all.items) }
+{
+    let _ = allocator;
+    let Ok(()) = cores.push(core) else {
+        return Err(Fault::NoMemory);
+    };
+    Ok(cores)
 }
 
 // The closing words of a memory that was opened at an image, rebuilt, once the blocks were adopted
@@ -328,7 +348,8 @@ fn each_stop_leaves_what_was_out(rt: HostRuntime) -> Result<(), Fail> {
     assert_each_stop(&rt, alloc, take, &held, &out)
 }
 
-// Three frames are held. Each can be adopted once, in a block whose frames are all held and left.
+// Three frames are held. Each can be adopted once, in a block whose frames are all held and left; of a
+// memory that ends inside its child nobody adopts what is past the end.
 #[test]
 fn what_is_held_is_adopted_once(rt: HostRuntime) -> Result<(), Fail> {
     let alloc = rt.alloc();
@@ -354,5 +375,8 @@ fn what_is_held_is_adopted_once(rt: HostRuntime) -> Result<(), Fail> {
         return Err(Fail::from("another memory"));
     }
     assert_eq!(rt; closed.tree_free(0), 512);
+    let cut = Image::new(alloc, &Geometry::with_frames(1, 1, 300)?)?;
+    let asks: [Ask; 3] = [(300, 0, none), (511, 0, none), (256, 8, none)];
+    assert_lost(&rt, &given_back(alloc, &cut, &asks)?, 212);
     Ok(())
 }

@@ -15,12 +15,12 @@ use std::thread::{Threads, join};
 
 /// What a core is to do in tree 0.
 #[derive(Clone, Copy)]
-pub(super) struct Task {
-    pub(super) order: u8,
+struct Task {
+    order: u8,
     // Pairs for which was paid once, and then tries that pay each for itself.
-    pub(super) pairs: u64,
-    pub(super) tries: u64,
-    pub(super) ghost lawful: { order ≤ 9 },
+    pairs: u64,
+    tries: u64,
+    ghost lawful: { order ≤ 9 },
 }
 
 fn run(table: &FrameTable, mut core: CoreSeat, task: Task) -> CoreSeat
@@ -48,7 +48,7 @@ fn run_and_take(table: &FrameTable, core: CoreSeat, task: Task) -> (CoreSeat, Op
     (core, block)
 }
 
-pub(super) fn give_and_run(
+fn give_and_run(
     table: &FrameTable,
     mut core: CoreSeat,
     block: Option<Block>,

@@ -208,28 +208,73 @@ fn is_held(order: u8, outcome: &Outcome) -> bool
     true
 }
 
-// The order, the cues; the block's first frame, the moves, and the words afterwards.
+// The order, the cues; the block's first frame, the moves, how many cues were not made, and the words
+// afterwards.
 #[derive(Clone, Copy)]
 struct Row<'a> {
     order: u8,
     cues: &'a [Cue],
     frame: Option<u32>,
     moves: u64,
+    skipped: u32,
     entry: u32,
     tree: u32,
     bits: [u64; 8],
 }
 
-// A lost charge is tried again, four times in all. Where a stranger claims a frame of a group of
-// words, what was claimed of it is released, and the next group is claimed.
+// Beside nobody, and where exchanges are lost. A lost charge is tried again, four times in all; a load
+// cannot be lost, and a stranger that has paid nothing cannot refund. Where a stranger claims a frame
+// of a group of words, what was claimed of it is released, and the next group is claimed.
 #[test]
 fn takes_go_on_after_lost_exchanges(rt: HostRuntime) -> Result<(), Fail> {
+    let refunds_nothing = stranger(1, 0, Act::TreeRefund { tree: 0, n: 1 });
     let rows = [
+        Row {
+            order: 0,
+            cues: &[],
+            frame: Some(0),
+            moves: 5,
+            skipped: 0,
+            entry: 511,
+            tree: 511,
+            bits: [1, 0, 0, 0, 0, 0, 0, 0],
+        },
+        Row {
+            order: 7,
+            cues: &[],
+            frame: Some(0),
+            moves: 13,
+            skipped: 0,
+            entry: 384,
+            tree: 384,
+            bits: [FULL, FULL, 0, 0, 0, 0, 0, 0],
+        },
+        Row {
+            order: 8,
+            cues: &[],
+            frame: Some(0),
+            moves: 15,
+            skipped: 0,
+            entry: 256,
+            tree: 256,
+            bits: [FULL, FULL, FULL, FULL, 0, 0, 0, 0],
+        },
+        Row {
+            order: 0,
+            cues: &[lose(0), refunds_nothing, lose(1)],
+            frame: Some(0),
+            moves: 7,
+            skipped: 2,
+            entry: 511,
+            tree: 511,
+            bits: [1, 0, 0, 0, 0, 0, 0, 0],
+        },
         Row {
             order: 0,
             cues: &[lose(1)],
             frame: Some(0),
             moves: 7,
+            skipped: 0,
             entry: 511,
             tree: 511,
             bits: [1, 0, 0, 0, 0, 0, 0, 0],
@@ -239,6 +284,7 @@ fn takes_go_on_after_lost_exchanges(rt: HostRuntime) -> Result<(), Fail> {
             cues: &[lose(1), lose(3), lose(5), lose(7)],
             frame: None,
             moves: 8,
+            skipped: 0,
             entry: 512,
             tree: 511,
             bits: [0; 8],
@@ -248,6 +294,7 @@ fn takes_go_on_after_lost_exchanges(rt: HostRuntime) -> Result<(), Fail> {
             cues: &claims(0, 1, 11),
             frame: Some(128),
             moves: 17,
+            skipped: 0,
             entry: 383,
             tree: 383,
             bits: [0, 1, FULL, FULL, 0, 0, 0, 0],
@@ -257,6 +304,7 @@ fn takes_go_on_after_lost_exchanges(rt: HostRuntime) -> Result<(), Fail> {
             cues: &claims(0, 3, 13),
             frame: Some(256),
             moves: 23,
+            skipped: 0,
             entry: 255,
             tree: 255,
             bits: [0, 0, 0, 1, FULL, FULL, FULL, FULL],
@@ -274,7 +322,7 @@ fn takes_go_on_after_lost_exchanges(rt: HostRuntime) -> Result<(), Fail> {
         };
         assert_eq!(rt; (outcome.frame, outcome.moves), (row.frame, row.moves));
         assert_eq!(rt; outcome.after, after);
-        assert_eq!(rt; outcome.skipped, 0);
+        assert_eq!(rt; outcome.skipped, row.skipped);
     }
     Ok(())
 }

@@ -36,41 +36,28 @@ fn each_fault_has_its_text(rt: HostRuntime) -> Result<(), Fail> {
     for (fault, text) in texts {
         assert_eq!(rt; fault.to_string(rt.alloc())?.as_str(), text);
     }
-    Ok(())
-}
-
-#[test]
-fn a_refused_take_has_the_text_of_its_fault(rt: HostRuntime) -> Result<(), Fail> {
-    let texts = [
+    let refusals = [
         (TakeFault::BadOrder, "bad order"),
         (TakeFault::NoBlock, "no block"),
         (TakeFault::Contended, "contended"),
     ];
-    for (fault, text) in texts {
+    for (fault, text) in refusals {
         assert_eq!(rt; fault.to_string(rt.alloc())?.as_str(), text);
         assert_eq!(rt; Fault::from(fault).to_string(rt.alloc())?.as_str(), text);
     }
+    assert_eq!(rt; fault_from(AllocError), Fault::NoMemory);
+    assert_eq!(rt; fault_from(AllocFailed { value: 7u8 }), Fault::NoMemory);
     Ok(())
 }
 
 #[test]
-fn refused_memory_is_a_fault(rt: HostRuntime) {
-    assert_eq!(rt; fault_from(AllocError), Fault::NoMemory);
-    assert_eq!(rt; fault_from(AllocFailed { value: 7u8 }), Fault::NoMemory);
-}
-
-#[test]
-fn a_geometry_ends_at_its_limits(rt: HostRuntime) {
+fn sizes_end_at_their_limits(rt: HostRuntime) -> Result<(), Fail> {
     for (children, cores) in [(1, 1), (4096, 64)] {
         assert!(rt; Geometry::new(children, cores).is_ok());
     }
     for (children, cores) in [(0, 1), (4097, 1), (1, 0), (1, 65)] {
         assert_eq!(rt; Geometry::new(children, cores), Err(Fault::BadGeometry));
     }
-}
-
-#[test]
-fn frames_end_in_the_last_child(rt: HostRuntime) {
     for (children, cores, frames) in [(1, 1, 1), (1, 1, 512), (2, 1, 513), (4096, 64, 2097152)] {
         let made = Geometry::with_frames(children, cores, frames);
         assert_eq!(rt; made.map(|geometry| geometry.frames()), Ok(frames));
@@ -86,10 +73,6 @@ fn frames_end_in_the_last_child(rt: HostRuntime) {
     ] {
         assert_eq!(rt; Geometry::with_frames(children, cores, frames), Err(fault));
     }
-}
-
-#[test]
-fn the_last_tree_may_have_fewer_children(rt: HostRuntime) -> Result<(), Fail> {
     let geometry = Geometry::new(9, 2)?;
     assert_eq!(rt; geometry.children(), 9);
     assert_eq!(rt; geometry.cores(), 2);
@@ -97,11 +80,6 @@ fn the_last_tree_may_have_fewer_children(rt: HostRuntime) -> Result<(), Fail> {
     assert_eq!(rt; geometry.trees(), 2);
     assert_eq!(rt; geometry.tree_size(0), 4096);
     assert_eq!(rt; geometry.tree_size(1), 512);
-    Ok(())
-}
-
-#[test]
-fn a_frame_has_its_child_and_its_tree(rt: HostRuntime) {
     for (frame, child, tree) in [
         (0, 0, 0),
         (511, 0, 0),
@@ -112,34 +90,23 @@ fn a_frame_has_its_child_and_its_tree(rt: HostRuntime) {
         assert_eq!(rt; child_of(frame), child);
         assert_eq!(rt; tree_of(frame), tree);
     }
+    Ok(())
 }
 
 #[test]
-fn an_entry_has_its_layout(rt: HostRuntime) {
+fn words_have_their_layouts(rt: HostRuntime) {
     assert_eq!(rt; entry(512, false), 512);
     assert_eq!(rt; entry(0, true), 32768);
     assert_eq!(rt; entry_free(511), 511);
     assert_eq!(rt; entry_huge(512), false);
     assert_eq!(rt; entry_huge(32768), true);
-}
-
-#[test]
-fn a_tree_word_has_its_layout(rt: HostRuntime) {
     assert_eq!(rt; tree(1, true), 32769);
     assert_eq!(rt; tree_free(32769), 1);
     assert_eq!(rt; tree_reserved(32769), true);
-}
-
-#[test]
-fn a_local_word_has_its_layout(rt: HostRuntime) {
     assert_eq!(rt; local(None), 0);
     assert_eq!(rt; local(Some((1, 3584))), 9223372041149746688);
     assert_eq!(rt; local_of(0), None);
     assert_eq!(rt; local_of(0x8000_0001_0000_0e00), Some((1, 3584)));
-}
-
-#[test]
-fn four_entries_stand_in_a_word(rt: HostRuntime) {
     let word = with_lane(0, 0, 511);
     let word = with_lane(word, 1, 512);
     let word = with_lane(word, 2, 32768);
@@ -150,14 +117,10 @@ fn four_entries_stand_in_a_word(rt: HostRuntime) {
 }
 
 #[test]
-fn masks_are_runs_of_ones(rt: HostRuntime) {
+fn the_lowest_clear_run_is_found(rt: HostRuntime) {
     assert_eq!(rt; mask(0, 0), 1);
     assert_eq!(rt; mask(3, 8), 0xff00);
     assert_eq!(rt; mask(6, 0), 0xffff_ffff_ffff_ffff);
-}
-
-#[test]
-fn the_lowest_clear_run_is_found(rt: HostRuntime) {
     let rows = [
         (0, 6, Some(0)),
         (1, 3, Some(8)),
@@ -171,11 +134,7 @@ fn the_lowest_clear_run_is_found(rt: HostRuntime) {
         assert!(rt; order <= 6);
         assert_eq!(rt; find_run(word, order), bit);
     }
-}
-
-#[test]
-fn the_lowest_clear_group_is_found(rt: HostRuntime) {
-    let rows = [
+    let groups = [
         ([0; 8], 7, Some(0)),
         ([1, 0, 0, 0, 0, 0, 0, 0], 7, Some(2)),
         ([1, 0, 0, 0, 0, 0, 0, 0], 8, Some(4)),
@@ -183,7 +142,7 @@ fn the_lowest_clear_group_is_found(rt: HostRuntime) {
         ([0, 0, 1, 0, 0, 0, 0, 1], 8, None),
         ([1, 0, 1, 0, 1, 0, 0, 1], 7, None),
     ];
-    for (words, order, group) in rows {
+    for (words, order, group) in groups {
         assert!(rt; order == 7 || order == 8);
         assert_eq!(rt; find_words(&words, order), group);
     }

@@ -2,7 +2,7 @@ use Rattle.std.proofs.Common.{sym, subst}
 use Rattle.std.specs.List.{All}
 use Rattle.std.proofs.lemmas.List.Elements.{All-push}
 use Rattle.core_frames.specs.Cores.{IsCoreOf}
-use Rattle.frame_tests.proofs.tests.random.bring_back.Goals as goal
+use Rattle.frame_tests.proofs.tests.stops.bring_back.Goals as goal
 
 pub returns : goal.returns
 returns c =

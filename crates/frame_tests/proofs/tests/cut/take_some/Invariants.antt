@@ -1,5 +1,0 @@
-use Rattle.frame_table.specs.Seats.{IsIdleSeat}
-use Rattle.frame_tests.proofs.tests.cut.take_some.Given as goal
-
-abbrev pub invariant-loop-i : goal.invariant-loop-i
-invariant-loop-i l = IsIdleSeat l.table l.core

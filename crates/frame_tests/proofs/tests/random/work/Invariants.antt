@@ -1,9 +1,0 @@
-use Rattle.std.specs.List.{All}
-use Rattle.core_frames.specs.Cores.{IsCoreOf, IsOutOf}
-use Rattle.frame_tests.proofs.tests.random.work.Given as goal
-
-abbrev pub invariant-loop-i : goal.invariant-loop-i
-invariant-loop-i l = record {
-  core : IsCoreOf l.allocator l.core;
-  out : All (IsOutOf l.allocator) l.blocks.items;
-}
