@@ -3,6 +3,7 @@
 
 mod block;
 mod closing;
+mod free_counts;
 mod giving;
 mod image;
 mod keeping;
