@@ -4,4 +4,5 @@ mod calls;
 mod closing;
 mod memory;
 mod openings;
+mod reopenings;
 mod threads;
