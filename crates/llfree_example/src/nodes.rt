@@ -12,6 +12,7 @@ use frame_zones::{Span, ZoneBlock, ZoneCore, Zones, blocks_lie_in_zones};
 use std::alloc::Global;
 
 /// What is told of the two nodes.
+#[derive(Clone, Copy)]
 pub(crate) struct Told {
     /// The first frames of two blocks, one through each core.
     pub(crate) frames: (u64, u64),
