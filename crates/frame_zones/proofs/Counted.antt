@@ -81,6 +81,11 @@ sums_within h most a k (b ∷ zones) each =
     subst (λ i. h i ≤ most (slice_index_or zones z a)) place (each (suc z) (omega (arith, within)))) in
     omega (arith, range_cons h k (length zones), sum_by-cons most b zones, here, ap h start, there)
 
+-- all zones were looked over
+counted_all : (count : Allocator → Core → ℕ) (zs : Zones) (z n : ℕ) (c d : ZoneCore) → z ≡ zone_count zs
+    → Counted count zs z n c d → Counted count zs (zone_count zs) n c d
+counted_all count zs z n c d end all = subst (λ k. Counted count zs k n c d) end all
+
 -- no more is counted than there may be
 few_counted : (count : Allocator → Core → ℕ) (most : Allocator → ℕ) (zs : Zones) (n : ℕ) (c d : ZoneCore)
     → Counted count zs (zone_count zs) n c d → ((a : Allocator) (x : Core) → count a x ≤ most a)
@@ -102,9 +107,11 @@ few_counted count most zs n c d all each =
       | inr none ↦ omega (arith, none, all.small)
     ]
 
-pub few_frames : (zs : Zones) (n : ℕ) (c d : ZoneCore) → Counted free_frames_in zs (zone_count zs) n c d
+pub few_frames : (zs : Zones) (z n : ℕ) (c d : ZoneCore) → z ≡ zone_count zs → Counted free_frames_in zs z n c d
     → n ≤ frames_among zs
-few_frames zs n c d all = few_counted free_frames_in (λ a. (memory_of a).frames) zs n c d all (λ a x. omega arith)
+few_frames zs z n c d end all =
+    few_counted free_frames_in (λ a. (memory_of a).frames) zs n c d (counted_all free_frames_in zs z n c d end all)
+    (λ a x. omega arith)
 
 -- children that are whole have no more frames than there are
 whole_frames : (zones : List Allocator)
@@ -118,12 +125,13 @@ whole_frames (a ∷ zones) =
       whole_frames zones,
     )
 
-pub few_huge : (zs : Zones) (n : ℕ) (c d : ZoneCore) → Counted free_huge_in zs (zone_count zs) n c d
+pub few_huge : (zs : Zones) (z n : ℕ) (c d : ZoneCore) → z ≡ zone_count zs → Counted free_huge_in zs z n c d
     → child_frames * n ≤ frames_among zs
-few_huge zs n c d all =
+few_huge zs z n c d end all =
     omega (
       arith,
-      few_counted free_huge_in (λ a. (memory_of a).frames / child_frames) zs n c d all (λ a x. omega arith),
+      few_counted free_huge_in (λ a. (memory_of a).frames / child_frames) zs n c d
+          (counted_all free_huge_in zs z n c d end all) (λ a x. omega arith),
       whole_frames zs.zones.items,
     )
 
@@ -143,8 +151,8 @@ moves_more (a ∷ zones) (x ∷ xs) (y ∷ ys) xs-count ys-count each =
     moves_more zones xs ys (omega (arith, xs-count)) (omega (arith, ys-count)) (λ z b e within. each (suc z) b e (omega (arith, within))) in
     omega (arith, sum_by-cons moves_by x xs, sum_by-cons moves_by y ys, sum_by-cons entry_words_in a zones, here, there)
 
-pub all_moves : (count : Allocator → Core → ℕ) (zs : Zones) (n : ℕ) (c d : ZoneCore) → AreCoresOf zs c
-    → Counted count zs (zone_count zs) n c d → moves_through d ≡ moves_through c + entry_words_among zs
-all_moves count zs n c d are all =
+pub all_moves : (count : Allocator → Core → ℕ) (zs : Zones) (z n : ℕ) (c d : ZoneCore) → z ≡ zone_count zs
+    → AreCoresOf zs c → Counted count zs z n c d → moves_through d ≡ moves_through c + entry_words_among zs
+all_moves count zs z n c d end are all =
     moves_more zs.zones.items c.cores.items d.cores.items are.parts.count all.stay.are_cores.parts.count
-    (λ z a x within. all.seen z a x within within)
+    (λ k a x within. all.seen k a x (subst (λ i. k < i) (sym end) within) within)

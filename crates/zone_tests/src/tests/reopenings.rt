@@ -158,7 +158,10 @@ fn what_zones_held_is_adopted_once(rt: HostRuntime) -> Result<(), Fail> {
     assert_eq!(rt; free_in(&zones, &mut second), (1008, 0));
     let lower = zones.take(&mut first, 8).map_err(Fault::from)?;
     let upper = zones.take(&mut second, 7).map_err(Fault::from)?;
-    assert_eq!(rt; (zones.frame_of(&lower), zones.frame_of(&upper)), (256, 8320));
+    assert_eq!(rt;
+        (zones.frame_of(&lower), zones.frame_of(&upper)),
+        (256, 8320)
+    );
     assert_eq!(rt; free_in(&zones, &mut first), (624, 0));
     let images = closed(rt.alloc(), zones, first, second)?;
     assert_eq!(rt; held_in_two(&rt, &images), [(0, 264), (8192, 136)]);
