@@ -178,6 +178,16 @@ enum llfree_status llfree_split(llfree_core *handle, uint32_t frame, uint8_t ord
 /* The frames of the memory behind the handle, those of the ranges too; 0 of a closed one. */
 uint32_t llfree_frames(llfree_core *handle);
 
+/* How many frames are free, by what each child counts, four of them in one load: exact where no other
+ * thread is in a call (tested, not proved). Beside others the children are read at different times, and
+ * frames that a core is about to take or to give count as held. Never above llfree_frames; 0 of a closed
+ * handle. It needs no memory, and neither locks nor waits. */
+uint32_t llfree_free_frames(llfree_core *handle);
+
+/* How many huge frames are free, that is children of which all frames are, in the same way. A child that
+ * is cut is none. */
+uint32_t llfree_free_huge(llfree_core *handle);
+
 /* Closes the handle of a core; it does nothing to a closed one. The last handle of an allocator frees
  * it, blocks that are held and all. */
 void llfree_close(llfree_core *handle);
@@ -280,6 +290,16 @@ enum llfree_status llfree_plain_split(llfree_plain *handle, uint32_t frame, uint
 
 /* The frames of the memory behind the handle, those of the ranges too; 0 of a closed one. */
 uint32_t llfree_plain_frames(llfree_plain *handle);
+
+/* How many frames are free, exactly: all but those of blocks that are out, of the ranges, and those that an
+ * image held and nobody claimed. 0 of a closed handle. Needs no memory. */
+uint32_t llfree_plain_free_frames(llfree_plain *handle);
+
+/* How many huge frames are free, exactly: children of which no frame is held. A child that is cut is none. */
+uint32_t llfree_plain_free_huge(llfree_plain *handle);
+
+/* Whether exactly this block is held, so that it can be given; false of a closed handle. Needs no memory. */
+bool llfree_plain_is_held(llfree_plain *handle, uint32_t frame, uint8_t order);
 
 /* Writes the numbers of the memory's image, as many as llfree_image_words says, in which just the
  * blocks that are out and the ranges are held; then as llfree_plain_close. What lies behind the numbers

@@ -205,7 +205,7 @@ static long reopening(bool is_shared, bool is_for_good)
     return call - 1;
 }
 
-/* Takes, gives and splits call no heap, whether they are refused or not. */
+/* Takes, gives, splits and what counts what is free call no heap, whether they are refused or not. */
 static void no_calls(void)
 {
     llfree_core cores[CORES] = { LLFREE_CLOSED };
@@ -235,6 +235,9 @@ static void no_calls(void)
     while (llfree_plain_take(&memory, 0, &frame) == LLFREE_OK)
         ;
     CHECK(llfree_take(&cores[1], 0, &frame) == LLFREE_NO_BLOCK);
+    CHECK(llfree_free_frames(&cores[1]) == 0 && llfree_free_huge(&cores[2]) == 0);
+    CHECK(llfree_plain_free_frames(&memory) == 0 && llfree_plain_free_huge(&memory) == 0);
+    CHECK(llfree_plain_is_held(&memory, frame, 0));
     CHECK(calls == 0);
     llfree_plain_close(&memory);
     for (int i = 0; i < CORES; i++)

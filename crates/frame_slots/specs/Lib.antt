@@ -1,6 +1,7 @@
 pub mod Blocks
 pub mod Calls
 pub mod Claims
+pub mod FreeCounts
 pub mod Numbers
 pub mod Openings
 pub mod Slots

@@ -8,6 +8,7 @@ mod by_numbers;
 mod calls;
 mod claims;
 mod core_state;
+mod free_counts;
 mod numbers;
 mod openings;
 mod receipt;

@@ -55,7 +55,7 @@ no_progress zs Seen n c are none = record {
 }
 
 -- what holds after a step in one zone that was left alone before, and held in the others
-one_step : (P : Allocator → Core → Core → Type 0) (zs : Zones) (z : ℕ) (c d e : ZoneCore)
+pub one_step : (P : Allocator → Core → Core → Type 0) (zs : Zones) (z : ℕ) (c d e : ZoneCore)
     → ((x : Core) → core_at d z x ≡ core_at c z x) → OthersStay zs z d e
     → ((a : Allocator) (x : Core) → P (zone_at zs z a) (core_at d z x) (core_at e z x))
     → (k : ℕ) (a : Allocator) (x : Core) → k < zone_count zs
@@ -101,14 +101,14 @@ some_item : (l : List Allocator) → 0 < length l → Allocator
 some_item [] within = absurd (omega (arith, within))
 some_item (a ∷ l) within = a
 
-some_zone : (zs : Zones) (z : ℕ) → z < zone_count zs → Allocator
+pub some_zone : (zs : Zones) (z : ℕ) → z < zone_count zs → Allocator
 some_zone zs z within = some_item zs.zones.items (omega (arith, within))
 
 some_part : (l : List Core) → 0 < length l → Core
 some_part [] within = absurd (omega (arith, within))
 some_part (x ∷ l) within = x
 
-some_core : (c : ZoneCore) (z : ℕ) → z < length c.cores.items → Core
+pub some_core : (c : ZoneCore) (z : ℕ) → z < length c.cores.items → Core
 some_core c z within = some_part c.cores.items (omega (arith, within))
 
 -- the moves of a step in the next zone, and those before it

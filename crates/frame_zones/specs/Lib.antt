@@ -10,3 +10,4 @@ pub mod Parting
 pub mod Closing
 pub mod Reopening
 pub mod Keeping
+pub mod FreeCounts

@@ -3,6 +3,7 @@
 
 mod block;
 mod closings;
+mod free_counts;
 mod gives;
 mod image;
 mod kept_blocks;

@@ -1,8 +1,11 @@
 //! The calls on an allocator for one thread, by numbers.
 
-ghost use Rattle.std.specs.Prelude.{◌≡◌, ◌≢◌, ◌⊎◌, ◌≤◌, [], IfOk, IfErr, OnOk, OnErr, length};
+ghost use Rattle.std.specs.Prelude.{◌≡◌, ◌≢◌, ◌⊎◌, ◌≤◌, [], IfOk, IfErr, OnOk, OnErr, MatchBool, length};
+ghost use Rattle.std.specs.List.{Contains};
+ghost use Rattle.frame_core.specs.Block.{block as block_at};
 ghost use Rattle.frame_core.specs.QuietTake.{QuietTake};
 ghost use Rattle.core_frames.specs.PlainState.{memory_by};
+ghost use Rattle.llfree_c.specs.FreeCounts.{AreFreeFrames, AreFreeChildren};
 ghost use Rattle.llfree_c.specs.Images.{image_words, LeavesNumbers, HasNoImage, StaysBehind};
 ghost use Rattle.llfree_c.specs.Openings.{IsMemoryOf, IsUnopened};
 ghost use Rattle.llfree_c.specs.Status.{ok, no_block, bad_order, not_held};
@@ -78,6 +81,27 @@ impl Plain {
             Ok(_) => OK,
             Err(_) => BAD_ORDER,
         }
+    }
+
+    pub(crate) fn free_frames(&mut self) -> u32
+        ensures exact { AreFreeFrames result self.old.allocator }
+        ensures same { self.new ≡ self.old }
+    {
+        self.allocator.free_frames()
+    }
+
+    pub(crate) fn free_huge(&mut self) -> u32
+        ensures exact { AreFreeChildren result self.old.allocator }
+        ensures same { self.new ≡ self.old }
+    {
+        self.allocator.free_huge()
+    }
+
+    pub(crate) fn is_out(&self, frame: u32, order: u8) -> bool
+        ensures { MatchBool result (Contains self.now.allocator.out (block_at frame order))
+            (¬ Contains self.now.allocator.out (block_at frame order)) }
+    {
+        self.allocator.find_out(frame, order).is_some()
     }
 
     /// Writes the numbers of the memory's image. A fresh memory is behind it then, which stood in its

@@ -1,0 +1,22 @@
+use Rattle.std.proofs.Common.{rules, ◌<◌, ◌^◌, ◌∙◌, arith}
+use Rattle.frame_zones.specs.FreeCounts.{free_frames_in}
+use Rattle.frame_zones.proofs.Counted.{one_counted, few_frames, all_moves}
+use Rattle.frame_zones.proofs.zones.Zones.free_frames.Goals as goal
+
+pub loop-zone-preserved : goal.loop-zone-preserved
+loop-zone-preserved c =
+    let small : c.from-sum.result < 2 ^ 32 = search rules in
+    one_counted free_frames_in c.args.self.now c.loop-zone.zone c.loop-zone.sum c.from-sum.result c.args.core.now c.loop-zone.core
+    c.frames_in.new.core (omega (arith, c.loop-zone-test.true, c.count-zone-end.ensures)) c.loop-zone.invariant
+    c.frames_in.ensures.core c.frames_in.ensures.reads (λ a x. c.from-sum.ensures ∙ c.frames_in.ensures.count a x) small
+
+pub returns-clause-few : goal.returns-clause-few
+returns-clause-few c =
+    few_frames c.args.self.now c.loop-zone.zone c.loop-zone.sum c.args.core.now c.loop-zone.core
+    (omega (arith, c.loop-zone-test.false, c.loop-zone.auto.zone-end, c.count-zone-end.ensures)) c.loop-zone.invariant
+
+pub returns-clause-all_moves : goal.returns-clause-all_moves
+returns-clause-all_moves c =
+    all_moves free_frames_in c.args.self.now c.loop-zone.zone c.loop-zone.sum c.args.core.now c.loop-zone.core
+    (omega (arith, c.loop-zone-test.false, c.loop-zone.auto.zone-end, c.count-zone-end.ensures)) c.requires
+    c.loop-zone.invariant
