@@ -3,7 +3,6 @@
 mod desk;
 mod lists;
 mod plain;
-mod random_scripts;
 mod scripted;
 mod shared;
 mod stops;
