@@ -1,5 +1,7 @@
 use Rattle.std.proofs.Common.{◌≡◌, refl}
+use Rattle.std.specs.Vec.{with_item}
 use Rattle.frame_zones.specs.FreeCounts.{free_huge_in}
+use Rattle.frame_zones.specs.declared.zones.ZoneCore.{ZoneCore}
 use Rattle.frame_zones.proofs.Placing.{core_read, stay_cores, at_any_zone}
 use Rattle.frame_zones.proofs.zones.Zones.huge_in.Goals as goal
 
@@ -14,6 +16,11 @@ returns-clause-core c =
     c.index.ensures c.index_mut.ensures.value refl refl c.free_huge.ensures.core
 
 pub returns-clause-count : goal.returns-clause-count
-returns-clause-count c = λ a x.
-    at_any_zone (λ b _ y. c.free_huge.result ≡ free_huge_in b y) c.args.self.now c.args.core.now _ c.args.zone _ a _ _ x
-    c.requires.zone c.requires.core.parts.count c.index.ensures c.index_mut.ensures.value refl c.free_huge.ensures.sum
+returns-clause-count c =
+    let new : ZoneCore = record {
+      cores = with_item c.args.core.now.cores c.args.zone c.free_huge.new.core;
+      home = c.args.core.now.home;
+    } in
+    λ a x. at_any_zone (λ b _ y. c.free_huge.result ≡ free_huge_in b y) c.args.self.now c.args.core.now new c.args.zone
+        c.index.result.now a c.index_mut.result.now c.free_huge.new.core x c.requires.zone c.requires.core.parts.count
+        c.index.ensures c.index_mut.ensures.value refl c.free_huge.ensures.sum
