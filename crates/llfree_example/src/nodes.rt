@@ -11,6 +11,9 @@ use frame_words::{Fault, Geometry, TakeFault};
 use frame_zones::{Span, ZoneBlock, ZoneCore, Zones, blocks_lie_in_zones};
 use std::alloc::Global;
 
+/// The first frame of the second node.
+const SECOND_NODE: u64 = 4194304;
+
 /// What is told of the two nodes.
 #[derive(Clone, Copy)]
 pub(crate) struct Told {
@@ -27,17 +30,18 @@ fn open(alloc: Global) -> Result<(Zones, Vec<ZoneCore>), Fault>
     ensures cores { IfOk result (λ r. All (AreCoresOf r.0) r.1.items) }
 {
     let geometry = Geometry::new(2048, 2)?;
-    let lower = Span {
+    let mut nodes = Vec::with_capacity(alloc, 2)?;
+    nodes.push_reserved(Span {
         first: 0,
         geometry,
         ranges: Vec::new(alloc),
-    };
-    let upper = Span {
-        first: 1 << 22,
+    });
+    nodes.push_reserved(Span {
+        first: SECOND_NODE,
         geometry,
         ranges: Vec::new(alloc),
-    };
-    Zones::open(alloc, 2, &[lower, upper])
+    });
+    Zones::open(alloc, 2, &nodes)
 }
 
 fn next_core(zones: &Zones, cores: &mut Vec<ZoneCore>) -> Option<ZoneCore>
@@ -50,6 +54,7 @@ fn next_core(zones: &Zones, cores: &mut Vec<ZoneCore>) -> Option<ZoneCore>
 }
 
 /// A block of the core's own node, else of the other.
+#[tactic(auto, using(crate::proofs::TwoNodes::on_node))]
 fn take(zones: &Zones, core: &mut ZoneCore, order: u8) -> Result<ZoneBlock, TakeFault>
     requires nodes { AreNodes zones.now }
     requires core { AreCoresOf zones.now core.old }
@@ -63,6 +68,7 @@ fn take(zones: &Zones, core: &mut ZoneCore, order: u8) -> Result<ZoneBlock, Take
 }
 
 /// A block of eight frames of each node; each is given through the core that did not take it.
+#[tactic(auto, using(crate::proofs::TwoNodes::first_on_node))]
 pub(crate) fn two_nodes(alloc: Global) -> Result<Told, Fault>
     ensures { IfOk result (λ told. IsOnNode told.frames.0 × IsOnNode told.frames.1) }
 {
