@@ -22,5 +22,5 @@ returns-clause-count c =
       home = c.args.core.now.home;
     } in
     λ a x. at_any_zone (λ b _ y. c.free_frames.result ≡ free_frames_in b y) c.args.self.now c.args.core.now new c.args.zone
-        c.index.result.now a c.index_mut.result.now c.free_frames.new.core x c.requires.zone c.requires.core.parts.count
-        c.index.ensures c.index_mut.ensures.value refl c.free_frames.ensures.sum
+    c.index.result.now a c.index_mut.result.now c.free_frames.new.core x c.requires.zone c.requires.core.parts.count
+    c.index.ensures c.index_mut.ensures.value refl c.free_frames.ensures.sum
