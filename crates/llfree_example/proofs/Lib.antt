@@ -1,2 +1,1 @@
 mod NothingHeld
-mod TwoNodes

@@ -4,5 +4,4 @@ mod calls;
 mod closings;
 mod memory;
 mod openings;
-mod reopenings;
 mod threads;
