@@ -10,8 +10,7 @@ use frame_words::{CHILD_FRAMES, CHILD_WORDS, FLAG, HUGE_ORDER, WORD_FRAMES, chil
 pub const CHILD_NUMBERS: usize = 1 + CHILD_WORDS as usize;
 
 // A number that is not there is 0.
-#[inline]
-pub(crate) fn number_at(numbers: &[u64], place: usize) -> u64
+fn number_at(numbers: &[u64], place: usize) -> u64
     ensures { result ≡ slice_index numbers.now place }
 {
     if place < numbers.len() {
