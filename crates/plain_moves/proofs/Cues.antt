@@ -95,9 +95,9 @@ all_quiet cues is_exchange (suc n) a c met none =
 
 -- the words are now those of this cue
 pub stop_here : (m : Stage) (cue : Cue) (place : ℕ) (ws : List ℕ) → slice_get m.cues.items place ≡ Some cue
-    → cue.at ≡ at_by m → cue.what ≡ Stop → ws ≡ words_by m.plain
+    → cue.at ≡ at_by m → cue.what ≡ Stop → ws ≡ words_by m.plain → m.begun ≤ m.plain.moves
     → ∥ StopsAt (key_by m.plain) m.begun (view_by m.plain) (suc place) m.cues.items ws ∥₁
-stop_here m cue place ws is here stops same =
+stop_here m cue place ws is here stops same counted =
     ∥∥₁_map m.plain.agrees (λ (a : Agrees (key_by m.plain) m.plain.them (words_by m.plain) m.plain.outs.items (view_by m.plain)).
     record {
       cue = cue;
@@ -111,7 +111,7 @@ stop_here m cue place ws is here stops same =
           (λ (same : (other.at ≡ at_by m) × (k < suc place)). inr (same.0 ∙ sym here, omega (arith, same.1)))
           before;
       caller = view_by m.plain;
-      moves = sym here;
+      moves = omega (arith, here, counted);
       steps = 0;
       since = refl;
       others = a.others;
@@ -212,7 +212,7 @@ stop_shows : (m : Stage) (cue : Cue) (place : ℕ) (has_stopped : Bool) (ws : Li
     → m.begun ≤ m.plain.moves → has_stopped ≡ true
     → ∥ ShowsStop (key_by m.plain) m.begun (view_by m.plain) (suc place) m.cues.items has_stopped ws ∥₁
 stop_shows m cue place has_stopped ws is here stops same counted copied =
-    ∥∥₁_map (stop_here m cue place ws is here stops same)
+    ∥∥₁_map (stop_here m cue place ws is here stops same counted)
     (λ s. record { counted = counted; stopped = λ e. s; unstopped = λ no. absurd (cc) })
 
 -- one cue more was met

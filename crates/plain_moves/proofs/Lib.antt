@@ -11,5 +11,6 @@ pub mod PlainCompany
 pub mod Checks
 pub mod Cues
 pub mod Scripts
+pub mod Stops
 pub mod Worked
 pub mod Readers

@@ -69,7 +69,7 @@ pub record StopsAt (key : Key) (begun : ℕ) (now : View) (i : ℕ) (cues : List
   pub last : (k : ℕ) (other : Cue) → slice_get cues k ≡ Some other → other.what ≡ Stop
       → ComesBefore (now.moves - begun) i k other → ComesBefore cue.at (place + 1) k other
   pub caller : View
-  pub moves : caller.moves - begun ≡ cue.at
+  pub moves : caller.moves ≡ begun + cue.at
   pub steps : ℕ
   pub since : StepsTo steps caller now
   pub others : List View

@@ -35,6 +35,10 @@ stop_by m = stop_in m.stage
 abbrev pub next_by : ScriptMoves → ℕ
 next_by m = at_by m.stage
 
+-- how many moves the caller had made when the script began
+abbrev pub begun_by : ScriptMoves → ℕ
+begun_by m = m.stage.begun
+
 -- the script
 abbrev pub cues_by : ScriptMoves → List Cue
 cues_by m = m.stage.cues.items
@@ -70,10 +74,14 @@ pub record Follows (plain : PlainMoves) (cues : List Cue) (m : ScriptMoves) : Ty
   pub fresh : All IsFresh (strangers_by m)
   pub none_out : (b : FrameBlock) → IsOutIn (plain_by m).them.outs.items b → ⊥
 
+-- the last cue Stop of all moves so far, just before whose move these words stood, and the views that
+-- they fitted with then
+abbrev pub StopOf : ScriptMoves → List ℕ → Type 0
+StopOf m ws = StopsAt (key_by (plain_by m)) (begun_by m) (view_by (plain_by m)) 0 (cues_by m) ws
+
 -- these words stood just before the move of the last cue Stop of all moves so far
 abbrev pub IsStopOf : ScriptMoves → List ℕ → Type 0
-IsStopOf m ws =
-    ∥ StopsAt (key_by (plain_by m)) m.stage.begun (view_by (plain_by m)) 0 (cues_by m) ws ∥₁
+IsStopOf m ws = ∥ StopOf m ws ∥₁
 
 -- no cue Stop was reached
 abbrev pub IsUnstopped : ScriptMoves → Type 0

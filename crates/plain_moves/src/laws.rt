@@ -1,17 +1,18 @@
 //! What holds of every mover by a script, and of every image: laws, proved as contracts of
 //! functions that do nothing.
 
-ghost use Rattle.std.specs.Prelude.{◌≡◌, ℕ, ◌+◌, ◌*◌, ◌<◌, ◌≤◌, List, [], Option, Some, None, Bool, true, false, slice_get};
+ghost use Rattle.std.specs.Prelude.{◌≡◌, ℕ, ◌+◌, ◌*◌, ◌<◌, ◌≤◌, List, [], ◌∷◌, Option, Some, None, Bool, true, false, slice_get};
 ghost use Rattle.std.specs.Option.{ForSome};
 ghost use Rattle.frame_words.specs.Words.{flag, entry_word, local_word};
 ghost use Rattle.frame_core.specs.Image.{Contents, key_in, FitsTree, IsImage, with_child};
+ghost use Rattle.frame_model.specs.Fit.{Fit};
 ghost use Rattle.frame_model.specs.Key.{size_of, tree_count};
 ghost use Rattle.frame_model.specs.Words.{with_entry, with_bits, with_tree, with_local};
 ghost use Rattle.frame_model.specs.Steps.{Kind};
 ghost use Rattle.plain_moves.specs.declared.plain.party.Party.{Party};
 ghost use Rattle.plain_moves.specs.declared.script.ScriptMoves.{ScriptMoves};
 ghost use Rattle.plain_moves.specs.declared.script.cue.Cue.{Cue};
-ghost use Rattle.plain_moves.specs.PlainState.{words_by};
+ghost use Rattle.plain_moves.specs.PlainState.{key_by, view_by, words_by};
 ghost use Rattle.plain_moves.specs.Readers.{
   AreBits,
   ReadsChild,
@@ -23,6 +24,7 @@ ghost use Rattle.plain_moves.specs.Readers.{
 ghost use Rattle.plain_moves.specs.Plays.{LoadsIt, TriesIt};
 ghost use Rattle.plain_moves.specs.ScriptMoves.{
   plain_by,
+  begun_by,
   cues_by,
   next_by,
   skipped_by,
@@ -32,6 +34,7 @@ ghost use Rattle.plain_moves.specs.ScriptMoves.{
   IsStopOf,
   IsUnstopped,
   Plays,
+  StopOf,
 };
 ghost use Rattle.plain_moves.specs.Worked.{
   StandsFirst,
@@ -71,6 +74,39 @@ pub fn scripts_are_honest()
         × ((cue.at < next_by m) × (cue.what ≡ What.Stop)))) ∥₁ }
     ensures unstopped { (m : ScriptMoves) (k : ℕ) (cue : Cue) → IsUnstopped m
         → slice_get (cues_by m) k ≡ Some cue → cue.what ≡ What.Stop → next_by m ≤ cue.at }
+{}
+
+/// Of every stop that a script shows. A cue of the script made it, which stops and stands at no later
+/// move than the next. The caller had then made as many moves since the script began as the cue
+/// says; the words fit with its view of then, and with others; and it has made so many steps of its
+/// own since, in the same memory and with the same shares. No cue of an earlier move than the next
+/// stops at a later move, nor at the same move later in the script. Behind the first move of the
+/// worked script the stop is that of its first cue, one step ago.
+pub fn stops_are_of_their_moment()
+    ensures stops { (m : ScriptMoves) (ws : List ℕ) (s : StopOf m ws) →
+        (slice_get (cues_by m) s.place ≡ Some s.cue) × ((s.cue.what ≡ What.Stop)
+        × (s.cue.at ≤ next_by m)) }
+    ensures moved { (m : ScriptMoves) (ws : List ℕ) (s : StopOf m ws) →
+        s.caller.moves ≡ begun_by m + s.cue.at }
+    ensures fits { (m : ScriptMoves) (ws : List ℕ) (s : StopOf m ws) →
+        Fit (key_by (plain_by m)) s.shares ws (s.caller ∷ s.others) }
+    ensures since { (m : ScriptMoves) (ws : List ℕ) (s : StopOf m ws)
+        → (plain_by m).moves < 18446744073709551615
+        → s.caller.moves + s.steps ≡ (plain_by m).moves }
+    ensures same { (m : ScriptMoves) (ws : List ℕ) (s : StopOf m ws) →
+        ((view_by (plain_by m)).about ≡ s.caller.about)
+        × ((view_by (plain_by m)).share ≡ s.caller.share) }
+    ensures latest { (m : ScriptMoves) (ws : List ℕ) (s : StopOf m ws) (k : ℕ) (cue : Cue)
+        → slice_get (cues_by m) k ≡ Some cue → cue.what ≡ What.Stop
+        → cue.at < next_by m → cue.at ≤ s.cue.at }
+    ensures last { (m : ScriptMoves) (ws : List ℕ) (s : StopOf m ws) (k : ℕ) (cue : Cue)
+        → slice_get (cues_by m) k ≡ Some cue → cue.what ≡ What.Stop
+        → cue.at < next_by m → cue.at ≡ s.cue.at → k ≤ s.place }
+    ensures worked { (old new : ScriptMoves) (found : ℕ) (ws : List ℕ) → StandsFirst (stage_by old)
+        → Plays false (LoadsIt (Place.Tree 0) found) old new → (s : StopOf new ws)
+        → (plain_by new).moves < 18446744073709551615
+        → ((s.place ≡ 0) × (s.cue.at ≡ 0))
+        × ((s.caller.moves ≡ (plain_by old).moves) × (s.steps ≡ 1)) }
 {}
 
 /// What comes of one script. Just before a load of tree 0 it stops, then stranger 0 pays five
