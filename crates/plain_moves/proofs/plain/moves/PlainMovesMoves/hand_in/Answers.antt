@@ -23,23 +23,6 @@ push_front_reserved-requires c =
     let o = c.order-order.ensures in
     omega (arith, few_own key ws m.outs.items v m.agrees c.requires.share, m.room, m.own.ok)
 
-pub invariant_of-self-clause-agrees : goal.invariant_of-self-clause-agrees
-invariant_of-self-clause-agrees c =
-    let m = c.args.self.now in
-    let key = key_by m in
-    let ws = m.words.items in
-    let v = view_by m in
-    let b = c.args.held in
-    let f = c.frame-frame.ensures in
-    let o = c.order-order.ensures in
-    subst (λ (w : View). ∥ Agrees key m.them ws (set m.outs.items c.frame-frame.result 0) w ∥₁)
-    (viewed_in key _ _ _ _ _ _ _ _ _ _
-    (one_in m.outs.items b.frame c.requires.out.0 (omega (arith, c.requires.out.1))
-    ∙ ap (λ i. out_count (set m.outs.items i 0) + 1) (sym f))
-    (sym (c.push_front_reserved.ensures.items ∙ (λ i. block (f i) (o i) ∷ m.own.items))) (sym c.saturating_add-self.ensures))
-    (subst (λ i. ∥ Agrees key m.them ws (set m.outs.items i 0) (joined_by plain_tick hand_in v (holder (Some key) b)) ∥₁)
-    (sym f) (taken_in key ws m.outs.items v b m.agrees c.requires.share c.requires.one_child c.requires.out))
-
 pub returns : goal.returns
 returns c =
     let m = c.args.self.now in
@@ -64,3 +47,20 @@ returns c =
       reads = refl;
       words = λ u. refl;
     }
+
+pub invariant_of-self-clause-agrees : goal.invariant_of-self-clause-agrees
+invariant_of-self-clause-agrees c =
+    let m = c.args.self.now in
+    let key = key_by m in
+    let ws = m.words.items in
+    let v = view_by m in
+    let b = c.args.held in
+    let f = c.frame-frame.ensures in
+    let o = c.order-order.ensures in
+    subst (λ (w : View). ∥ Agrees key m.them ws (set m.outs.items c.frame-frame.result 0) w ∥₁)
+    (viewed_in key _ _ _ _ _ _ _ _ _ _
+    (one_in m.outs.items b.frame c.requires.out.0 (omega (arith, c.requires.out.1))
+    ∙ ap (λ i. out_count (set m.outs.items i 0) + 1) (sym f))
+    (sym (c.push_front_reserved.ensures.items ∙ (λ i. block (f i) (o i) ∷ m.own.items))) (sym c.saturating_add-self.ensures))
+    (subst (λ i. ∥ Agrees key m.them ws (set m.outs.items i 0) (joined_by plain_tick hand_in v (holder (Some key) b)) ∥₁)
+    (sym f) (taken_in key ws m.outs.items v b m.agrees c.requires.share c.requires.one_child c.requires.out))

@@ -10,7 +10,7 @@ invariant_of-self-clause-agrees c =
     steps m (refund c.args.child c.args.n) c.requires.share c.requires.may tt
     (ap (turned (refund c.args.child c.args.n)) is ∙ c.refunded.ensures _)
     (viewed m refl (sym c.with_less-self.ensures) refl refl refl (sym c.saturating_add-self.ensures))
-    (c.number_of.ensures.number m.sealed)
+    (search (c.number_of.ensures.number m.sealed))
 
 pub returns : goal.returns
 returns c =
@@ -19,4 +19,4 @@ returns c =
     makes m (refund c.args.child c.args.n) c.requires.share c.requires.may tt
     (ap (turned (refund c.args.child c.args.n)) is ∙ c.refunded.ensures _)
     (viewed m refl (sym c.with_less-self.ensures) refl refl refl (sym c.saturating_add-self.ensures))
-    (c.number_of.ensures.number m.sealed) refl
+    (search (c.number_of.ensures.number m.sealed)) refl

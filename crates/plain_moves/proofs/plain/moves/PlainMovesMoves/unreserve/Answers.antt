@@ -10,7 +10,7 @@ invariant_of-self-clause-agrees c =
     steps m (unreserve c.args.tree c.args.n) c.requires.share c.requires.may tt
     (ap (turned (unreserve c.args.tree c.args.n)) is ∙ c.unreserved.ensures c.args.tree _)
     (viewed m (sym c.with_less-self.ensures) refl refl refl refl (sym c.saturating_add-self.ensures))
-    (c.number_of.ensures.number m.sealed)
+    (search (c.number_of.ensures.number m.sealed))
 
 pub returns : goal.returns
 returns c =
@@ -19,4 +19,4 @@ returns c =
     makes m (unreserve c.args.tree c.args.n) c.requires.share c.requires.may tt
     (ap (turned (unreserve c.args.tree c.args.n)) is ∙ c.unreserved.ensures c.args.tree _)
     (viewed m (sym c.with_less-self.ensures) refl refl refl refl (sym c.saturating_add-self.ensures))
-    (c.number_of.ensures.number m.sealed) refl
+    (search (c.number_of.ensures.number m.sealed)) refl
