@@ -9,5 +9,7 @@ of-requires-clause-fits c =
     let key = plain_key geometry true in
     let image = c.in_ok-image in
     let same = c.in_ok-words.ensures.items_if_clones_equal (λ t y e. e) ∙ c.words.ensures in
+    let fits : ∥ FitsIdle key c.in_ok-words.words.items ∥₁ =
     subst (λ (l : List ℕ). ∥ FitsIdle key l ∥₁) (sym same)
-    (sealed_opens key image.image.words geometry.some_cores image.ensures.opens)
+    (sealed_opens key image.image.words geometry.some_cores image.ensures.opens) in
+    search fits

@@ -11,9 +11,11 @@ of-requires-clause-fits c =
     let key = plain_key image.geometry false in
     let same = c.in_ok-words.ensures.items_if_clones_equal (λ t y e. e) ∙ c.words.ensures in
     let fit = reopened_image image.geometry image.words c.geometry-geometry.ensures.in_range c.requires in
+    let fits : ∥ FitsIdle (plain_key c.geometry-geometry.result false) c.in_ok-words.words.items ∥₁ =
     subst (λ (g : Geometry). ∥ FitsIdle (plain_key g false) c.in_ok-words.words.items ∥₁)
     (sym c.geometry-geometry.ensures.value)
-    (subst (λ (l : List ℕ). ∥ FitsIdle key l ∥₁) (sym same) (reopened_idle key image.words fit))
+    (subst (λ (l : List ℕ). ∥ FitsIdle key l ∥₁) (sym same) (reopened_idle key image.words fit)) in
+    search fits
 
 pub returns-clause-is_ground : goal.returns-clause-is_ground
 returns-clause-is_ground c =
