@@ -78,10 +78,11 @@ pub fn scripts_are_honest()
 
 /// Of every stop that a script shows. A cue of the script made it, which stops and stands at no later
 /// move than the next. The caller had then made as many moves since the script began as the cue
-/// says; the words fit with its view of then, and with others; and it has made so many steps of its
-/// own since, in the same memory and with the same shares. No cue of an earlier move than the next
-/// stops at a later move, nor at the same move later in the script. Behind the first move of the
-/// worked script the stop is that of its first cue, one step ago.
+/// says; the words fit with its view of then, and with others. It has made one step of its own for
+/// each move since, as long as moves are counted exactly, in the same memory and with the same
+/// shares. No cue of an earlier move than the next stops at a later move, nor at the same move later
+/// in the script. Behind the first move of the worked script the stop is that of its first cue, one
+/// step ago.
 pub fn stops_are_of_their_moment()
     ensures stops { (m : ScriptMoves) (ws : List ℕ) (s : StopOf m ws) →
         (slice_get (cues_by m) s.place ≡ Some s.cue) × ((s.cue.what ≡ What.Stop)
