@@ -4,6 +4,7 @@ pub mod Claims
 pub mod FreeCounts
 pub mod Numbers
 pub mod Openings
+pub mod SlotLists
 pub mod Slots
 pub mod Refusals
 pub mod Reopenings
