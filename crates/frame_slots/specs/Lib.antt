@@ -8,3 +8,4 @@ pub mod SlotLists
 pub mod Slots
 pub mod Refusals
 pub mod Reopenings
+pub mod WrongTakes
