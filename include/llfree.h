@@ -107,10 +107,10 @@ typedef struct llfree_core {
 /* Opens an allocator of so many frames, with a core behind each of the closed handles. All frames are
  * free but those of the ranges, which are never given out: what a kernel keeps, holes of the memory.
  * Ranges ascend and do not overlap; NULL and 0 are none. (That all else is free is tested, not proved.)
- * Beside the words of the allocator it has a list of what is out: 32 bytes for each of as many frames as
- * the next power of two is, that is 32 to 64 bytes a frame. The list grows while it opens, and a heap
- * that does not use its blocks again at once has to have more: 57 to 77 bytes a frame were measured. On
- * OPEN_HANDLE (of any handle), BAD_GEOMETRY, BAD_RANGE and NO_MEMORY the handles are as they were. */
+ * Beside the words of the allocator it has a list of what is out: 16 bytes a frame in one block, and a
+ * quarter of a byte more where something is held back or the last child is cut. While it opens it needs up
+ * to 24 bytes more for each largest block that is free: one for each 512 frames where nothing is held back.
+ * On OPEN_HANDLE (of any handle), BAD_GEOMETRY, BAD_RANGE and NO_MEMORY the handles are as they were. */
 LLFREE_NODISCARD
 enum llfree_status llfree_open(llfree_core *handles, size_t cores, uint32_t frames,
                                const llfree_range *ranges, size_t count);

@@ -4,6 +4,8 @@ pub mod Claims
 pub mod FreeCounts
 pub mod Numbers
 pub mod Openings
+pub mod SlotLists
 pub mod Slots
 pub mod Refusals
 pub mod Reopenings
+pub mod WrongTakes

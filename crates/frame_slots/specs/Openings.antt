@@ -1,10 +1,11 @@
 -- What the cores of an opening share.
-use Rattle.std.specs.Prelude.{◌≡◌, pos, Bool, true, false, List, [], length, vec_len}
+use Rattle.std.specs.Prelude.{◌≡◌, pos, Bool, true, false, List, [], length, vec_capacity}
 use Rattle.std.specs.Arc.{arc_value}
 use Rattle.std.specs.List.{All}
 use Rattle.frame_model.specs.declared.key.Key.{Key}
 use Rattle.core_frames.specs.Cores.{memory_of, lent_by, kept_by}
 use Rattle.core_frames.specs.declared.shared.allocator.Core.{Core}
+use Rattle.frame_slots.specs.SlotLists.{HasRoomFor}
 use Rattle.frame_slots.specs.declared.core_state.CoreState.{CoreState}
 use Rattle.frame_slots.specs.declared.shared.Shared.{Shared}
 
@@ -12,10 +13,10 @@ use Rattle.frame_slots.specs.declared.shared.Shared.{Shared}
 abbrev pub Shares : Shared → CoreState → Type 0
 Shares shared s = arc_value s.shared ≡ shared
 
--- there is a row of slots for each order of blocks, or there are no slots
+-- there is room for a slot of each block, or for no slot
 abbrev pub HasSlots : Bool → Shared → Type 0
-HasSlots true shared = vec_len shared.slots ≡ 10
-HasSlots false shared = vec_len shared.slots ≡ 0
+HasSlots true shared = HasRoomFor shared.frames shared.slots
+HasSlots false shared = vec_capacity shared.slots.list ≡ 0
 
 -- the core lends no block and keeps none
 pub record IsUnused (c : Core) : Type 0 where

@@ -1,11 +1,11 @@
 -- What clauses say of slots, and of takes and splits at them.
-use Rattle.std.specs.Prelude.{◌≡◌, ◌⊎◌, ℕ, pos, ◌+◌, ◌-◌, ◌%◌, ◌^◌, ◌+ℤ◌, ◌-ℤ◌, ◌<◌, ◌≤◌, Some}
-use Rattle.std.specs.List.{All}
-use Rattle.std.specs.declared.vec.Vec.{Vec}
+use Rattle.std.specs.Prelude.{◌≡◌, ◌⊎◌, ℕ, pos, ◌+◌, ◌-◌, ◌%◌, ◌^◌, ◌+ℤ◌, ◌-ℤ◌, ◌<◌, ◌≤◌, Some, []}
 use Rattle.frame_words.specs.declared.fault.TakeFault.{TakeFault}
 use Rattle.frame_words.specs.declared.fault.TakeFault.TheVariants.{BadOrder, NoBlock, Contended}
 use Rattle.frame_core.specs.Block.{block, IsBlock}
+use Rattle.frame_core.specs.Events.{eye}
 use Rattle.frame_core.specs.Mover.{LiesInside}
+use Rattle.frame_core.specs.View.{holder}
 use Rattle.low_frames.specs.Outcomes.{HasNoBootFrame}
 use Rattle.frame_table.specs.Seats.{id_of}
 use Rattle.core_frames.specs.Cores.{memory_of, lent_by, kept_by, losses_by}
@@ -14,15 +14,12 @@ use Rattle.core_frames.specs.declared.shared.allocator.Allocator.{Allocator}
 use Rattle.core_frames.specs.declared.shared.allocator.Core.{Core}
 use Rattle.frame_slots.specs.declared.slot.Slot.{Slot}
 
--- the slot is one for a block of this allocator's memory
-pub record IsSlotOf (a : Allocator) (p : Slot) : Type 0 where
+-- the slot is one for this block of the allocator's memory: what rests there is the right to it
+pub record IsSlotFor (a : Allocator) (frame order : ℕ) (p : Slot) : Type 0 where
   pub table : p.perch.table_id ≡ id_of a.table
   pub about : p.perch.view.view.about ≡ Some (memory_of a)
-  pub is_block : IsBlock (memory_of a) (block p.frame p.order)
-
--- all of them are
-abbrev pub AreSlotsOf : {Z : Type 0} → Allocator → Vec Slot Z → Type 0
-AreSlotsOf a row = All (IsSlotOf a) row.items
+  pub rests : p.perch.view ≡ eye (holder p.perch.view.view.about (block frame order)) []
+  pub is_block : IsBlock (memory_of a) (block frame order)
 
 -- there is such a block in the allocator's memory
 abbrev pub HasBlock : ℕ → ℕ → Allocator → Type 0
@@ -83,6 +80,11 @@ pub record HasTakenSoMany (n : ℕ) (c d : Core) : Type 0 where
 -- the core lends so many blocks less, and keeps what it did before
 pub record HasGivenSoMany (n : ℕ) (c d : Core) : Type 0 where
   pub lent : lent_by d ≡ lent_by c -ℤ pos n
+  pub kept : kept_by d ≡ kept_by c
+
+-- the core lends one block more for each that there are more than before, and keeps what it did
+pub record LendsForEach (count later : ℕ) (c d : Core) : Type 0 where
+  pub lent : lent_by d -ℤ pos later ≡ lent_by c -ℤ pos count
   pub kept : kept_by d ≡ kept_by c
 
 -- why a take of a block of the order was refused: as the allocator's is, and no block more is lent

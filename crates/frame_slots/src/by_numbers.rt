@@ -102,7 +102,9 @@ fn fetch(shared: &Shared, frame: u32, order: u8) -> Option<Block>
     ensures out { IfSome result (IsOutOf shared.now.allocator) }
     ensures same { IfSome result (λ b. (b.frame ≡ frame) × (b.order ≡ order)) }
 {
-    shared.find(frame, order)?.fetch(&shared.allocator)
+    shared
+        .find(frame, order)?
+        .fetch(&shared.allocator, frame, order)
 }
 
 // Lays the block down at its slot. Where one rests there, or there is none, the block is given back.

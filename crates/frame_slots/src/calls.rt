@@ -37,6 +37,7 @@ impl CoreState {
         ensures shared { SharesOne self.old self.new }
         ensures given { IfOk result (λ _. GivesFor order frame self.old self.new) }
         ensures same { IfErr result (λ _. KeepsCore self.old self.new) }
+        ensures counted { CountsNone self.old self.new }
         ensures refused { IfErr result (λ e. e ≡ Refusal.NotHeld) }
     {
         give_from_slot(&self.shared, &mut self.core, frame, order)

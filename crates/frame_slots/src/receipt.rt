@@ -3,7 +3,7 @@
 ghost use Rattle.std.specs.Prelude.{◌≡◌, IfOk, IfSome, IfErr};
 ghost use Rattle.core_frames.specs.Cores.{IsOutOf};
 ghost use Rattle.frame_slots.specs.Calls.{laid_down};
-ghost use Rattle.frame_slots.specs.Slots.{IsSlotOf};
+ghost use Rattle.frame_slots.specs.Slots.{IsSlotFor};
 
 use crate::slot::Slot;
 use atomic_table::Perch;
@@ -43,24 +43,22 @@ impl Receipt {
 
 impl Slot {
     /// An empty slot for such a block.
+    #[inline]
     pub fn of(allocator: &Allocator, held: &Block) -> Slot
         requires { IsOutOf allocator.now held.now }
-        ensures slot { IsSlotOf allocator.now result }
-        ensures same { (result.frame ≡ held.now.frame) × (result.order ≡ held.now.order) }
+        ensures { IsSlotFor allocator.now held.now.frame held.now.order result }
     {
         let _ = allocator;
         Slot {
-            frame: held.frame(),
-            order: held.order(),
             perch: Perch::new(&held.seat, EMPTY),
         }
     }
 
-    /// Lays the block down. Refused only where one rests here; the block is handed back then.
+    /// Lays the block down at its slot. Refused only where one rests here; the block is handed back
+    /// then.
     pub fn rest(&self, allocator: &Allocator, held: Block) -> Result<Receipt, Block>
-        requires slot { IsSlotOf allocator.now self.now }
+        requires slot { IsSlotFor allocator.now held.frame held.order self.now }
         requires out { IsOutOf allocator.now held }
-        requires same { (held.frame ≡ self.now.frame) × (held.order ≡ self.now.order) }
         ensures laid { IfOk result (λ r. (r.frame ≡ held.frame) × (r.order ≡ held.order)) }
         ensures refused { IfErr result (IsOutOf allocator.now) }
     {
@@ -73,15 +71,15 @@ impl Slot {
         }
     }
 
-    /// Fetches the block that rests here, if one does.
-    pub fn fetch(&self, allocator: &Allocator) -> Option<Block>
-        requires { IsSlotOf allocator.now self.now }
+    /// Fetches the block of these numbers, whose slot this is, if it rests here.
+    pub fn fetch(&self, allocator: &Allocator, frame: u32, order: u8) -> Option<Block>
+        requires { IsSlotFor allocator.now frame order self.now }
         ensures out { IfSome result (IsOutOf allocator.now) }
-        ensures same { IfSome result (λ b. (b.frame ≡ self.now.frame) × (b.order ≡ self.now.order)) }
+        ensures same { IfSome result (λ b. (b.frame ≡ frame) × (b.order ≡ order)) }
     {
         let _ = allocator;
         match self.perch.take(EMPTY) {
-            (_, Some(seat)) => Some(Block::of(self.frame, self.order, seat)),
+            (_, Some(seat)) => Some(Block::of(frame, order, seat)),
             (_, None) => None,
         }
     }

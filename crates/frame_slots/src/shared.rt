@@ -1,15 +1,15 @@
 //! An allocator with a slot for each block.
 
-ghost use Rattle.std.specs.Prelude.{◌≡◌, IfOk, IfErr, IfSome, vec_len};
-ghost use Rattle.std.specs.List.{All};
+ghost use Rattle.std.specs.Prelude.{◌≡◌, IfOk, IfErr, IfSome, vec_capacity};
 ghost use Rattle.core_frames.specs.Cores.{memory_of, IsCoreOf};
-ghost use Rattle.frame_slots.specs.Slots.{IsSlotOf, AreSlotsOf, IsUsedAsBefore};
+ghost use Rattle.frame_slots.specs.SlotLists.{HasRoomFor, IsListOf};
+ghost use Rattle.frame_slots.specs.Slots.{IsSlotFor, IsUsedAsBefore};
 
 use crate::receipt::Receipt;
 use crate::slot::Slot;
-use crate::slots::slots_of;
+use crate::slots::SlotList;
 use core_frames::{Allocator, Core};
-use frame_words::{Fault, HUGE_ORDER};
+use frame_words::Fault;
 use std::alloc::Global;
 
 /// What all cores share.
@@ -18,31 +18,20 @@ pub struct Shared {
     pub allocator: Allocator,
     /// The frames of its memory.
     pub frames: u32,
-    // By order, then by frame.
-    slots: Vec<Vec<Slot>>,
+    slots: SlotList,
     /// Of the blocks that were laid down before any core was handed out.
     pub reclaimed: Vec<Receipt>,
     pub ghost sized: { frames ≡ (memory_of allocator).frames },
-    pub ghost slotted: { All (AreSlotsOf allocator) slots.items },
+    pub ghost slotted: { IsListOf allocator slots },
 }
 
 impl Shared {
     /// The slot of the block of these numbers, if there is such a block.
     #[inline]
     pub fn find(&self, frame: u32, order: u8) -> Option<&Slot>
-        ensures slot { IfSome result (λ p. IsSlotOf self.now.allocator p.now) }
-        ensures same { IfSome result (λ p. (p.now.frame ≡ frame) × (p.now.order ≡ order)) }
+        ensures { IfSome result (λ p. IsSlotFor self.now.allocator frame order p.now) }
     {
-        if order > HUGE_ORDER {
-            return None;
-        }
-        let row = self.slots.get(order as usize)?;
-        let slot = row.get((frame >> order) as usize)?;
-        if slot.frame == frame && slot.order == order {
-            Some(slot)
-        } else {
-            None
-        }
+        self.slots.find(&self.allocator, frame, order)
     }
 
     /// Slots for all blocks that are free. Refused only for want of memory.
@@ -57,16 +46,10 @@ impl Shared {
         ensures core { IsCoreOf allocator core.new }
         ensures lends { IfOk result (λ _. IsUsedAsBefore core.old core.new) }
         ensures same { IfOk result (λ s. s.allocator ≡ allocator) }
-        ensures rows { IfOk result (λ s. vec_len s.slots ≡ 10) }
+        ensures room { IfOk result (λ s. HasRoomFor s.frames s.slots) }
         ensures err { IfErr result (λ e. e ≡ Fault.NoMemory) }
     {
-        let mut slots = Vec::new(alloc);
-        for order in 0..HUGE_ORDER + 1 {
-            let row = slots_of(alloc, &allocator, core, order)?;
-            let Ok(()) = slots.push(row) else {
-                return Err(Fault::NoMemory);
-            };
-        }
+        let slots = SlotList::open(alloc, &allocator, core, frames)?;
         Ok(Shared {
             allocator,
             frames,
@@ -79,12 +62,13 @@ impl Shared {
     pub(crate) fn bare(alloc: Global, allocator: Allocator, frames: u32) -> Shared
         requires { frames ≡ (memory_of allocator).frames }
         ensures same { result.allocator ≡ allocator }
-        ensures rows { vec_len result.slots ≡ 0 }
+        ensures room { vec_capacity result.slots.list ≡ 0 }
     {
+        let slots = SlotList::none(alloc, &allocator);
         Shared {
             allocator,
             frames,
-            slots: Vec::new(alloc),
+            slots,
             reclaimed: Vec::new(alloc),
         }
     }

@@ -1,107 +1,245 @@
-//! The slots of all blocks of an order.
+//! The slots of all blocks in one list: that of a block stands where its first frame and its last add
+//! up to.
 
-ghost use Rattle.std.specs.Prelude.{◌≡◌, ◌≤◌, IfOk, IfErr, vec_len};
+ghost use Rattle.std.specs.Prelude.{◌≡◌, ◌+◌, ◌≤◌, IfOk, IfErr, IfSome, vec_len, vec_capacity};
 ghost use Rattle.std.specs.List.{All};
 ghost use Rattle.core_frames.specs.Cores.{IsCoreOf, IsOutOf};
-ghost use Rattle.frame_slots.specs.Slots.{IsSlotOf, IsUsedAsBefore, HasTakenSoMany, HasGivenSoMany};
+ghost use Rattle.core_frames.specs.Uses.{HasGiven};
+ghost use Rattle.frame_slots.specs.SlotLists.{place_for, HasRoomFor, IsBetween, IsListOf};
+ghost use Rattle.frame_slots.specs.Slots.{IsSlotFor, IsUsedAsBefore, HasGivenSoMany};
 
+use crate::free_blocks::take_all;
+use crate::gaps::Gaps;
 use crate::slot::Slot;
 use core_frames::{Allocator, Core};
 use frame_core::HeldBlock;
 use frame_table::Block;
-use frame_words::{Fault, MOST_FRAMES};
+use frame_words::{CHILD_FRAMES, Fault, HUGE_ORDER, frames_of};
 use std::alloc::Global;
 
-/// A slot for each block of the order that is free, where it is looked for by its frame.
-pub(crate) fn slots_of(
-    alloc: Global,
-    allocator: &Allocator,
-    core: &mut Core,
-    order: u8,
-) -> Result<Vec<Slot>, Fault>
-    requires order { order ≤ 9 }
-    requires core { IsCoreOf allocator.now core.old }
-    ensures core { IsCoreOf allocator.now core.new }
-    ensures lends { IfOk result (λ _. IsUsedAsBefore core.old core.new) }
-    ensures slots { IfOk result (λ slots. All (IsSlotOf allocator.now) slots.items) }
-    ensures err { IfErr result (λ e. e ≡ Fault.NoMemory) }
-{
-    let mut blocks = take_all(alloc, allocator, core, order)?;
-    blocks.sort_unstable_by_key(|held| held.frame());
-    let slots = slots_for(alloc, allocator, &blocks, order);
-    // The first frame is given first: the core stays with the last tree, next to which no other begins.
-    blocks.reverse();
-    give_all(allocator, core, blocks);
-    slots
+// The places of the blocks of a child, and one behind them that is no block's.
+const CHILD_PLACES: usize = 2 * CHILD_FRAMES as usize;
+
+/// Slots, and the places that have none.
+#[derive(Drop)]
+pub(crate) struct SlotList {
+    pub(crate) list: Vec<Slot>,
+    pub(crate) gaps: Gaps,
 }
 
-// A slot for each of the blocks, which ascend. Where a block between them is held, the slot of the
-// next one stands, so that no look-up finds it.
-fn slots_for(
-    alloc: Global,
-    allocator: &Allocator,
-    blocks: &[Block],
-    order: u8,
-) -> Result<Vec<Slot>, Fault>
-    requires order { order ≤ 9 }
-    requires out { All (IsOutOf allocator.now) blocks.now }
-    ensures slots { IfOk result (λ slots. All (IsSlotOf allocator.now) slots.items) }
-    ensures err { IfErr result (λ e. e ≡ Fault.NoMemory) }
+// No two blocks have one place.
+#[inline(always)]
+fn place_of(frame: u32, order: u8) -> usize
+    requires { order ≤ 9 }
+    ensures { result ≡ place_for frame order }
 {
-    let mut slots = Vec::new(alloc);
-    for held in blocks {
-        for _hole in slots.len()..(held.frame() >> order) as usize {
-            add_slot(allocator, &mut slots, held)?;
-        }
-        add_slot(allocator, &mut slots, held)?;
-    }
-    Ok(slots)
+    2 * frame as usize + frames_of(order) as usize - 1
 }
 
-fn add_slot(allocator: &Allocator, slots: &mut Vec<Slot>, held: &Block) -> Result<(), Fault>
-    requires out { IsOutOf allocator.now held.now }
-    requires slots { All (IsSlotOf allocator.now) slots.old.items }
-    ensures slots { All (IsSlotOf allocator.now) slots.new.items }
-    ensures err { IfErr result (λ e. e ≡ Fault.NoMemory) }
-{
-    let Ok(()) = slots.push(Slot::of(allocator, held)) else {
-        return Err(Fault::NoMemory);
-    };
-    Ok(())
-}
-
-// Blocks of the order, until none is found.
-fn take_all(
-    alloc: Global,
-    allocator: &Allocator,
-    core: &mut Core,
-    order: u8,
-) -> Result<Vec<Block>, Fault>
-    requires { IsCoreOf allocator.now core.old }
-    ensures core { IsCoreOf allocator.now core.new }
-    ensures out { IfOk result (λ blocks. All (IsOutOf allocator.now) blocks.items) }
-    ensures lends { IfOk result (λ blocks. HasTakenSoMany (vec_len blocks) core.old core.new) }
-    ensures err { IfErr result (λ e. e ≡ Fault.NoMemory) }
-{
-    let mut blocks = Vec::new(alloc);
-    for _i in 0..MOST_FRAMES {
-        let Ok(held) = allocator.take(core, order) else {
-            return Ok(blocks);
-        };
-        let Ok(()) = blocks.push(held) else {
+impl SlotList {
+    /// No slot, and room for those of so many frames.
+    fn with_room(alloc: Global, allocator: &Allocator, frames: u32) -> Result<SlotList, Fault>
+        ensures room { IfOk result (HasRoomFor frames) }
+        ensures slots { IfOk result (IsListOf allocator.now) }
+        ensures err { IfErr result (λ e. e ≡ Fault.NoMemory) }
+    {
+        let _ = allocator;
+        let places = 2 * frames as usize;
+        let Ok(list) = Vec::with_capacity(alloc, places) else {
             return Err(Fault::NoMemory);
         };
+        Ok(SlotList {
+            list,
+            gaps: Gaps::none(alloc, places),
+        })
     }
-    Ok(blocks)
-}
 
-fn give_all(allocator: &Allocator, core: &mut Core, mut blocks: Vec<Block>)
-    requires blocks { All (IsOutOf allocator.now) blocks.items }
-    requires core { IsCoreOf allocator.now core.old }
-    ensures core { IsCoreOf allocator.now core.new }
-    ensures lends { HasGivenSoMany (vec_len blocks) core.old core.new }
-{
-    while let Some(held) = blocks.pop() {
-        allocator.give(core, held);
+    /// No slot, and no room for any.
+    pub(crate) fn none(alloc: Global, allocator: &Allocator) -> SlotList
+        ensures room { vec_capacity result.list ≡ 0 }
+        ensures slots { IsListOf allocator.now result }
+    {
+        let _ = allocator;
+        SlotList {
+            list: Vec::new(alloc),
+            gaps: Gaps::none(alloc, 0),
+        }
+    }
+
+    /// A slot for each block that is free.
+    pub(crate) fn open(
+        alloc: Global,
+        allocator: &Allocator,
+        core: &mut Core,
+        frames: u32,
+    ) -> Result<SlotList, Fault>
+        requires core { IsCoreOf allocator.now core.old }
+        ensures core { IsCoreOf allocator.now core.new }
+        ensures lends { IfOk result (λ _. IsUsedAsBefore core.old core.new) }
+        ensures room { IfOk result (HasRoomFor frames) }
+        ensures slots { IfOk result (IsListOf allocator.now) }
+        ensures err { IfErr result (λ e. e ≡ Fault.NoMemory) }
+    {
+        let mut slots = SlotList::with_room(alloc, allocator, frames)?;
+        let blocks = take_all(alloc, allocator, core)?;
+        slots.add_all(allocator, core, blocks)?;
+        Ok(slots)
+    }
+
+    /// The slot of the block of these numbers, if there is such a block.
+    #[inline(always)]
+    pub(crate) fn find(&self, allocator: &Allocator, frame: u32, order: u8) -> Option<&Slot>
+        requires { IsListOf allocator.now self.now }
+        ensures { IfSome result (λ p. IsSlotFor allocator.now frame order p.now) }
+    {
+        let _ = allocator;
+        if order > HUGE_ORDER || frame % frames_of(order) != 0 {
+            return None;
+        }
+        let place = place_of(frame, order);
+        if place >= self.list.len() || self.gaps.has(place) {
+            return None;
+        }
+        Some(&self.list[place])
+    }
+
+    // The slots of the blocks, of which the first comes last, and of all blocks inside them. The blocks
+    // are given back.
+    fn add_all(
+        &mut self,
+        allocator: &Allocator,
+        core: &mut Core,
+        mut blocks: Vec<Block>,
+    ) -> Result<(), Fault>
+        requires slots { IsListOf allocator.now self.old }
+        requires blocks { All (IsOutOf allocator.now) blocks.items }
+        requires core { IsCoreOf allocator.now core.old }
+        ensures core { IsCoreOf allocator.now core.new }
+        ensures slots { IfOk result (λ _. IsListOf allocator.now self.new) }
+        ensures room { vec_capacity self.old.list ≤ vec_capacity self.new.list }
+        ensures lends { IfOk result (λ _. HasGivenSoMany (vec_len blocks) core.old core.new) }
+        ensures err { IfErr result (λ e. e ≡ Fault.NoMemory) }
+    {
+        while let Some(held) = blocks.pop() {
+            self.skip_to(allocator, &held)?;
+            self.add_each(allocator, core, held)?;
+        }
+        Ok(())
+    }
+
+    // The places before those of the block and of the blocks inside it are gaps. At each stands some
+    // slot, which no look-up finds.
+    fn skip_to(&mut self, allocator: &Allocator, held: &Block) -> Result<(), Fault>
+        requires slots { IsListOf allocator.now self.old }
+        requires held { IsOutOf allocator.now held.now }
+        ensures slots { IfOk result (λ _. IsListOf allocator.now self.new) }
+        ensures room { vec_capacity self.old.list ≤ vec_capacity self.new.list }
+        ensures err { IfErr result (λ e. e ≡ Fault.NoMemory) }
+    {
+        for place in self.list.len()..place_of(held.frame(), 0) {
+            self.pass_over(allocator, held, place)?;
+        }
+        Ok(())
+    }
+
+    fn pass_over(&mut self, allocator: &Allocator, held: &Block, place: usize) -> Result<(), Fault>
+        requires slots { IsListOf allocator.now self.old }
+        requires held { IsOutOf allocator.now held.now }
+        requires place { place ≡ vec_len self.old.list }
+        ensures slots { IfOk result (λ _. IsListOf allocator.now self.new) }
+        ensures len { IfOk result (λ _. vec_len self.new.list ≡ vec_len self.old.list + 1) }
+        ensures room { vec_capacity self.old.list ≤ vec_capacity self.new.list }
+        ensures err { IfErr result (λ e. e ≡ Fault.NoMemory) }
+    {
+        if place % CHILD_PLACES == CHILD_PLACES - 1 {
+            self.add_between(allocator, held, place)
+        } else {
+            self.add_gap(allocator, held, place)
+        }
+    }
+
+    // The place is no block's.
+    fn add_between(
+        &mut self,
+        allocator: &Allocator,
+        held: &Block,
+        place: usize,
+    ) -> Result<(), Fault>
+        requires slots { IsListOf allocator.now self.old }
+        requires held { IsOutOf allocator.now held.now }
+        requires place { place ≡ vec_len self.old.list }
+        requires between { IsBetween place }
+        ensures slots { IfOk result (λ _. IsListOf allocator.now self.new) }
+        ensures len { IfOk result (λ _. vec_len self.new.list ≡ vec_len self.old.list + 1) }
+        ensures room { vec_capacity self.old.list ≤ vec_capacity self.new.list }
+        ensures err { IfErr result (λ e. e ≡ Fault.NoMemory) }
+    {
+        let _ = place;
+        let Ok(()) = self.list.push(Slot::of(allocator, held)) else {
+            return Err(Fault::NoMemory);
+        };
+        Ok(())
+    }
+
+    fn add_gap(&mut self, allocator: &Allocator, held: &Block, place: usize) -> Result<(), Fault>
+        requires slots { IsListOf allocator.now self.old }
+        requires held { IsOutOf allocator.now held.now }
+        requires place { place ≡ vec_len self.old.list }
+        ensures slots { IfOk result (λ _. IsListOf allocator.now self.new) }
+        ensures len { IfOk result (λ _. vec_len self.new.list ≡ vec_len self.old.list + 1) }
+        ensures room { vec_capacity self.old.list ≤ vec_capacity self.new.list }
+        ensures err { IfErr result (λ e. e ≡ Fault.NoMemory) }
+    {
+        self.gaps.add(place)?;
+        let Ok(()) = self.list.push(Slot::of(allocator, held)) else {
+            return Err(Fault::NoMemory);
+        };
+        Ok(())
+    }
+
+    // The slots of the block and of all blocks inside it, in the order of their places. It is given back
+    // in single frames, the first first: the core stays with the last tree, next to which no other begins.
+    fn add_each(&mut self, allocator: &Allocator, core: &mut Core, held: Block) -> Result<(), Fault>
+        requires slots { IsListOf allocator.now self.old }
+        requires held { IsOutOf allocator.now held }
+        requires core { IsCoreOf allocator.now core.old }
+        ensures core { IsCoreOf allocator.now core.new }
+        ensures slots { IfOk result (λ _. IsListOf allocator.now self.new) }
+        ensures room { vec_capacity self.old.list ≤ vec_capacity self.new.list }
+        ensures given { IfOk result (λ _. HasGiven core.old core.new) }
+        ensures err { IfErr result (λ e. e ≡ Fault.NoMemory) }
+    {
+        let slot = Slot::of(allocator, &held);
+        let (frame, order) = (held.frame(), held.order());
+        match allocator.split(core, held) {
+            Ok((lower, upper)) => {
+                self.add_each(allocator, core, lower)?;
+                self.add(allocator, slot, frame, order)?;
+                self.add_each(allocator, core, upper)
+            }
+            Err(single) => {
+                self.add(allocator, slot, frame, order)?;
+                allocator.give(core, single);
+                Ok(())
+            }
+        }
+    }
+
+    // The slot of the block, where its place is the next one; else it would have none.
+    fn add(&mut self, allocator: &Allocator, slot: Slot, frame: u32, order: u8) -> Result<(), Fault>
+        requires slots { IsListOf allocator.now self.old }
+        requires slot { IsSlotFor allocator.now frame order slot }
+        ensures slots { IfOk result (λ _. IsListOf allocator.now self.new) }
+        ensures room { vec_capacity self.old.list ≤ vec_capacity self.new.list }
+        ensures err { IfErr result (λ e. e ≡ Fault.NoMemory) }
+    {
+        let _ = allocator;
+        if place_of(frame, order) != self.list.len() {
+            return Ok(());
+        }
+        let Ok(()) = self.list.push(slot) else {
+            return Err(Fault::NoMemory);
+        };
+        Ok(())
     }
 }

@@ -1,0 +1,38 @@
+-- Lists of slots: where the slot of a block stands, and where none does.
+use Rattle.std.specs.Prelude.{◌≡◌, ℕ, ◌+◌, ◌-◌, ◌*◌, ◌/◌, ◌%◌, ◌^◌, ◌<◌, ◌≤◌, List, length, slice_index, slice_index_or, vec_capacity}
+use Rattle.std.specs.Int.{bit_at}
+use Rattle.frame_words.specs.Geometry.{child_frames}
+use Rattle.core_frames.specs.declared.shared.allocator.Allocator.{Allocator}
+use Rattle.frame_slots.specs.Slots.{IsSlotFor}
+use Rattle.frame_slots.specs.declared.slot.Slot.{Slot}
+use Rattle.frame_slots.specs.declared.slots.SlotList.{SlotList}
+
+-- the place of a block's slot: the sum of its first frame and its last
+abbrev pub place_for : (frame order : ℕ) → ℕ
+place_for frame order = 2 * frame + 2 ^ order - 1
+
+-- the place is one behind those of a child's blocks, and no block's
+abbrev pub IsBetween : ℕ → Type 0
+IsBetween place = place % (2 * child_frames) ≡ 2 * child_frames - 1
+
+-- how many places have their bits in one word
+abbrev pub gap_bits : ℕ
+gap_bits = 32
+
+-- no block has its slot at the place: its bit is set
+abbrev pub IsGap : List ℕ → ℕ → Type 0
+IsGap gaps place = bit_at (slice_index gaps (place / gap_bits)) (place % gap_bits) ≡ 1
+
+-- a block that the list reaches has its slot at its place, if that is no gap
+abbrev pub AreSlotsOf : Allocator → (slots : List Slot) → (gaps : List ℕ) → Type 0
+AreSlotsOf a slots gaps = (frame order : ℕ) (d : Slot) → order ≤ 9 → frame % 2 ^ order ≡ 0
+    → place_for frame order < length slots → ¬ IsGap gaps (place_for frame order)
+    → IsSlotFor a frame order (slice_index_or slots (place_for frame order) d)
+
+-- they are those of the list
+abbrev pub IsListOf : Allocator → SlotList → Type 0
+IsListOf a s = AreSlotsOf a s.list.items s.gaps.words.items
+
+-- there is room for the slots of all blocks of so many frames
+abbrev pub HasRoomFor : ℕ → SlotList → Type 0
+HasRoomFor frames s = 2 * frames ≤ vec_capacity s.list
