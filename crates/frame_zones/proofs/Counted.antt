@@ -1,7 +1,8 @@
 -- A look over the zones, one after another, and what they count together.
-use Rattle.std.proofs.Common.{◌≡◌, ℕ, zero, suc, ◌+◌, ◌*◌, ◌/◌, ◌^◌, ◌<◌, ◌≤◌, List, [], ◌∷◌, length, slice_index_or}
+use Rattle.std.proofs.Common.{◌≡◌, ℕ, suc, ◌+◌, ◌*◌, ◌/◌, ◌^◌, ◌<◌, ◌≤◌, List, [], ◌∷◌, length, slice_index_or}
 use Rattle.std.proofs.Common.{refl, sym, ◌∙◌, ap, subst, arith, inl, inr}
 use Rattle.std.specs.List.{sum_by, range_with_len}
+use Rattle.std.specs.Vec.{with_item}
 use Rattle.std.proofs.lemmas.Bool.{cases_lt}
 use Rattle.std.proofs.lemmas.List.Sums.{sum_by-cons}
 use Rattle.frame_words.specs.Geometry.{child_frames}
@@ -11,11 +12,12 @@ use Rattle.core_frames.specs.declared.shared.allocator.Allocator.{Allocator}
 use Rattle.core_frames.specs.declared.shared.allocator.Core.{Core}
 use Rattle.core_frames.specs.Cores.{memory_of, moves_by}
 use Rattle.frame_zones.specs.FreeCounts.{free_frames_in, free_huge_in, entry_words_in, HasReadEntries, ReadsIn, IsCountIn}
-use Rattle.frame_zones.specs.FreeCounts.{IsCountAmong, frames_among, entry_words_among}
+use Rattle.frame_zones.specs.FreeCounts.{frames_among, entry_words_among}
 use Rattle.frame_zones.specs.Uses.{moves_through}
-use Rattle.frame_zones.specs.Zones.{zone_count, zone_at, core_at, InEach, AreCoresOf, StayCoresOf}
+use Rattle.frame_zones.specs.Zones.{zone_count, zone_at, core_at, AreCoresOf, StayCoresOf}
 use Rattle.frame_zones.specs.declared.zones.Zones.{Zones}
 use Rattle.frame_zones.specs.declared.zones.ZoneCore.{ZoneCore}
+use Rattle.frame_zones.proofs.Placing.{at_any_zone}
 use Rattle.frame_zones.proofs.Rounds.{stay_on, stay_at_all, one_step, some_zone, some_core}
 
 -- the zones below one were looked over, the others were left alone, and so much was counted
@@ -37,6 +39,14 @@ none_counted count zs c are = record {
   sum = λ a x. refl;
   small = omega arith;
 }
+
+-- what is counted of a zone's core once it was read and written is counted in that zone
+pub counted_here : (count : Allocator → Core → ℕ) (zs : Zones) (c : ZoneCore) (z n : ℕ) (b : Allocator) (x y : Core)
+    → AreCoresOf zs c → z < zone_count zs → b ≡ zone_at zs z b → x ≡ core_at c z x → n ≡ count b y
+    → IsCountIn count zs z (record { cores = with_item c.cores z y; home = c.home }) n
+counted_here count zs c z n b x y are within b-is x-is counted = λ a other.
+    at_any_zone (λ e _ w. n ≡ count e w) zs c (record { cores = with_item c.cores z y; home = c.home }) z b a x y other
+    within are.parts.count b-is x-is refl counted
 
 -- a sum with its last term
 last_term : (f : ℕ → ℕ) (z : ℕ)

@@ -80,14 +80,14 @@ fn print_random<R: Threads + Clock + Print + Sync>(
     println!(rt; "random,{threads},mixed,llfree,{spent},{}", best.refused)
 }
 
-// Tenths of a nanosecond for one take and one give of one thread.
-fn tenths(figure: Figure, count: u64) -> u64 {
+/// Tenths of a nanosecond for one take and one give of one thread.
+pub fn tenths(figure: Figure, count: u64) -> u64 {
     let nanos = u64::try_from(figure.spent.as_nanos()).unwrap_or(u64::MAX);
     nanos.saturating_mul(10) / count.max(1)
 }
 
-// The fastest of some rounds.
-fn fastest<R: Threads + Clock + Sync>(
+/// The fastest of some rounds.
+pub fn fastest<R: Threads + Clock + Sync>(
     rt: &R,
     alloc: Global,
     threads: u32,

@@ -1,5 +1,5 @@
 //! Measures pairs of a take and a give on a shared table; with the word `allocator` first, takes and
-//! gives of a whole memory. The other words are the pairs of a thread and the rounds, of which the
+//! gives of a whole memory, and with the word `zones` of one of many zones. The other words are the pairs of a thread and the rounds, of which the
 //! fastest counts; with no words it prints nothing.
 #![tactic(auto)]
 
@@ -11,6 +11,8 @@ mod phases;
 mod rows;
 mod turns;
 mod works;
+mod zone_rows;
+mod zone_works;
 
 use allocator_rows::print_all;
 use rows::{Plan, Row, fastest};
@@ -73,10 +75,14 @@ fn main(rt: HostRuntime) -> io::Result<()> {
     let Some(first) = words.next() else {
         return Ok(());
     };
-    if first.as_str() == "allocator" {
+    let is_zones = first.as_str() == "zones";
+    if is_zones || first.as_str() == "allocator" {
         let Some(plan) = plan_of(words.next(), words.next()) else {
             return Ok(());
         };
+        if is_zones {
+            return zone_rows::print_all(&rt, rt.alloc(), plan);
+        }
         return print_all(&rt, rt.alloc(), plan);
     }
     let Some(plan) = plan_of(Some(first), words.next()) else {

@@ -1,1 +1,2 @@
 mod NothingHeld
+mod TwoNodes

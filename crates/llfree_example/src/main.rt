@@ -1,6 +1,8 @@
 //! A first program: two threads take and give blocks of one memory. Each hands a block back, the two share no
-//! frame, and once both are given no frame is held.
+//! frame, and once both are given no frame is held. Then a machine with two nodes and a hole between them.
 #![tactic(auto)]
+
+mod nodes;
 
 ghost use Rattle.std.specs.Prelude.{◌≡◌, ◌+◌, ◌+ℤ◌, ◌≤◌, ℕ, pos, [], IfOk, IfSome};
 ghost use Rattle.std.specs.List.{All};
@@ -14,6 +16,7 @@ use core_frames::{Allocator, Core};
 use frame_image::held_frames;
 use frame_table::Block;
 use frame_words::{Fault, Geometry};
+use nodes::two_nodes;
 use std::alloc::Global;
 use std::io;
 use std::thread::{Threads, join};
@@ -123,7 +126,14 @@ fn run<R: Threads + Sync>(rt: &R, alloc: Global) -> Result<u32, Fault>
 
 fn main(rt: HostRuntime) -> io::Result<()> {
     match run(&rt, rt.alloc()) {
-        Ok(held) => println!(rt; "{held} frames are held"),
+        Ok(held) => println!(rt; "{held} frames are held")?,
+        Err(fault) => println!(rt; "{fault}")?,
+    }
+    match two_nodes(rt.alloc()) {
+        Ok(told) => println!(rt;
+            "nodes: frames {} and {} are taken, {} are free",
+            told.frames.0, told.frames.1, told.free
+        ),
         Err(fault) => println!(rt; "{fault}"),
     }
 }

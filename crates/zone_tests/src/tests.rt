@@ -4,4 +4,5 @@ mod calls;
 mod closings;
 mod memory;
 mod openings;
+mod reopenings;
 mod threads;

@@ -10,7 +10,7 @@ use frame_zones::{ZoneCore, Zones};
 use std::alloc::Global;
 
 // How many frames are held.
-fn held_in(image: &Image) -> u32 {
+pub(super) fn held_in(image: &Image) -> u32 {
     let mut held = 0u32;
     for child in 0..image.geometry().children() {
         held = held.saturating_add(512 - image.free(child).min(512));

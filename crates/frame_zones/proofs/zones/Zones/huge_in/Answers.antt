@@ -1,8 +1,7 @@
-use Rattle.std.proofs.Common.{◌≡◌, refl}
-use Rattle.std.specs.Vec.{with_item}
+use Rattle.std.proofs.Common.{refl}
 use Rattle.frame_zones.specs.FreeCounts.{free_huge_in}
-use Rattle.frame_zones.specs.declared.zones.ZoneCore.{ZoneCore}
-use Rattle.frame_zones.proofs.Placing.{core_read, stay_cores, at_any_zone}
+use Rattle.frame_zones.proofs.Counted.{counted_here}
+use Rattle.frame_zones.proofs.Placing.{core_read, stay_cores}
 use Rattle.frame_zones.proofs.zones.Zones.huge_in.Goals as goal
 
 pub free_huge-requires : goal.free_huge-requires
@@ -17,10 +16,6 @@ returns-clause-core c =
 
 pub returns-clause-count : goal.returns-clause-count
 returns-clause-count c =
-    let new : ZoneCore = record {
-      cores = with_item c.args.core.now.cores c.args.zone c.free_huge.new.core;
-      home = c.args.core.now.home;
-    } in
-    λ a x. at_any_zone (λ b _ y. c.free_huge.result ≡ free_huge_in b y) c.args.self.now c.args.core.now new c.args.zone
-    c.index.result.now a c.index_mut.result.now c.free_huge.new.core x c.requires.zone c.requires.core.parts.count
-    c.index.ensures c.index_mut.ensures.value refl c.free_huge.ensures.sum
+    counted_here free_huge_in c.args.self.now c.args.core.now c.args.zone c.free_huge.result c.index.result.now
+    c.index_mut.result.now c.free_huge.new.core c.requires.core c.requires.zone c.index.ensures c.index_mut.ensures.value
+    c.free_huge.ensures.sum

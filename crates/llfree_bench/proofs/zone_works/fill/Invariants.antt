@@ -1,0 +1,5 @@
+use Rattle.frame_zones.specs.Zones.{AreCoresOf}
+use Rattle.llfree_bench.proofs.zone_works.fill.Given as goal
+
+abbrev pub invariant-loop-i : goal.invariant-loop-i
+invariant-loop-i l = AreCoresOf l.zones l.core
