@@ -17,6 +17,7 @@ mod crossings;
 mod free_calls;
 mod handle;
 mod images;
+mod laws;
 mod loose;
 mod plain;
 mod ranges;
@@ -31,3 +32,5 @@ mod statuses;
 mod steps;
 mod stopped_words;
 mod unchecked_openings;
+
+pub use laws::wrong_images_are_not_left;

@@ -1,0 +1,41 @@
+-- Images that would be wrong: no stop leaves such numbers.
+use Rattle.std.specs.Prelude.{◌≡◌, ◌↔◌, ℕ, ◌+◌, ◌*◌, ◌<◌, List, true}
+use Rattle.std.specs.List.{sum_by, range_with_len}
+use Rattle.frame_words.specs.Geometry.{child_frames}
+use Rattle.frame_words.specs.Words.{free_in}
+use Rattle.frame_model.specs.declared.block.FrameBlock.{FrameBlock}
+use Rattle.frame_model.specs.declared.key.Key.{Key}
+use Rattle.frame_core.specs.Events.{State, views_of, Fits}
+use Rattle.frame_core.specs.Holding.{holders, IsHeld}
+use Rattle.frame_core.specs.Key.{frame_count, is_boot_frame}
+use Rattle.frame_core.specs.Laws.{holding_of}
+use Rattle.frame_core.specs.Stops.{IsExact}
+use Rattle.frame_slots.specs.Numbers.{entry_in, IsHeldBy}
+use Rattle.llfree_c.specs.CoreImages.{LeavesStop}
+use Rattle.llfree_c.specs.Images.{SaysAll}
+
+-- how many frames of a child lie in these blocks
+abbrev pub held_in_child : List FrameBlock → ℕ → ℕ
+held_in_child blocks c = sum_by (λ x. holders x blocks) (range_with_len (child_frames * c) child_frames)
+
+-- the numbers hold just the frames of these blocks, and each child counts the others as free
+pub record IsImageOfBlocks (key : Key) (numbers : List ℕ) (blocks : List FrameBlock) : Type 0 where
+  pub held : (x : ℕ) → x < frame_count key → IsHeldBy numbers x ↔ IsHeld blocks x
+  pub free : (c : ℕ) → c < key.children → free_in (entry_in numbers c) + held_in_child blocks c ≡ child_frames
+
+-- no image is left that is of the blocks of no state whose words and views agree
+abbrev pub ImageIsOfNoState : Type 0
+ImageIsOfNoState = (key : Key) (numbers : List ℕ)
+    → ((s : State) → Fits key key.cores s → ¬ IsImageOfBlocks key numbers (holding_of key (views_of s)))
+    → ¬ LeavesStop key numbers
+
+-- no image of a sealed memory is left in which a frame is clear that nobody is ever given
+abbrev pub BootFrameIsClearInImage : Type 0
+BootFrameIsClearInImage = (key : Key) (numbers : List ℕ) (x : ℕ)
+    → key.sealed ≡ true → x < frame_count key → is_boot_frame key x ≡ true → ¬ IsHeldBy numbers x
+    → ¬ LeavesStop key numbers
+
+-- no image is left that says only words with a counter that is off
+abbrev pub CountersAreOff : Type 0
+CountersAreOff = (key : Key) (numbers : List ℕ)
+    → ((words : List ℕ) → SaysAll key words numbers → ¬ IsExact key words) → ¬ LeavesStop key numbers
