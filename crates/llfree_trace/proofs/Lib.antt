@@ -12,3 +12,7 @@ mod NewDesks
 pub mod MovingDesks
 pub mod GoingOn
 mod Ended
+mod Tallies
+pub mod WrongRecords
+pub mod WrongEnds
+pub mod WrongTexts

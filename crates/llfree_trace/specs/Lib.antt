@@ -6,3 +6,5 @@ pub mod RunText
 pub mod Program
 pub mod Command
 pub mod ImageStreams
+pub mod WrongRuns
+pub mod WrongTexts

@@ -5,6 +5,7 @@ mod command;
 mod desk;
 mod gate;
 mod image_streams;
+mod laws;
 mod lines;
 mod many_cores;
 mod many_streams;
@@ -20,6 +21,7 @@ mod transfers;
 
 pub use gate::{Gate, OpenGate};
 pub use image_streams::{rebuild_over, report_over};
+pub use laws::{wrong_ends_are_not_told, wrong_outcomes_are_not_told};
 pub use many_cores::run_trace;
 pub use many_streams::run_many_over;
 pub use one_core::run_one;

@@ -1,0 +1,258 @@
+-- What a record may be answered, from a run that answers it.
+use Rattle.std.proofs.Common.{◌≡◌, ◌≤◌, ◌<◌, ◌∙◌, ◌⊎◌, inl, inr, ℕ, List, [], ◌∷◌, ◌++◌, Bool, true, false, nat_le}
+use Rattle.std.proofs.Common.{refl, sym, ap, subst, arith, Result, Ok, Err}
+use Rattle.std.proofs.lemmas.Grind.{common_steps}
+use Rattle.std.proofs.lemmas.List.Elements.{All-head, All-tail}
+use Rattle.frame_core.specs.Block.{block}
+use Rattle.frame_core.specs.Holding.{IsHolding}
+use Rattle.frame_model.specs.declared.block.FrameBlock.{FrameBlock}
+use Rattle.frame_model.specs.declared.key.Key.{Key}
+use Rattle.frame_words.specs.declared.fault.Fault.{Fault}
+use Rattle.frame_words.specs.declared.fault.Fault.TheVariants as fault
+use Rattle.held_blocks.specs.Desk.{blocks_of, GivesExactly, GivesFirst, TakesUnder, pair_block}
+use Rattle.held_blocks.specs.LabelledBlocks.{HasNone, IsTheBlock, IsUnder, TakesFirst}
+use Rattle.held_blocks.specs.declared.labelled_block.LabelledBlock.{LabelledBlock}
+use Rattle.held_blocks.proofs.HeldLemmas.{all_split}
+use Rattle.llfree_trace.specs.Outcome.{DeskStep, Moves, Runs, core_list}
+use Rattle.llfree_trace.specs.WrongRuns.{GiveIsRefused, IsOfKind, IsReason, ListOverlaps}
+use Rattle.llfree_trace.specs.WrongRuns.{OtherBlockIsGiven, OtherKind, TakeIsRefused, WrongBlockIsTaken, refusing}
+use Rattle.trace_text.specs.declared.line.Line.TheVariants as line
+use Rattle.trace_text.specs.declared.line.Request.{Request}
+use Rattle.trace_text.specs.declared.line.Request.TheVariants as request
+use Rattle.trace_text.specs.declared.reply.Reply.{Reply}
+use Rattle.trace_text.specs.declared.reply.Reply.TheVariants as reply
+
+-- Kinds.
+
+of_kind : (refuses : Key → List FrameBlock → ℕ → Fault → Type 0) (key : Key) (core : ℕ) (old : List LabelledBlock)
+    (ask : Request) (r : Reply) (new : List LabelledBlock) → DeskStep refuses key old ask r new
+    → IsOfKind (line.Ask core ask) r
+unfolding DeskStep
+of_kind refuses key core old (request.Take label order) (reply.Taken f o) new step = tt
+of_kind refuses key core old (request.Take label order) (reply.Refused f) new step = tt
+of_kind refuses key core old (request.Give label) (reply.Given f o) new step = tt
+of_kind refuses key core old (request.Give label) (reply.Refused f) new step = tt
+of_kind refuses key core old (request.GiveAt frame order) (reply.Given f o) new step = tt
+of_kind refuses key core old (request.GiveAt frame order) (reply.Refused f) new step = tt
+of_kind refuses key core old _ _ new step = absurd step
+
+move_of_kind : (old : List (List LabelledBlock)) (core : ℕ) (label : List ℕ) (to : ℕ) (r : Reply)
+    (new : List (List LabelledBlock)) → Moves old core label to r new → IsOfKind (line.Move core label to) r
+unfolding Moves
+move_of_kind old core label to (reply.Moved f o) new step = tt
+move_of_kind old core label to (reply.Refused f) new step = tt
+move_of_kind old core label to _ new step = absurd step
+
+pub other_kind : OtherKind
+unfolding Runs
+other_kind alone key old (line.Ask core ask) r wrong number n k lines answers new run =
+    wrong (of_kind (refusing alone) key core (core_list old core) ask r run.2 run.3)
+other_kind alone key old (line.Move core label to) r wrong number n k lines answers new run =
+    wrong (move_of_kind old core label to r run.2 run.3)
+other_kind alone key old line.Round r wrong number n k lines answers new run = wrong tt
+other_kind alone key old (line.Reserve frame count) r wrong number n k lines answers new run = wrong tt
+
+-- Takes.
+
+pub wrong_block : WrongBlockIsTaken
+unfolding Runs DeskStep TakesUnder
+wrong_block alone key old core label order frame o wrong number n k lines answers new run = wrong (record {
+  has_order = run.3.0.has_order;
+  inside = run.3.0.is_block;
+  unheld = run.3.0.was_free;
+  given = run.3.1;
+})
+
+-- why a take was refused, and that the list is the same
+take_refused : (refuses : Key → List FrameBlock → ℕ → Fault → Type 0) (key : Key) (old : List LabelledBlock)
+    (label : List ℕ) (order : ℕ) (f : Fault) (new : List LabelledBlock) → TakesUnder refuses key old label order (Err f) new
+    → (((f ≡ fault.BadOrder) × (9 < order)) ⊎ ((order ≤ 9) × refuses key (blocks_of old) order f)) × (new ≡ old)
+unfolding TakesUnder
+take_refused refuses key old label order fault.BadOrder new step = (inl (refl, step.0), step.1)
+take_refused refuses key old label order f new step = (inr (step.0, step.1), step.2)
+
+reason : (alone : Bool) (key : Key) (held : List FrameBlock) (order : ℕ) (f : Fault)
+    → refusing alone key held order f → IsReason alone key held order f
+reason true key held order fault.NoBlock why = (refl, why)
+reason true key held order _ why = absurd why
+reason false key held order fault.NoBlock why = inl refl
+reason false key held order fault.Contended why = inr refl
+reason false key held order _ why = absurd why
+
+pub take_is_refused : TakeIsRefused
+unfolding Runs DeskStep
+take_is_refused alone key old core label order f = (
+  λ high other number n k lines answers new run.
+      let why = take_refused (refusing alone) key (core_list old core) label order f run.2 run.3.0 in
+      elim why.0 [
+        | inl h ↦ other h.0
+        | inr h ↦ absurd (omega (arith, high, h.0))
+      ],
+  λ low none number n k lines answers new run.
+      let why = take_refused (refusing alone) key (core_list old core) label order f run.2 run.3.0 in
+      elim why.0 [
+        | inl h ↦ absurd (omega (arith, low, h.1))
+        | inr h ↦ none (reason alone key (blocks_of (core_list old core)) order f h.1)
+      ],
+)
+
+-- Gives and moves.
+
+abbrev head_or : {T : Type 0} → T → List T → T
+head_or d [] = d
+head_or d (x ∷ xs) = x
+
+abbrev tail_of : {T : Type 0} → List T → List T
+tail_of [] = []
+tail_of (x ∷ xs) = xs
+
+-- the first of a kind is one
+same_first : {T : Type 0} (P : T → Type 0) (front : List T) (x : T) (back front' : List T) (y : T) (back' : List T)
+    → HasNone P front → P x → HasNone P front' → P y → front ++ x ∷ back ≡ front' ++ y ∷ back' → x ≡ y
+same_first P [] x back [] y back' none is none' is' same = ap (head_or x) same
+same_first P [] x back (z ∷ front') y back' none is none' is' same =
+    absurd (All-head (λ t. ¬ P t) z front' none' (subst P (ap (head_or x) same) is))
+same_first P (z ∷ front) x back [] y back' none is none' is' same =
+    absurd (All-head (λ t. ¬ P t) z front none (subst P (ap (head_or y) (sym same)) is'))
+same_first P (z ∷ front) x back (w ∷ front') y back' none is none' is' same =
+    same_first P front x back front' y back' (All-tail (λ t. ¬ P t) z front none) is
+    (All-tail (λ t. ¬ P t) w front' none') is' (ap tail_of same)
+
+first_is_one : (P : LabelledBlock → Type 0) (old : List LabelledBlock) (e f : LabelledBlock) (new other : List LabelledBlock)
+    → TakesFirst P old e new → TakesFirst P old f other → e ≡ f
+first_is_one P old e f new other a b =
+    same_first P a.front e a.back b.front f b.back a.first a.holds b.first b.holds (sym a.was ∙ b.was)
+
+not_none : (P : LabelledBlock → Type 0) (old : List LabelledBlock) (e : LabelledBlock) (new : List LabelledBlock)
+    → TakesFirst P old e new → ¬ HasNone P old
+not_none P old e new takes none =
+    (all_split (λ t. ¬ P t) takes.front e takes.back (rw takes.was at none)).0 takes.holds
+
+-- what a give of the first of a kind answers
+given_first : (kind : LabelledBlock → Type 0) (old : List LabelledBlock) (e : LabelledBlock) (others : List LabelledBlock)
+    (b : ℕ × ℕ) (new : List LabelledBlock) → TakesFirst kind old e others → GivesFirst pair_block kind old (Ok b) new
+    → e.block ≡ block b.0 b.1
+unfolding GivesFirst
+given_first kind old e others b new takes step =
+    ap (λ (t : LabelledBlock). t.block) (first_is_one kind old e step.0 others new takes step.2) ∙ step.1
+
+give_refused : (kind : LabelledBlock → Type 0) (old : List LabelledBlock) (f : Fault) (new : List LabelledBlock)
+    → GivesFirst pair_block kind old (Err f) new → (f ≡ fault.NotHeld) × HasNone kind old
+unfolding GivesFirst
+give_refused kind old fault.NotHeld new step = (refl, step.0)
+give_refused kind old f new step = absurd step
+
+-- a give of exactly one block, by its order
+exactly : (old : List LabelledBlock) (frame order : ℕ) (r : Result (ℕ × ℕ) Fault) (new : List LabelledBlock)
+    → GivesExactly old frame order r new
+    → ((9 < order) × (r ≡ Err fault.BadOrder)) ⊎ ((order ≤ 9) × GivesFirst pair_block (IsTheBlock frame order) old r new)
+exactly old frame order r new step = by_order (nat_le order 9) refl
+  where
+    by_order : (t : Bool) → nat_le order 9 ≡ t
+        → ((9 < order) × (r ≡ Err fault.BadOrder)) ⊎ ((order ≤ 9) × GivesFirst pair_block (IsTheBlock frame order) old r new)
+    by_order true e =
+        let low : order ≤ 9 = grind (arith, common_steps) in
+        inr (low, step.1 low)
+    by_order false e =
+        let high : 9 < order = grind (arith, common_steps) in
+        inl (high, (step.0 high).0)
+
+no_block : (r : Result (ℕ × ℕ) Fault) (b : ℕ × ℕ) → r ≡ Ok b → ¬ (r ≡ Err fault.BadOrder)
+no_block r b p q = absurd (cc)
+
+not_bad_order : ¬ (fault.NotHeld ≡ fault.BadOrder)
+not_bad_order e = absurd (cc)
+
+abbrev err_in : Result (ℕ × ℕ) Fault → Fault → Fault
+err_in (Ok b) d = d
+err_in (Err f) d = f
+
+move_refused : (old : List (List LabelledBlock)) (core : ℕ) (label : List ℕ) (to : ℕ) (f : Fault)
+    (new : List (List LabelledBlock)) → Moves old core label to (reply.Refused f) new
+    → (f ≡ fault.NotHeld) × HasNone (IsUnder label) (core_list old core) × (new ≡ old)
+unfolding Moves
+move_refused old core label to fault.NotHeld new step = (refl, step.0, step.1)
+move_refused old core label to f new step = absurd step
+
+pub other_block : OtherBlockIsGiven
+unfolding Runs DeskStep Moves
+other_block alone key old (line.Ask core (request.Take label order)) e others takes = absurd takes.holds
+other_block alone key old (line.Ask core (request.Give label)) e others takes = (
+  λ frame o other. (
+    λ number n k lines answers new run.
+        other (given_first (IsUnder label) (core_list old core) e others (frame, o) run.2 takes run.3),
+    λ number n k lines answers new run. absurd run.3,
+  ),
+  λ number n k lines answers new run.
+      not_none (IsUnder label) (core_list old core) e others takes
+      (give_refused (IsUnder label) (core_list old core) fault.NotHeld run.2 run.3).1,
+)
+other_block alone key old (line.Ask core (request.GiveAt frame order)) e others takes = (
+  λ g o other. (
+    λ number n k lines answers new run.
+        elim (exactly (core_list old core) frame order (Ok (g, o)) run.2 run.3) [
+          | inl h ↦ no_block (Ok (g, o)) (g, o) refl h.1
+          | inr h ↦ other (given_first (IsTheBlock frame order) (core_list old core) e others (g, o) run.2 takes h.1)
+        ],
+    λ number n k lines answers new run. absurd run.3,
+  ),
+  λ number n k lines answers new run.
+      elim (exactly (core_list old core) frame order (Err fault.NotHeld) run.2 run.3) [
+        | inl h ↦ not_bad_order (ap (λ (r : Result (ℕ × ℕ) Fault). err_in r fault.NotHeld) h.1)
+        | inr h ↦ not_none (IsTheBlock frame order) (core_list old core) e others takes
+            (give_refused (IsTheBlock frame order) (core_list old core) fault.NotHeld run.2 h.1).1
+      ],
+)
+other_block alone key old (line.Move core label to) e others takes = (
+  λ frame o other. (
+    λ number n k lines answers new run. absurd run.3,
+    λ number n k lines answers new run.
+        other (ap (λ (t : LabelledBlock). t.block)
+        (first_is_one (IsUnder label) (core_list old core) e run.3.entry others run.3.left takes run.3.leaves)
+        ∙ run.3.is_block),
+  ),
+  λ number n k lines answers new run.
+      not_none (IsUnder label) (core_list old core) e others takes
+      (move_refused old core label to fault.NotHeld run.2 run.3).1,
+)
+other_block alone key old line.Round e others takes = absurd takes.holds
+other_block alone key old (line.Reserve frame count) e others takes = absurd takes.holds
+
+pub give_is_refused : GiveIsRefused
+unfolding Runs DeskStep
+give_is_refused alone key old (line.Ask core (request.Take label order)) f wrong number n k lines answers new run = wrong tt
+give_is_refused alone key old (line.Ask core (request.Give label)) f wrong number n k lines answers new run =
+    wrong (give_refused (IsUnder label) (core_list old core) f run.2 run.3).0
+give_is_refused alone key old (line.Ask core (request.GiveAt frame order)) f wrong number n k lines answers new run =
+    elim (exactly (core_list old core) frame order (Err f) run.2 run.3) [
+      | inl h ↦ wrong (inr (h.0, ap (λ (r : Result (ℕ × ℕ) Fault). err_in r f) h.1))
+      | inr h ↦ wrong (inl (h.0, (give_refused (IsTheBlock frame order) (core_list old core) f run.2 h.1).0))
+    ]
+give_is_refused alone key old (line.Move core label to) f wrong number n k lines answers new run =
+    wrong (move_refused old core label to f run.2 run.3).0
+give_is_refused alone key old line.Round f wrong number n k lines answers new run = wrong tt
+give_is_refused alone key old (line.Reserve frame count) f wrong number n k lines answers new run = wrong tt
+
+-- Lists that overlap.
+
+pub list_overlaps : ListOverlaps
+unfolding Runs DeskStep
+list_overlaps alone key old core x twice = (
+  λ label order f number n k lines answers new run.
+      let same = (take_refused (refusing alone) key (core_list old core) label order f run.2 run.3.0).1 in
+      let holding : IsHolding key (blocks_of (core_list old core)) =
+      subst (λ (l : List LabelledBlock). IsHolding key (blocks_of l)) same run.4 in
+      absurd (omega (arith, twice, holding.disjoint x)),
+  λ label other f. (
+    λ number n k lines answers new run.
+        let same = (move_refused old core label other f run.2 run.3).2 in
+        let holding : IsHolding key (blocks_of (core_list old core)) =
+        subst (λ (ls : List (List LabelledBlock)). IsHolding key (blocks_of (core_list ls core))) same run.4 in
+        absurd (omega (arith, twice, holding.disjoint x)),
+    λ number n k lines answers new run.
+        let same = (move_refused old other label core f run.2 run.3).2 in
+        let holding : IsHolding key (blocks_of (core_list old core)) =
+        subst (λ (ls : List (List LabelledBlock)). IsHolding key (blocks_of (core_list ls core))) same run.5 in
+        absurd (omega (arith, twice, holding.disjoint x)),
+  ),
+)

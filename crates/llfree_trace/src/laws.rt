@@ -1,0 +1,44 @@
+//! What would be wrong, and is told: laws, proved as contracts of functions that do nothing.
+
+ghost use Rattle.llfree_trace.specs.WrongRuns.{FrameIsShared, GiveIsRefused, ListOverlaps};
+ghost use Rattle.llfree_trace.specs.WrongRuns.{OtherBlockIsGiven, OtherFramesAreHeld, OtherIsAnswered};
+ghost use Rattle.llfree_trace.specs.WrongRuns.{OtherKind, TakeIsRefused, WrongBlockIsTaken};
+ghost use Rattle.llfree_trace.specs.WrongTexts.{NoCommandIsDone, NoTraceIsShown, OtherImageIsShown};
+ghost use Rattle.llfree_trace.specs.WrongTexts.{OtherIsDone, OtherIsMade, OtherIsShown};
+ghost use Rattle.llfree_trace.specs.WrongTexts.{OtherPartIsRefused, OtherRecordIsRefused};
+ghost use Rattle.llfree_trace.specs.WrongTexts.{WrongFault, WrongReading, WrongRefusalIsShown};
+ghost use Rattle.llfree_trace.specs.WrongTexts.{WrongSuccess};
+
+/// No outcome of a trace answers a record by a reply of another kind, a take by a block of another
+/// order or by frames that are held, a give by another block than the oldest that is meant, or any of
+/// them by a refusal without its reason; none has an answer too many or too few; and no image of one
+/// holds a frame too many or too few.
+pub fn wrong_outcomes_are_not_told()
+    ensures kind { OtherKind }
+    ensures taken { WrongBlockIsTaken }
+    ensures take_refused { TakeIsRefused }
+    ensures given { OtherBlockIsGiven }
+    ensures give_refused { GiveIsRefused }
+    ensures overlap { ListOverlaps }
+    ensures answers { OtherIsAnswered }
+    ensures shared { FrameIsShared }
+    ensures held { OtherFramesAreHeld }
+{}
+
+/// No text is shown of what says none, or that is no outcome's; no record is refused but the lowest;
+/// no call succeeds, or is refused, but as its bytes and its devices say; and no words do what they
+/// don't name.
+pub fn wrong_ends_are_not_told()
+    ensures no_trace { NoTraceIsShown }
+    ensures shown { OtherIsShown }
+    ensures cores { WrongRefusalIsShown }
+    ensures image { OtherImageIsShown }
+    ensures record_refused { OtherRecordIsRefused }
+    ensures part_refused { OtherPartIsRefused }
+    ensures success { WrongSuccess }
+    ensures reading { WrongReading }
+    ensures fault { WrongFault }
+    ensures made { OtherIsMade }
+    ensures no_command { NoCommandIsDone }
+    ensures done { OtherIsDone }
+{}
