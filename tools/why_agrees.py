@@ -8,6 +8,7 @@ import subprocess
 import sys
 
 import fuzz
+import records
 import why
 
 SEED = 34
@@ -24,7 +25,7 @@ def disagreement(case):
     """How the two differ on a case, or None; 'left out' where the case is about the command line alone."""
     program, place = case
     words, data = fuzz.a_case(SEED, place)
-    if words[:1] in (['run'], ['image']) and why.is_sizes(words[1:]):
+    if words[:1] in (['run'], ['image']) and records.is_sizes(words[1:]):
         words = words[1:]
     elif words in (['rebuild'], ['report']):
         words = []
