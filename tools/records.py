@@ -1,5 +1,5 @@
-"""The rules of traces and images of docs/FORMATS.md, each with the sentence that says how a record breaks it: for why.py,
-fuzz.py, picture.py and buddyinfo.py."""
+"""The rules of traces and images of docs/FORMATS.md, each with the sentence that says how a record breaks it: for
+why.py, fuzz.py, picture.py and buddyinfo.py."""
 CHILD_FRAMES = 512
 TREE_CHILDREN = 8
 HUGE_ORDER = 9
