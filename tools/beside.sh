@@ -249,7 +249,7 @@ for program in "${@:-crates/llfree/out/llfree}"; do
     if [ -x "$program" ]; then
         replays "$program"
         tries "$program: the SYNOPSIS of llfree.1" is_usage "$program"
-        tries "$program: why.py names what it names" tools/why_agrees.py "$program" 2000
+        tries "$program: why.py names what it names" tools/why_agrees.py "$program" 10700
     else
         echo "beside: $program: not built"
         failed=$((failed + 1))
