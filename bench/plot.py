@@ -3,11 +3,12 @@
 recording that is replayed, how many takes and gives.
 
     bench/plot.py bench/results/FILE [--only GROUP ..] > PLOT.svg
-    bench/plot.py --measure allocator|c|replay [--only GROUP ..] > PLOT.svg
+    bench/plot.py --measure allocator|c|pairs|replay [--only GROUP ..] > PLOT.svg
 
 A file of bench/results has lines `# machine:`, `# date:`, `# method:` and then the table as the script prints it,
-with a line for each number of threads. A group is an order, or a kind of work and an order (`random,mixed`); with
-none named all are drawn. --measure runs the script first, which takes its time, and lays down such a file.
+with a line for each number of threads. A group is an order, or a kind of work and an order (`random,mixed`), or trees
+and an order (`one tree,0`); with none named all are drawn. --measure runs the script first, which takes its time, and
+lays down such a file.
 """
 import argparse
 import datetime
@@ -48,13 +49,14 @@ def cells_of(text):
 
 
 def rows_of(table):
-    """The rows of a table, each a cell by the name of its column. The columns are flush right, but for the first."""
+    """The rows of a table, each a cell by the name of its column. The columns are flush right, but for the first, which
+    alone may have two words."""
     head, *lines = table
     ends = {end: name for name, end in cells_of(head)}
     first = cells_of(head)[0][0]
     for line in lines:
         row = {}
-        for match in re.finditer(r'\S+', line):
+        for match in re.finditer(r'^[a-z]+ [a-z]+|\S+', line):
             name = first if match.start() == 0 else ends.get(match.end())
             if name is not None:
                 row[name] = match[0]
@@ -99,7 +101,8 @@ def title_of(group):
     if not group:
         return 'takes and gives as recorded'
     *kind, order = group.split(',')
-    kinds = {'pairs': 'take and give', 'fill': 'fill and empty', 'random': 'random, half held'}
+    kinds = {'pairs': 'take and give', 'fill': 'fill and empty', 'random': 'random, half held',
+             'own trees': 'trees of their own', 'one tree': 'all on one tree'}
     words = 'mixed orders' if order == 'mixed' else f'order {order}'
     return ', '.join([kinds.get(word, word) for word in kind] + [words])
 
@@ -146,6 +149,11 @@ class Panel:
         places = [(self.right_of(threads), self.height_of(figure)) for threads, figure in points]
         path = ' '.join(f'{right:.1f},{height:.1f}' for right, height in places)
         yield f'<polyline points="{path}" fill="none" stroke="{colour}" stroke-width="{width}"/>'
+        if len(places) == 1:
+            # a ring, which is seen around a point of another line
+            right, height = places[0]
+            yield (f'<circle cx="{right:.1f}" cy="{height:.1f}" r="7" fill="none" stroke="{colour}" '
+                   'stroke-width="2"/>')
         for right, height in places:
             yield f'<circle cx="{right:.1f}" cy="{height:.1f}" r="{width // 2 + 2}" fill="{colour}"/>'
 
@@ -241,7 +249,7 @@ def text_of(given):
 def main():
     parser = argparse.ArgumentParser(description=__doc__.split('\n', maxsplit=1)[0])
     parser.add_argument('file', nargs='?', help='a file of bench/results; standard input where none is named')
-    parser.add_argument('--measure', choices=('allocator', 'c', 'replay'), help='measure first')
+    parser.add_argument('--measure', choices=('allocator', 'c', 'pairs', 'replay'), help='measure first')
     parser.add_argument('--only', nargs='+', metavar='GROUP', help="as '0', or 'pairs,0'")
     given = parser.parse_args()
     try:

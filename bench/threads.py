@@ -44,6 +44,12 @@ def run(cores, name):
     return spent, usage.ru_maxrss * 1024
 
 
+def shows(text):
+    """How far it is, in one line of standard error, where that is a terminal; no text clears it."""
+    if sys.stderr.isatty():
+        print(f'\r\033[K{text}', end='', file=sys.stderr, flush=True)
+
+
 def main():
     cases = [(cores, kind) for cores in (1, 2, 4) for kind in ('pairs', 'refused')]
     least, most = {}, {}
@@ -53,11 +59,13 @@ def main():
             names[cores, kind] = os.path.join(folder, f'{kind}-{cores}')
             with open(names[cores, kind], 'w', encoding='ascii') as out:
                 out.write(trace(cores, kind))
-        for _ in range(RUNS):
+        for turn in range(1, RUNS + 1):
+            shows(f'run {turn} of {RUNS}')
             for case in cases:
                 spent, memory = run(case[0], names[case])
                 least[case] = min(spent, least.get(case, spent))
                 most[case] = max(memory, most.get(case, memory))
+    shows('')
     print(f'{"cores":>5} {"pairs s":>9} {"times":>6} {"no step s":>10} {"bytes a record":>15}')
     for cores in (1, 2, 4):
         pairs, none = least[cores, 'pairs'], least[cores, 'refused']

@@ -20,9 +20,9 @@
  *     and closings are made at the same time. Each returns (no longjmp, no exception), and calls
  *     nothing of this header.
  *
- * A take, a give or a split needs less than 1 KiB of stack, an opening or a closing with an image some
- * 5.4 KiB (measured, not proved). The code is for x86-64 processors with popcnt, the library for kernels
- * too.
+ * A take, a give or a split needs less than 1 KiB of stack, an opening or a closing with an image less
+ * than 6 KiB (measured, not proved). The code is for x86-64 processors with popcnt, the library for
+ * kernels too.
  */
 #ifndef LLFREE_H
 #define LLFREE_H

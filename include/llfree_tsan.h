@@ -28,10 +28,9 @@
 
 /* Outside of valgrind its requests cost some instructions; with NVALGRIND, which is its own name, none are made. */
 #if defined __has_include && !defined NVALGRIND
-#if __has_include(<valgrind/helgrind.h>) && __has_include(<valgrind/drd.h>) && __has_include(<valgrind/memcheck.h>)
+#if __has_include(<valgrind/helgrind.h>) && __has_include(<valgrind/memcheck.h>)
 #define LLFREE_TELLS_VALGRIND 1
 #include <valgrind/helgrind.h>
-#include <valgrind/drd.h>
 #include <valgrind/memcheck.h>
 #endif
 #endif
@@ -62,14 +61,12 @@ static inline void llfree_tell(llfree_core *handle, void *address, uint32_t fram
     if (RUNNING_ON_VALGRIND) {
         char *from = (char *)address + (size_t)LLFREE_FRAME_BYTES * frame;
         size_t bytes = (size_t)LLFREE_FRAME_BYTES * count;
-        int helgrind = is_taken ? _VG_USERREQ__HG_USERSO_RECV_POST : _VG_USERREQ__HG_USERSO_SEND_PRE;
-        int drd = is_taken ? VG_USERREQ__DRD_ANNOTATE_HAPPENS_AFTER : VG_USERREQ__DRD_ANNOTATE_HAPPENS_BEFORE;
+        /* DRD knows these two by the same numbers */
+        int mark = is_taken ? _VG_USERREQ__HG_USERSO_RECV_POST : _VG_USERREQ__HG_USERSO_SEND_PRE;
         if (!is_taken)
             (void)VALGRIND_MAKE_MEM_NOACCESS(from, bytes);
-        for (char *at = from; at < from + bytes; at += LLFREE_FRAME_BYTES) {
-            VALGRIND_DO_CLIENT_REQUEST_STMT(helgrind, at, 0, 0, 0, 0);
-            VALGRIND_DO_CLIENT_REQUEST_STMT(drd, at, 0, 0, 0, 0);
-        }
+        for (char *at = from; at < from + bytes; at += LLFREE_FRAME_BYTES)
+            VALGRIND_DO_CLIENT_REQUEST_STMT(mark, at, 0, 0, 0, 0);
         if (is_taken)
             (void)VALGRIND_MAKE_MEM_UNDEFINED(from, bytes);
     }

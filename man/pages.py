@@ -18,6 +18,9 @@ llfree \- page frames, taken and given by frame and order
 """
 TAIL = r""".SH SEE ALSO
 .BR llfree (1)
+.PP
+llfree_text.h says what a status means (llfree_status_text), llfree_tsan.h tells ThreadSanitizer and valgrind who has which
+frame, llfree_compat.h has the names of llfree\-c; docs/C.md has how all of it is built and installed.
 """
 ITEM = re.compile(r' {1,4}(\d+\.|-) +(.*)')
 FUNCTION = re.compile(r'\b(llfree_\w+)\(')
@@ -32,7 +35,7 @@ def blocks_of(header):
         # what a compiler is told, and of a function that is written out all but what a caller sees, is left out
         code = re.sub(r'LLFREE_NODISCARD\n| LLFREE_STATUS_TYPE\b', '', rest.strip('\n'))
         code = re.sub(r'\n\{.*', ';', code, flags=re.DOTALL)
-        is_code = 'llfree_' in code or 'LLFREE_CLOSED' in code or 'LLFREE_EMPTY' in code
+        is_code = 'llfree_' in code or code.startswith('#define LLFREE_') and 'NODISCARD' not in code
         if not code.startswith('#if ') and not code.startswith('#ifdef '):
             yield lines_of(comment), code if is_code else ''
 

@@ -54,6 +54,46 @@ converter() {
     tries 'blocks in parts' cmp examples/replay/parts.csv "$work/parts"
     refuses 'no recording' 'a line\n' tools/kernel_trace.py
     refuses 'a window past the last' "$(head -n 3 examples/replay/parts.txt)\n" tools/kernel_trace.py --window 2
+    tries 'windows' are_windows "$work/events"
+}
+
+# are_windows EVENTS: with room for 20,000 records in a trace the recording is several, each with room kept and each
+# beginning with a take of every block that the one before left held; together they have its takes and gives
+are_windows() {
+    python3 -c '
+import collections, sys
+sys.path.insert(0, "tools")
+import kernel_trace, records
+kernel_trace.MOST_RECORDS, kernel_trace.SLICE_RECORDS = 20_000, 1_000
+with open(sys.argv[1], encoding="utf-8") as text:
+    events = text.readlines()
+
+def takes_of(lines):
+    return collections.Counter((line.core, line.label, line.order) for line in lines if line.kind == "take")
+
+for cores in 1, 3:
+    left, all_kinds, window, goes_on = collections.Counter(), collections.Counter(), 0, True
+    while goes_on:
+        window, rows = window + 1, []
+        converter = kernel_trace.Converter(cores, 10_000, window, rows.append)
+        goes_on = kernel_trace.convert(events, converter)
+        lines = records.trace_of("".join(rows).encode(), cores)
+        assert len(lines) <= kernel_trace.MOST_RECORDS
+        before = sum(left.values())
+        assert takes_of(lines[:before]) == left, window
+        held = {}
+        for line in lines:
+            if line.kind == "take":
+                assert (line.core, line.label) not in held
+                held[line.core, line.label] = line.order
+            elif line.kind == "give":
+                del held[line.core, line.label]
+            elif line.kind == "move":
+                held[line.to, line.label] = held.pop((line.core, line.label))
+        left = collections.Counter((*block, order) for block, order in held.items())
+        all_kinds.update(line.kind for line in lines[before:])
+    assert window > 3
+    assert (all_kinds["take"], all_kinds["give"]) == (35_589, 34_667), all_kinds' "$1"
 }
 
 # replays PROGRAM: on one core every take is taken and every give given, and as many frames are held as was counted
@@ -134,6 +174,8 @@ plots() {
         bench/plot.py >"$work/plot"
     tries 'the plot of a replay' grep -q 'million takes and gives a second' "$work/plot"
     tries 'the plot of a replay: its lines' [ "$(grep -c '<polyline' "$work/plot")" = 2 ]
+    bench/plot.py bench/results/pairs-2026-11-26.txt --only 'one tree,9' >"$work/plot"
+    tries 'the plot in a tree' grep -q 'all on one tree, order 9' "$work/plot"
     refuses 'a plot of no table' '# date: today\n' bench/plot.py
 }
 
@@ -159,6 +201,14 @@ completed() {
         bash "$@"
 }
 
+# the words that zsh offers for the last word of a command line, by stand-ins for what its completion calls
+offered() {
+    zsh -fc '_describe() { print -r -- ${${(P)2}%%:*} }
+        _wanted() { while [[ $1 != compadd ]]; do shift; done; print -r -- ${@:2} }
+        words=("$@") CURRENT=$#
+        . completions/_llfree' zsh "$@"
+}
+
 pages() {
     makes 'llfree.3, of the header' include/llfree.h man/llfree.3 man/pages.py
     local page
@@ -174,7 +224,14 @@ pages() {
     tries 'completion: cores' [ "$(completed llfree run 8 6)" = 64 ]
     tries 'completion: frames' [ "$(completed llfree image 8 1 '')" = 4096 ]
     tries 'completion: a file' [ "$(completed llfree report '<' README)" = README.md ]
-    ! command -v zsh >/dev/null || tries 'completion for zsh' zsh -n completions/_llfree
+    if command -v zsh >/dev/null; then
+        tries 'completion for zsh: commands' [ "$(offered llfree '')" = 'run image rebuild report' ]
+        tries 'completion for zsh: cores' [ "$(offered llfree run 8 '')" = '1 2 4 8 16 32 64' ]
+        tries 'completion for zsh: frames' [ "$(offered llfree image 8 1 '')" = 4096 ]
+        tries 'completion for zsh: nothing' [ -z "$(offered llfree report '')" ]
+    else
+        echo 'completion for zsh: no zsh'
+    fi
 }
 
 # is_usage PROGRAM: the lines of the SYNOPSIS are the program's own
@@ -192,7 +249,7 @@ for program in "${@:-crates/llfree/out/llfree}"; do
     if [ -x "$program" ]; then
         replays "$program"
         tries "$program: the SYNOPSIS of llfree.1" is_usage "$program"
-        tries "$program: why.py names what it names" tools/why_agrees.py "$program" 2000
+        tries "$program: why.py names what it names" tools/why_agrees.py "$program" 10700
     else
         echo "beside: $program: not built"
         failed=$((failed + 1))

@@ -3,8 +3,8 @@
 
 Traces and images are made, hurt byte by byte, cut, repeated, quoted and stretched, and run through
 `run`, `image`, `rebuild` and `report`. Status, output and errors have to be just what docs/USAGE.md
-and docs/FORMATS.md say of that text: the checker reads it again, finds the record that is refused,
-and follows the answers of what is accepted frame by frame. One seed tries the same cases each time;
+and docs/FORMATS.md say of that text: the checker reads it again by the rules of tools/records.py, finds the
+record that is refused, and follows the answers of what is accepted frame by frame. One seed tries the same cases each time;
 each case that fails is kept as a file.
 
     tools/fuzz.py [--cases N] [--seed N] [--jobs N] [--seconds N] [--program FILE] [--under WORDS]
@@ -19,25 +19,11 @@ import sys
 import tempfile
 import time
 
-CHILD_FRAMES = 512
-TREE_CHILDREN = 8
-HUGE_ORDER = 9
-MOST_BYTES = 16_777_216
-MOST_RECORDS = 1_000_000
-MOST_RANGES = 1_024
-LABEL_BYTES = frozenset(b'ABCDEFGHIJKLMNOPQRSTUVWXYZabcdefghijklmnopqrstuvwxyz0123456789_-')
+import records
+from records import CHILD_FRAMES, HUGE_ORDER, MARK, MOST_BYTES, MOST_RECORDS, TREE_CHILDREN, Refused
+
 USAGE = (b'usage: llfree run CHILDREN CORES [FRAMES] | llfree image CHILDREN CORES [FRAMES]'
          b' | llfree rebuild | llfree report\n')
-MARK = b'\xef\xbb\xbf'
-
-
-class Refused(Exception):
-    """What the program has to refuse: its status, and the fault that it names."""
-
-    def __init__(self, status, fault):
-        super().__init__(fault)
-        self.status = status
-        self.fault = fault
 
 
 class Wrong(Exception):
@@ -47,135 +33,6 @@ class Wrong(Exception):
 def expect(condition, text):
     if not condition:
         raise Wrong(text)
-
-
-# Texts
-
-
-def records_of(data):
-    """The records of a CSV text, each a list of fields."""
-    if data.startswith(MARK):
-        data = data[len(MARK):]
-    if b'"' in data:
-        return quoted_records_of(data)
-    return [line.split(b',') for line in data.replace(b'\r', b'\n').split(b'\n') if line]
-
-
-def quoted_records_of(data):
-    records, fields, field = [], [], bytearray()
-    # between: at the start of a record; start: of a field; closed: behind a quote inside quotes
-    state = 'between'
-    for byte in data:
-        if state == 'quoted':
-            if byte == 0x22:
-                state = 'closed'
-            else:
-                field.append(byte)
-        elif state == 'closed' and byte == 0x22:
-            field.append(byte)
-            state = 'quoted'
-        elif byte in (0x0a, 0x0d):
-            if state != 'between':
-                records.append(fields + [bytes(field)])
-            fields, field, state = [], bytearray(), 'between'
-        elif byte == 0x2c:
-            fields.append(bytes(field))
-            field, state = bytearray(), 'start'
-        elif byte == 0x22 and state in ('between', 'start'):
-            state = 'quoted'
-        else:
-            field.append(byte)
-            state = 'field'
-    if state != 'between':
-        records.append(fields + [bytes(field)])
-    return records
-
-
-def number(field, most):
-    """The number of a field, or None."""
-    if not 1 <= len(field) <= 20 or not all(0x30 <= byte <= 0x39 for byte in field):
-        return None
-    value = int(field)
-    return value if value <= most else None
-
-
-def is_label(field):
-    return 1 <= len(field) <= 16 and all(byte in LABEL_BYTES for byte in field)
-
-
-# Traces
-
-
-class Line:
-    def __init__(self, kind, core=None, label=None, frame=None, order=None, to=None, count=None):
-        self.kind, self.core, self.label = kind, core, label
-        self.frame, self.order, self.to, self.count = frame, order, to, count
-
-
-def line_of(fields, cores, before):
-    """The line of a record, or None where it is refused; before is the kind of the one before it."""
-    if len(fields) != 4:
-        return None
-    first, kind, third, fourth = fields
-    if kind == b'round':
-        return Line('round') if not first and not third and not fourth else None
-    if kind == b'reserve':
-        start, count = number(third, 2**32 - 1), number(fourth, 2**32 - 1)
-        if first or start is None or count is None or before not in (None, 'reserve'):
-            return None
-        return Line('reserve', frame=start, count=count)
-    core = number(first, cores - 1)
-    if core is None:
-        return None
-    if kind == b'take':
-        order = number(fourth, 255)
-        return Line('take', core, third, order=order) if is_label(third) and order is not None else None
-    if kind == b'give':
-        return Line('give', core, third) if is_label(third) and not fourth else None
-    if kind == b'giveat':
-        frame, order = number(third, 2**32 - 1), number(fourth, 255)
-        if frame is None or order is None:
-            return None
-        return Line('giveat', core, frame=frame, order=order)
-    if kind == b'move':
-        to = number(fourth, cores - 1)
-        if not is_label(third) or to is None or before not in ('round', 'move'):
-            return None
-        return Line('move', core, third, to=to)
-    return None
-
-
-def trace_of(data, cores):
-    lines, before = [], None
-    for place, fields in enumerate(records_of(data), 1):
-        line = line_of(fields, cores, before) if place <= MOST_RECORDS else None
-        if line is None:
-            raise Refused(1, f'bad trace at record {place}')
-        lines.append(line)
-        before = line.kind
-    return lines
-
-
-# Sizes
-
-
-def is_sizes(words):
-    return len(words) in (2, 3) and all(1 <= len(word) <= 9 and word.isascii() and word.isdigit() for word in words)
-
-
-def sizes_of(words):
-    """Children, cores and frames of a command line."""
-    children, cores = int(words[0]), int(words[1])
-    if not 1 <= children <= 4096 or not 1 <= cores <= 64:
-        raise Refused(1, 'bad geometry')
-    frames = int(words[2]) if len(words) == 3 else CHILD_FRAMES * children
-    if not CHILD_FRAMES * (children - 1) < frames <= CHILD_FRAMES * children:
-        raise Refused(1, 'bad range')
-    return children, cores, frames
-
-
-def tree_children(children, tree):
-    return min(TREE_CHILDREN, children - TREE_CHILDREN * tree)
 
 
 # Memories
@@ -227,17 +84,6 @@ class Memory:
 
     def leave(self, frame, order):
         self.held[frame:frame + (1 << order)] = bytes(1 << order)
-
-
-def ranges_of(lines, frames):
-    """The ranges that a trace holds back."""
-    ranges = [(line.frame, line.count) for line in lines if line.kind == 'reserve']
-    end = 0
-    for start, count in ranges:
-        if len(ranges) > MOST_RANGES or count < 1 or start < end or start + count > frames:
-            raise Refused(1, 'bad range')
-        end = start + count
-    return ranges
 
 
 def take(memory, line, word, block):
@@ -335,16 +181,7 @@ def bits_in(number):
     return bin(number).count('1')
 
 
-class Image:
-    def __init__(self, children, cores, frames):
-        self.children, self.cores, self.frames = children, cores, frames
-        self.trees = -(-children // TREE_CHILDREN)
-        self.free, self.huge, self.words = [], [], []
-        self.tree, self.local = [], []
-
-    def tree_size(self, tree):
-        return CHILD_FRAMES * tree_children(self.children, tree)
-
+class Image(records.Image):
     def clear(self, child):
         """The frames of a child that are not held, by its bits and its flag, a bit for each."""
         return 0 if self.huge[child] else ~self.words[child] & (1 << CHILD_FRAMES) - 1
@@ -374,8 +211,8 @@ class Image:
     def report(self):
         rows = []
         for tree in range(self.trees):
-            clears = [self.clear(child) for child in range(
-                TREE_CHILDREN * tree, TREE_CHILDREN * tree + tree_children(self.children, tree))]
+            first = TREE_CHILDREN * tree
+            clears = [self.clear(child) for child in range(first, min(first + TREE_CHILDREN, self.children))]
             free = sum(bits_in(clear) for clear in clears)
             blocks = []
             for order in range(HUGE_ORDER + 1):
@@ -389,88 +226,9 @@ class Image:
         return ''.join(f'{name},{",".join(map(str, row))}\n' for name, row in zip(named, rows + [total])).encode()
 
 
-def words_of(field):
-    if len(field) != 128 or not all(byte in b'0123456789abcdefABCDEF' for byte in field):
-        return None
-    return sum(int(field[16 * w:16 * (w + 1)], 16) << 64 * w for w in range(8))
-
-
-def first_of_image(fields):
-    if len(fields) != 5 or fields[0] != b'llfree':
-        return None
-    version, children, cores = number(fields[1], 2), number(fields[2], 4096), number(fields[3], 64)
-    if not version or not children or not cores:
-        return None
-    if version == 1:
-        return Image(children, cores, CHILD_FRAMES * children) if not fields[4] else None
-    frames = number(fields[4], CHILD_FRAMES * children)
-    if frames is None or frames <= CHILD_FRAMES * (children - 1):
-        return None
-    return Image(children, cores, frames)
-
-
-def add_child(image, child, fields):
-    free, huge, words = number(fields[2], CHILD_FRAMES), number(fields[3], 1), words_of(fields[4])
-    past = max(0, CHILD_FRAMES * (child + 1) - image.frames)
-    if free is None or huge is None or words is None:
-        return False
-    if past and (huge or words >> (CHILD_FRAMES - past) != (1 << past) - 1):
-        return False
-    image.free.append(free)
-    image.huge.append(huge)
-    image.words.append(words)
-    return True
-
-
-def add_tree(image, tree, fields):
-    free, reserved = number(fields[2], image.tree_size(tree)), number(fields[3], 1)
-    if free is None or reserved is None or fields[4]:
-        return False
-    image.tree.append((free, reserved))
-    return True
-
-
-def add_core(image, fields):
-    if fields[2:] == [b'', b'', b'']:
-        image.local.append(None)
-        return True
-    tree = number(fields[2], image.trees - 1)
-    free = None if tree is None else number(fields[3], image.tree_size(tree))
-    if free is None or fields[4]:
-        return False
-    image.local.append((tree, free))
-    return True
-
-
-def image_of(data):
-    image = None
-    place = 0
-    for place, fields in enumerate(records_of(data), 1):
-        if image is None:
-            image = first_of_image(fields)
-            lawful = image is not None
-        elif len(fields) != 5:
-            lawful = False
-        elif len(image.free) < image.children:
-            child = len(image.free)
-            lawful = fields[0] == b'child' and number(fields[1], 2**32) == child and add_child(image, child, fields)
-        elif len(image.tree) < image.trees:
-            tree = len(image.tree)
-            lawful = fields[0] == b'tree' and number(fields[1], 2**32) == tree and add_tree(image, tree, fields)
-        else:
-            core = len(image.local)
-            lawful = (core < image.cores and fields[0] == b'core' and number(fields[1], 2**32) == core
-                      and add_core(image, fields))
-        if not lawful:
-            raise Refused(1, f'bad image at record {place}')
-    if image is None or len(image.local) < image.cores:
-        raise Refused(1, f'bad image at record {place + 1}')
-    return image
-
-
 def check_image(memory, output, is_same_run):
     """The image of a run: its counters add up, and its bits and flags are what that run holds."""
-    image = image_of(output)
+    image = records.image_of(output, Image)
     expect(image.text() == output, 'an image in another form')
     expect((image.children, image.cores, image.frames) == (memory.children, memory.cores, memory.frames), 'sizes')
     rebuilt = image.rebuilt()
@@ -523,11 +281,10 @@ def try_trace(program, sizes, data):
     """A trace is run twice, for its answers and for its image; on one core both are of the same run."""
     answers, picture = Answer(program, ['run', *sizes], data), Answer(program, ['image', *sizes], data)
     try:
-        children, cores, frames = sizes_of(sizes)
-        if len(data) > MOST_BYTES:
-            raise Refused(3, 'read failed')
-        lines = trace_of(data, cores)
-        memory = Memory(children, cores, frames, ranges_of(lines, frames))
+        children, cores, frames = records.sizes_of(sizes)
+        records.expect_length(data)
+        lines = records.trace_of(data, cores)
+        memory = Memory(children, cores, frames, records.ranges_of(lines, frames))
     except Refused as refused:
         answers.is_refusal(refused)
         picture.is_refusal(refused)
@@ -540,9 +297,8 @@ def try_trace(program, sizes, data):
 def try_image(program, data):
     rebuilt, report = Answer(program, ['rebuild'], data), Answer(program, ['report'], data)
     try:
-        if len(data) > MOST_BYTES:
-            raise Refused(3, 'read failed')
-        image = image_of(data)
+        records.expect_length(data)
+        image = records.image_of(data, Image)
     except Refused as refused:
         rebuilt.is_refusal(refused)
         report.is_refusal(refused)
@@ -554,7 +310,7 @@ def try_image(program, data):
 
 def try_words(program, words, data):
     usage = (2, b'', USAGE)
-    if words[:1] in (['run'], ['image']) and is_sizes(words[1:]):
+    if words[:1] in (['run'], ['image']) and records.is_sizes(words[1:]):
         return try_trace(program, words[1:], data)
     if words in (['rebuild'], ['report']):
         return try_image(program, data)

@@ -98,11 +98,14 @@ def plural(count, word, words):
 
 
 def title(image):
+    """What the memory holds; frames past its end, whose bits are set, are none of it."""
     parts = [frames_held(image, child) for child in range(image.children)]
-    held = sum(frames for frames, _ in parts)
+    past = image.children * records.CHILD_FRAMES - image.frames
+    held = sum(frames for frames, _ in parts) - past
     free = sum(frames == 0 for frames, _ in parts)
-    return (f'{plural(image.children, "child", "children")} ({image.children * 2:,} MiB), '
-            f'{plural(image.cores, "core", "cores")}: {held:,} of {image.children * records.CHILD_FRAMES:,} frames '
+    size = f'{image.frames / 256:,.1f}'.removesuffix('.0')
+    return (f'{plural(image.children, "child", "children")} ({size} MiB), '
+            f'{plural(image.cores, "core", "cores")}: {held:,} of {image.frames:,} frames '
             f'held, {plural(free, "huge frame", "huge frames")} free')
 
 

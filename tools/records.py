@@ -1,4 +1,5 @@
-"""The rules of traces and images of docs/FORMATS.md, each with the sentence that says how a record breaks it."""
+"""The rules of traces and images of docs/FORMATS.md, each with the sentence that says how a record breaks it: for
+why.py, fuzz.py, picture.py and buddyinfo.py."""
 CHILD_FRAMES = 512
 TREE_CHILDREN = 8
 HUGE_ORDER = 9
@@ -205,6 +206,11 @@ def ranges_of(lines, frames):
     return ranges
 
 
+def is_sizes(words):
+    """Whether these words of a command line are numbers of sizes, whatever they say."""
+    return len(words) in (2, 3) and all(1 <= len(word) <= 9 and word.isascii() and word.isdigit() for word in words)
+
+
 def sizes_of(words):
     """Children, cores and frames of a command line that has two or three words of digits."""
     children, cores = int(words[0]), int(words[1])
@@ -215,9 +221,13 @@ def sizes_of(words):
     most = CHILD_FRAMES * children
     frames = int(words[2]) if len(words) == 3 else most
     if not most - CHILD_FRAMES < frames <= most:
-        raise Refused(1, 'bad range',
-                      f'{children} children have {most - CHILD_FRAMES + 1} to {most} frames, and here are {frames}')
+        raise Refused(1, 'bad range', f'{so_many(children)} {"has" if children == 1 else "have"} '
+                      f'{most - CHILD_FRAMES + 1} to {most} frames, and here {"is" if frames == 1 else "are"} {frames}')
     return children, cores, frames
+
+
+def so_many(children):
+    return '1 child' if children == 1 else f'{children} children'
 
 
 def expect_length(data):
@@ -256,9 +266,9 @@ def first_of_image(fields, make):
     if version == 1:
         expect_empty(fields, (4,), 'an image of version 1')
         return make(children, cores, CHILD_FRAMES * children)
-    frames = number(fields[4], CHILD_FRAMES * children, f'FRAMES of {children} children')
+    frames = number(fields[4], CHILD_FRAMES * children, f'FRAMES of {so_many(children)}')
     expect(frames > CHILD_FRAMES * (children - 1),
-           f'FRAMES of {children} children end in the last one, and here are {frames}')
+           f'FRAMES of {so_many(children)} end in the last one, and here are {frames}')
     return make(children, cores, frames)
 
 
@@ -306,7 +316,7 @@ def add_core(image, fields):
         expect_empty(fields, (3,), 'a core without a tree')
         image.local.append(None)
         return
-    tree = number(fields[2], image.trees - 1, f'a tree of {image.children} children')
+    tree = number(fields[2], image.trees - 1, f'a tree of {so_many(image.children)}')
     image.local.append((tree, number(fields[3], image.tree_size(tree), f'FREE of a core with tree {tree}')))
 
 
@@ -326,7 +336,7 @@ def add_record(image, fields, make):
 def missing_from(image):
     """The record that an image lacks, or None."""
     if image is None:
-        return 'the first record, llfree'
+        return 'its first record, which begins with llfree,'
     for word, here, wanted in (('child', image.free, image.children), ('tree', image.tree, image.trees),
                                ('core', image.local, image.cores)):
         if len(here) < wanted:

@@ -14,10 +14,6 @@ import records
 USAGE = 'usage: why.py CHILDREN CORES [FRAMES] < TRACE | why.py < IMAGE'
 
 
-def is_sizes(words):
-    return len(words) in (2, 3) and all(1 <= len(word) <= 9 and word.isascii() and word.isdigit() for word in words)
-
-
 def refusal_of(words, data):
     """What the program refuses of a trace with these sizes, or of an image with none; None where it takes it."""
     try:
@@ -35,7 +31,7 @@ def refusal_of(words, data):
 
 def main():
     words = sys.argv[1:]
-    if words and not is_sizes(words):
+    if words and not records.is_sizes(words):
         print(USAGE, file=sys.stderr)
         return 2
     refused = refusal_of(words, sys.stdin.buffer.read(records.MOST_BYTES + 1))

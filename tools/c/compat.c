@@ -78,6 +78,13 @@ static void puts_of_parts(void)
     CHECK(llfree_ok(huge) && huge.val % 512 == 0);
     uint64_t first = (uint64_t)huge.val;
     CHECK(llfree_get(&self, 0, llflags(10)).val == LLFREE_ERR_ADDRESS);
+    /* what is no block splits nothing */
+    CHECK(llfree_put(&self, 0, first + 1, llflags(1)).val == LLFREE_ERR_ADDRESS);
+    CHECK(llfree_put(&self, 0, first, llflags(9)).val == LLFREE_ERR_OK);
+    huge = llfree_get(&self, 0, llflags(9));
+    CHECK(llfree_ok(huge));
+    first = (uint64_t)huge.val;
+    CHECK(llfree_result_of(LLFREE_CONTENDED).val == LLFREE_ERR_RETRY);
     CHECK(llfree_get(&self, 0, llflags(100000)).val == LLFREE_ERR_ADDRESS);
     CHECK(llfree_put(&self, 1, END, llflags(0)).val == LLFREE_ERR_ADDRESS);
     CHECK(llfree_put(&self, 1, first, llflags(10)).val == LLFREE_ERR_ADDRESS);

@@ -88,7 +88,9 @@ static void give_one(struct cpu *cpu, struct held *one)
 
     cpu->gives++;
     if (is_wrong && goes_on) {
-        expect(give(cpu, &before) == LLFREE_OK, "a block that was held is refused");
+        /* its pages are written on, so that whoever takes them next finds its stamp, or it finds another one */
+        expect(give(cpu, &one->block) == LLFREE_OK, "a block that was held is refused");
+        stamp(&before, one->stamp, one->stamp);
         return;
     }
     stamp(&one->block, one->stamp, 0);
