@@ -63,6 +63,10 @@ LosesFor order s t = LosesAt (allocator_of s) order s.core t.core
 abbrev pub CountsNone : CoreState → CoreState → Type 0
 CountsNone s t = t.slotless ≡ s.slotless
 
+-- the core remembers the block that its last take laid down
+abbrev pub RemembersLast : CoreState → CoreState → Type 0
+RemembersLast s t = last_laid t ≡ last_laid s
+
 -- the core has counted one block more that found no slot
 abbrev pub CountsOne : CoreState → CoreState → Type 0
 CountsOne s t = t.slotless ≡ one_more s.slotless

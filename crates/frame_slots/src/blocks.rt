@@ -3,7 +3,7 @@
 ghost use Rattle.std.specs.Prelude.{◌≡◌, IfOk, IfErr};
 ghost use Rattle.core_frames.specs.Cores.{IsCoreOf, IsOutOf};
 ghost use Rattle.frame_slots.specs.Blocks.{HasTakenBlock, HasSplitBlock, TakesBlockFor, SplitsBlockFor, IsOutFor};
-ghost use Rattle.frame_slots.specs.Calls.{SharesOne, GivesFor, CountsNone, KeepsCore, RefusesBlock};
+ghost use Rattle.frame_slots.specs.Calls.{SharesOne, GivesFor, CountsNone, RemembersLast, KeepsCore, RefusesBlock};
 ghost use Rattle.frame_slots.specs.Slots.{GivesAt, IsRefusedBlock};
 
 use crate::core_state::CoreState;
@@ -18,6 +18,7 @@ impl CoreState {
         ensures shared { SharesOne self.old self.new }
         ensures taken { IfOk result (TakesBlockFor order self.old self.new) }
         ensures counted { CountsNone self.old self.new }
+        ensures last { RemembersLast self.old self.new }
         ensures refused { IfErr result (RefusesBlock order self.old self.new) }
     {
         take_from(&self.shared, &mut self.core, order)
@@ -30,6 +31,7 @@ impl CoreState {
         ensures shared { SharesOne self.old self.new }
         ensures given { GivesFor held.order held.frame self.old self.new }
         ensures counted { CountsNone self.old self.new }
+        ensures last { RemembersLast self.old self.new }
     {
         give_to(&self.shared, &mut self.core, held);
     }
@@ -40,6 +42,7 @@ impl CoreState {
         ensures shared { SharesOne self.old self.new }
         ensures split { IfOk result (λ r. SplitsBlockFor held r.0 r.1 self.old self.new) }
         ensures counted { CountsNone self.old self.new }
+        ensures last { RemembersLast self.old self.new }
         ensures whole { IfErr result (λ same. (same ≡ held) × (held.order ≡ 0)) }
         ensures same { IfErr result (λ _. KeepsCore self.old self.new) }
     {

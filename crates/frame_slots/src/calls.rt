@@ -1,7 +1,7 @@
 //! What a core is asked for by frame and order.
 
 ghost use Rattle.std.specs.Prelude.{◌≡◌, ◌≢◌, IfOk, IfErr};
-ghost use Rattle.frame_slots.specs.Calls.{frames_by, SharesOne, TakesFor, GivesFor, SplitsFor, CountsNone, KeepsCore, RefusesTake};
+ghost use Rattle.frame_slots.specs.Calls.{frames_by, SharesOne, TakesFor, GivesFor, SplitsFor, CountsNone, RemembersLast, KeepsCore, RefusesTake};
 ghost use Rattle.frame_slots.specs.Refusals.{RefusesSplit};
 
 use crate::by_numbers::{give_from_slot, split_at_slot, take_at_slot};
@@ -24,6 +24,7 @@ impl CoreState {
         ensures taken { IfOk result (λ frame. TakesFor order frame self.old self.new) }
         ensures counted { IfOk result (λ _. CountsNone self.old self.new) }
         ensures refused { IfErr result (RefusesTake order self.old self.new) }
+        ensures last { IfErr result (λ _. RemembersLast self.old self.new) }
     {
         let receipt = take_at_slot(&self.shared, &mut self.core, &mut self.slotless, order)?;
         let frame = receipt.frame();
@@ -39,6 +40,7 @@ impl CoreState {
         ensures same { IfErr result (λ _. KeepsCore self.old self.new) }
         ensures counted { CountsNone self.old self.new }
         ensures refused { IfErr result (λ e. e ≡ Refusal.NotHeld) }
+        ensures last { RemembersLast self.old self.new }
     {
         give_from_slot(&self.shared, &mut self.core, frame, order)
     }
@@ -51,6 +53,7 @@ impl CoreState {
         ensures same { IfErr result (λ e. e ≢ Refusal.NoSlot → KeepsCore self.old self.new) }
         ensures counted { IfOk result (λ _. CountsNone self.old self.new) }
         ensures refused { IfErr result (RefusesSplit order self.old self.new) }
+        ensures last { RemembersLast self.old self.new }
     {
         split_at_slot(
             &self.shared,
