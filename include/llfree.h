@@ -21,7 +21,7 @@
  *     nothing of this header.
  *
  * A take, a give or a split needs less than 1 KiB of stack, an opening or a closing with an image less
- * than 4 KiB (measured, not proved). The code is for x86-64 processors with popcnt, the library for
+ * than 6 KiB (measured, not proved). The code is for x86-64 processors with popcnt, the library for
  * kernels too.
  */
 #ifndef LLFREE_H
