@@ -21,10 +21,11 @@ pub use view::{Amount, Eye, Sighting, View};
 pub use worked::{
     a_worked_closing_adds_up, a_worked_end_stays_held, a_worked_reopening_is_survived,
     a_worked_run_is_safe, worked_reports_count, worked_runs_happen, worked_stops_are_survived,
-    worked_stops_happen,
+    worked_stops_happen, worked_stops_lose_few,
 };
 pub use wrong::{
     a_missing_form_is_seen, wrong_closings_do_not_add_up, wrong_counters_are_not_exact,
-    wrong_moments_do_not_survive, wrong_reopenings_do_not_survive, wrong_states_are_not_safe,
-    wrong_steps_are_met, wrong_steps_do_not_fit,
+    wrong_moments_do_not_survive, wrong_named_frames_do_not_survive,
+    wrong_reopenings_do_not_survive, wrong_reservations_do_not_fit, wrong_states_are_not_safe,
+    wrong_steps_are_met, wrong_steps_do_not_fit, wrong_words_hold_other_blocks,
 };

@@ -52,14 +52,19 @@ pub fn a_worked_closing_adds_up()
     every_closing_adds_up();
 }
 
-/// Takes that were stopped, one of them twice with an adoption between, and how much may be lost at
-/// most, by the law on stops.
+/// Takes that were stopped, one of them twice with an adoption between, by the law on stops.
 pub fn worked_stops_are_survived()
     ensures claim { LosesAClaim }
     ensures block { LosesNoBlock }
     ensures stranger { LosesAClaimBesideAStranger }
     ensures adopted { StopAdoptStop }
     ensures rebuilds { RebuildsToExact }
+{
+    every_stop_is_survived();
+}
+
+/// How many frames may be lost at most, by the law on stops.
+pub fn worked_stops_lose_few()
     ensures no_stop { LosesAtMost 64 64 0 0 }
     ensures one_stop { LosesAtMost 1 1 1 512 }
     ensures two_stops { LosesAtMost 4 4 2 4096 }

@@ -24,10 +24,14 @@ pub fn wrong_steps_do_not_fit()
     ensures claims_uncharged { ClaimsUncharged }
     ensures refund_before_the_release { RefundBeforeTheRelease }
     ensures huge_from_511 { HugeFrom511 }
-    ensures drops_the_resting_count { DropsTheRestingCount }
-    ensures reserves_twice { ReservesTwice }
     ensures hands_out_half { HandsOutHalf }
     ensures flag_dropped_before_the_bits { FlagDroppedBeforeTheBits }
+{}
+
+/// Nor does the end of a reservation that drops its count, or a tree that two views reserve.
+pub fn wrong_reservations_do_not_fit()
+    ensures drops_the_resting_count { DropsTheRestingCount }
+    ensures reserves_twice { ReservesTwice }
 {}
 
 /// What each wrong step asks for is met at a state that is reached from an opening.
@@ -46,32 +50,38 @@ pub fn wrong_states_are_not_safe()
     ensures tree { TreePromisesTooMuch }
 {}
 
-/// No words add up where a counter or a reservation is off, or rebuilding makes another; and none
-/// hold just some blocks where a frame or a child is set and no block's, or the other way round, or
-/// where a frame that the key names is clear.
+/// No words add up where a counter or a reservation is off, or rebuilding makes another.
 pub fn wrong_closings_do_not_add_up()
     ensures entry { EntryIsOff }
     ensures tree { TreeIsOff }
     ensures reservation { ReservationIsOff }
     ensures rebuilt_entry { RebuiltEntryDiffers }
     ensures rebuilt_tree { RebuiltTreeDiffers }
+{}
+
+/// No words hold just some blocks where a frame or a child is set and no block's, or the other way
+/// round, or where a frame that the key names is clear.
+pub fn wrong_words_hold_other_blocks()
     ensures set { SetWithoutABlock }
     ensures clear { HeldIsClear }
     ensures flag { FlagIsOff }
 {}
 
-/// No moment survives where words and views do not agree, where known blocks overlap or are free,
-/// where a frame that the key names is free, known or in flight, or where a frame is lost that was
-/// not in flight, or too many are.
+/// No moment survives where words and views do not agree, where known blocks overlap or are free, or
+/// where a frame is lost that was not in flight, or too many are.
 pub fn wrong_moments_do_not_survive()
     ensures fit { MomentDoesNotFit }
     ensures overlap { KnownOverlap }
     ensures known { KnownIsFree }
+    ensures lost { LostWithoutAStop }
+    ensures too_many { LosesTooMuch }
+{}
+
+/// Nor does one at which a frame that the key names is free, known or in flight.
+pub fn wrong_named_frames_do_not_survive()
     ensures named { NamedIsFree }
     ensures named_known { NamedIsKnown }
     ensures named_flying { NamedIsFlying }
-    ensures lost { LostWithoutAStop }
-    ensures too_many { LosesTooMuch }
 {}
 
 /// Nothing stays known since a reopening where what somebody knows is not held, where a frame is lost

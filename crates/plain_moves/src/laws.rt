@@ -81,8 +81,7 @@ pub fn scripts_are_honest()
 /// says; the words fit with its view of then, and with others. It has made one step of its own for
 /// each move since, as long as moves are counted exactly, in the same memory and with the same
 /// shares. No cue of an earlier move than the next stops at a later move, nor at the same move later
-/// in the script. Behind the first move of the worked script the stop is that of its first cue, one
-/// step ago.
+/// in the script.
 pub fn stops_are_of_their_moment()
     ensures stops { (m : ScriptMoves) (ws : List ℕ) (s : StopOf m ws) →
         (slice_get (cues_by m) s.place ≡ Some s.cue) × ((s.cue.what ≡ What.Stop)
@@ -103,7 +102,11 @@ pub fn stops_are_of_their_moment()
     ensures last { (m : ScriptMoves) (ws : List ℕ) (s : StopOf m ws) (k : ℕ) (cue : Cue)
         → slice_get (cues_by m) k ≡ Some cue → cue.what ≡ What.Stop
         → cue.at < next_by m → cue.at ≡ s.cue.at → k ≤ s.place }
-    ensures worked { (old new : ScriptMoves) (found : ℕ) (ws : List ℕ) → StandsFirst (stage_by old)
+{}
+
+/// Behind the first move of the worked script the stop is that of its first cue, one step ago.
+pub fn a_worked_stop_is_of_its_moment()
+    ensures { (old new : ScriptMoves) (found : ℕ) (ws : List ℕ) → StandsFirst (stage_by old)
         → Plays false (LoadsIt (Place.Tree 0) found) old new → (s : StopOf new ws)
         → (plain_by new).moves < 18446744073709551615
         → ((s.place ≡ 0) × (s.cue.at ≡ 0))

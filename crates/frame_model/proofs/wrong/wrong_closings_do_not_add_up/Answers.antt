@@ -1,5 +1,4 @@
 use Rattle.frame_model.proofs.WrongStates.{entry_is_off, tree_is_off, reservation_is_off, rebuilt_entry_differs, rebuilt_tree_differs}
-use Rattle.frame_model.proofs.WrongStates.{set_without_a_block, held_is_clear, flag_is_off}
 use Rattle.frame_model.proofs.wrong.wrong_closings_do_not_add_up.Goals as goal
 
 pub returns : goal.returns
@@ -9,7 +8,4 @@ returns c = record {
   reservation = reservation_is_off;
   rebuilt_entry = rebuilt_entry_differs;
   rebuilt_tree = rebuilt_tree_differs;
-  set = set_without_a_block;
-  clear = held_is_clear;
-  flag = flag_is_off;
 }

@@ -1,7 +1,6 @@
 use Rattle.frame_model.proofs.WrongSteps.Claims.{bits_before_the_charge, claims_uncharged}
 use Rattle.frame_model.proofs.WrongSteps.Entries.{refund_before_the_release, huge_from_511, flag_dropped_before_the_bits}
 use Rattle.frame_model.proofs.WrongSteps.Seats.{hands_out_half}
-use Rattle.frame_model.proofs.WrongSteps.Trees.{drops_the_resting_count, reserves_twice}
 use Rattle.frame_model.proofs.wrong.wrong_steps_do_not_fit.Goals as goal
 
 pub returns : goal.returns
@@ -10,8 +9,6 @@ returns c = record {
   claims_uncharged = claims_uncharged;
   refund_before_the_release = refund_before_the_release;
   huge_from_511 = huge_from_511;
-  drops_the_resting_count = drops_the_resting_count;
-  reserves_twice = reserves_twice;
   hands_out_half = hands_out_half;
   flag_dropped_before_the_bits = flag_dropped_before_the_bits;
 }

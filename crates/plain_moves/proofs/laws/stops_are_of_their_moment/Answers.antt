@@ -1,7 +1,7 @@
 use Rattle.std.proofs.Common.{⊎_elim, ◌≡◌, ◌<◌, ◌+◌, inl, arith}
 use Rattle.plain_moves.specs.PlainState.{view_by}
 use Rattle.plain_moves.specs.ScriptMoves.{plain_by}
-use Rattle.plain_moves.proofs.Stops.{first_cue, first_view, steps_counted, steps_keep}
+use Rattle.plain_moves.proofs.Stops.{steps_counted, steps_keep}
 use Rattle.plain_moves.proofs.laws.stops_are_of_their_moment.Goals as goal
 
 pub returns-clause-stops : goal.returns-clause-stops
@@ -30,7 +30,3 @@ returns-clause-last c = λ m ws s k cue is stops reached same.
     ⊎_elim (λ (lt : cue.at < s.cue.at). absurd (omega (arith, lt, same)))
     (λ (at : (cue.at ≡ s.cue.at) × (k < s.place + 1)). omega (arith, at.1))
     (s.last k cue is stops (inl reached))
-
-pub returns-clause-worked : goal.returns-clause-worked
-returns-clause-worked c = λ old new found ws stands plays s exact.
-    (first_cue old.stage new.stage found ws stands plays s, first_view old.stage new.stage found ws stands plays s exact)
