@@ -332,3 +332,13 @@ none_left A E key v order (Some ws) one two new fits alone idle e keeps drained 
         },
       ),
     )
+
+-- a search of which the first part kept the frames
+pub found_none_then : (key now : Key) (order : ℕ) (old one new : Option (List ℕ)) → now ≡ key → KeepsFrames key old one
+    → Turns (FindsNoBlock now order) one new → Turns (FindsNoBlock key order) old new
+found_none_then key now order None one new same keeps none = tt
+found_none_then key now order (Some ws) one new same keeps none =
+    let us : List ℕ = keeps.0 in
+    let as_key = subst (λ k. Turns (FindsNoBlock k order) one new) same none in
+    let t = at_known one (λ us. (vs : List ℕ) × ((new ≡ Some vs) × FindsNoBlock key order us vs)) us keeps.1.0 as_key in
+    (t.0, (t.1.0, record { frames = frames_then key ws us t.0 keeps.1.1 t.1.1.frames; none = t.1.1.none }))

@@ -12,9 +12,11 @@ pub mod SureSteps
 pub mod SearchSteps
 pub mod SplitLemmas
 pub mod SplitAlone
+pub mod JoinLemmas
 pub mod RangeLemmas
 mod EntriesRead
 mod FreePlain
 mod CoreLemmas
 mod LeftLemmas
 mod DeskLemmas
+mod FoundLemmas

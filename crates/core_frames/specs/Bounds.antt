@@ -45,6 +45,10 @@ most_in_pass key = most_visit * tree_count key
 abbrev pub passes : ℕ
 passes = 3
 
+-- the other trees: the passes, and the drain of each core before the last of them
+abbrev pub most_elsewhere : Key → ℕ
+most_elsewhere key = passes * most_in_pass key + most_to_drain * key.cores
+
 -- a take: the own tree, the passes, and the drain of each core before the last of them
 abbrev pub most_moves : Key → ℕ
 most_moves key = most_in_own_tree + passes * most_in_pass key + most_to_drain * key.cores
@@ -68,6 +72,10 @@ most_to_bring_in = 1 + most_to_break_up
 -- a split: the block comes in, and its two halves go out
 abbrev pub most_in_split : ℕ
 most_in_split = most_to_bring_in + 2
+
+-- a join: two halves come in, and their block goes out
+abbrev pub most_in_join : ℕ
+most_in_join = 2 + 1
 
 -- two blocks are told apart: both are kept, one load is made, and both are recalled
 abbrev pub to_tell_apart : ℕ

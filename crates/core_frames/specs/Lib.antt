@@ -6,9 +6,11 @@ pub mod Search
 pub mod Alone
 pub mod Searches
 pub mod Splits
+pub mod Joins
 pub mod Ranges
 pub mod Cores
 pub mod Uses
+pub mod Found
 pub mod Desks
 pub mod LeftFrames
 pub mod Habits

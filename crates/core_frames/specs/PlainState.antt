@@ -34,6 +34,10 @@ pub record Splits (b lower upper : FrameBlock) (old new : PlainState) : Type 0 w
   pub halves : AreHalves b lower upper
   pub out : IsPermutation (b ∷ new.out) (lower ∷ upper ∷ old.out)
 
+-- a block of order 0 has no halves: it is handed back, and nothing has changed
+abbrev pub HandsBack : (b same : FrameBlock) (old new : PlainState) → Type 0
+HandsBack b same old new = (same ≡ b) × ((b.order ≡ 0) × (new ≡ old))
+
 -- the words hold exactly the frames of these blocks: those of order 9 by the flag of their child,
 -- the others by the bits of their frames
 pub record HoldsExactly (key : Key) (words : List ℕ) (held : List FrameBlock) : Type 0 where

@@ -16,6 +16,7 @@ use Rattle.core_frames.specs.declared.shared.allocator.Allocator.{Allocator}
 use Rattle.core_frames.specs.declared.shared.allocator.Core.{Core}
 use Rattle.core_frames.specs.Cores.{memory_of, view_in, kept_by, lent_by, moves_by, losses_by, IsOutOf}
 use Rattle.core_frames.specs.Splits.{AreHalves}
+use Rattle.core_frames.specs.Joins.{AreBuddies}
 
 -- a block of the order is out, none of whose frames the core keeps, the opening held back or is past
 -- the end, and one block more is lent
@@ -78,3 +79,19 @@ pub record SplitsThrough (a : Allocator) (b : Block) (answer : Result (Block × 
   pub kept : kept_by d ≡ kept_by c
   pub ok : IfOk answer (λ r. HasSplit a b r.0 r.1 c d)
   pub err : IfErr answer (λ same. (same ≡ b) × ((block_in b).order ≡ 0) × (d ≡ c))
+
+-- the block of both buddies is out in their place, and one block less is lent
+pub record HasJoined (a : Allocator) (lower upper b : Block) (c d : Core) : Type 0 where
+  pub are_buddies : AreBuddies (block_in lower) (block_in upper)
+  pub are_halves : AreHalves (block_in b) (block_in lower) (block_in upper)
+  pub is_out : IsOutOf a b
+  pub lent : lent_by d ≡ lent_by c -ℤ pos 1
+
+-- a join of two blocks: the block of both is out; or they are no buddies, and were handed back with no
+-- move
+pub record JoinsThrough (a : Allocator) (lower upper : Block) (answer : Result Block (Block × Block))
+    (c d : Core) : Type 0 where
+  pub kept : kept_by d ≡ kept_by c
+  pub ok : IfOk answer (λ b. HasJoined a lower upper b c d)
+  pub err : IfErr answer (λ same. (same.0 ≡ lower) × (same.1 ≡ upper)
+      × ¬ AreBuddies (block_in lower) (block_in upper) × (d ≡ c))

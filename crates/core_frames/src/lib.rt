@@ -4,6 +4,7 @@
 
 mod free_counts;
 mod gives;
+mod joins;
 mod laws;
 mod plain;
 mod ranges;
@@ -15,6 +16,7 @@ mod takes;
 pub use free_counts::{FreeCounts, free_counts_by};
 pub use gives::give_by;
 pub use held_blocks::{Label, LabelledBlock, LabelledBlocks};
+pub use joins::join_by;
 pub use laws::{wrong_answers_are_not_told, wrong_refusals_are_not_told};
 pub use plain::PlainAllocator;
 pub use ranges::MOST_RANGES;

@@ -16,7 +16,7 @@ ghost use Rattle.plain_moves.specs.PlainState.{words_by, IsByItself};
 ghost use Rattle.core_frames.specs.FreeCounts.{frames_together, clear_children};
 ghost use Rattle.core_frames.specs.PlainAgree.{AreOfCores};
 ghost use Rattle.core_frames.specs.Ranges.{MayHoldBack, IsUnopenedFor};
-ghost use Rattle.core_frames.specs.PlainState.{memory_by, held_by, HoldsExactly, Splits};
+ghost use Rattle.core_frames.specs.PlainState.{memory_by, held_by, HandsBack, HoldsExactly, Splits};
 
 mod starts;
 
@@ -212,8 +212,7 @@ impl PlainAllocator {
         requires out { Contains self.old.out block }
         ensures split { IfOk result (λ r. Splits block r.0 r.1 self.old self.new) }
         ensures kept { self.new.kept ≡ self.old.kept }
-        ensures whole { IfErr result (λ same. (same ≡ block) × (block.order ≡ 0)) }
-        ensures unchanged { OnErr result (self.new ≡ self.old) }
+        ensures whole { IfErr result (λ same. HandsBack block same self.old self.new) }
         ensures geometry { (self.new.geometry ≡ self.old.geometry) × (self.new.ranges ≡ self.old.ranges) }
         ensures lawful { OnOk result (IsHolding (memory_by self.new) (held_by self.new)) }
     {

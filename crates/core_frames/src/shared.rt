@@ -4,6 +4,7 @@ pub(crate) mod allocator;
 mod calls;
 mod closings;
 mod desk;
+pub(crate) mod found;
 mod halves;
 mod kept_blocks;
 mod left_frames;

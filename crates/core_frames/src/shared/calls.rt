@@ -7,12 +7,12 @@ ghost use Rattle.core_frames.specs.Uses.{TakesThrough, HasGiven};
 
 use crate::gives::give_by;
 use crate::shared::allocator::{Allocator, Core};
-use crate::takes::take_by;
 use frame_table::{Block, SharedMoves};
-use frame_words::TakeFault;
+use frame_words::{HUGE_ORDER, TakeFault};
 
 impl Allocator {
     /// Takes a block of `2^order` frames. No memory is needed, and nobody waits.
+    #[inline(always)]
     pub fn take(&self, core: &mut Core, order: u8) -> Result<Block, TakeFault>
         requires { IsCoreOf self.now core.old }
         ensures core { StaysCoreOf self.now core.old core.new }
@@ -20,8 +20,14 @@ impl Allocator {
         ensures moves { moves_by core.new ≤ moves_by core.old
             + most_moves (memory_of self.now) }
     {
-        let mut m = SharedMoves::new(&self.table, &mut core.seat);
-        take_by(&mut m, &mut core.habit, order)
+        if order > HUGE_ORDER {
+            return Err(TakeFault::BadOrder);
+        }
+        match self.find(core, order) {
+            Ok(found) => Ok(found.with_order(order)),
+            Err(0) => Err(TakeFault::NoBlock),
+            Err(_) => Err(TakeFault::Contended),
+        }
     }
 
     /// Gives the block back, whichever core took it. It always succeeds. No memory is needed, and

@@ -1,0 +1,36 @@
+-- What a search through a core leaves, whose answer is a block without its order.
+use Rattle.std.specs.Prelude.{◌≡◌, ℕ, ◌+◌, ◌<◌, ◌≤◌, [], Result, IfOk, IfErr, Bool, nat_lt}
+use Rattle.frame_words.specs.declared.fault.TakeFault.TheVariants.{NoBlock, Contended}
+use Rattle.frame_core.specs.Block.{block}
+use Rattle.frame_core.specs.Events.{eye}
+use Rattle.frame_core.specs.View.{holder}
+use Rattle.frame_table.specs.declared.block.Block.{Block}
+use Rattle.core_frames.specs.declared.shared.allocator.Allocator.{Allocator}
+use Rattle.core_frames.specs.declared.shared.allocator.Core.{Core}
+use Rattle.core_frames.specs.declared.shared.found.Found.{Found}
+use Rattle.core_frames.specs.Cores.{kept_by, lent_by, moves_by, losses_by}
+use Rattle.core_frames.specs.Uses.{HasTaken, IsRefusedFor}
+
+-- the seat owns exactly the block of this order, and that block was taken
+pub record HasFound (a : Allocator) (n : ℕ) (f : Found) (c d : Core) : Type 0 where
+  pub owns : f.seat.me ≡ (eye (holder f.seat.me.0.view.about (block f.frame n)) [], [])
+  pub taken : (b : Block) → b.frame ≡ f.frame → b.order ≡ n → b.seat ≡ f.seat → HasTaken a n b c d
+
+-- a search for a block of an order up to 9: it was taken; or it is refused, as contended exactly where
+-- the answer is above 0, and nothing more is lent
+pub record FindsThrough (a : Allocator) (n : ℕ) (answer : Result Found ℕ) (c d : Core) : Type 0 where
+  pub kept : kept_by d ≡ kept_by c
+  pub same_habit : d.habit ≡ c.habit
+  pub ok : IfOk answer (λ f. HasFound a n f c d)
+  pub contended : IfErr answer (λ lost. 0 < lost → IsRefusedFor a n c d Contended)
+  pub no_block : IfErr answer (λ lost. lost ≡ 0 → IsRefusedFor a n c d NoBlock)
+  pub lent : IfErr answer (λ _. lent_by d ≡ lent_by c)
+
+-- in at most so many moves the core keeps and remembers what it did; and whether an exchange was lost
+pub record HasLooked (most : ℕ) (lost : Bool) (c d : Core) : Type 0 where
+  pub kept : kept_by d ≡ kept_by c
+  pub same_habit : d.habit ≡ c.habit
+  pub rises : moves_by c ≤ moves_by d
+  pub few : moves_by d ≤ moves_by c + most
+  pub risen : losses_by c ≤ losses_by d
+  pub noted : nat_lt (losses_by c) (losses_by d) ≡ lost
