@@ -3,6 +3,7 @@
 ghost use Rattle.std.specs.Prelude.{◌≡◌, ℕ, ◌+◌, ◌-◌, ◌*◌, ◌<◌, ◌≤◌, ◌/◌, ◌%◌, get_or, min, max, slice_index};
 ghost use Rattle.std.specs.Int.{bit_at};
 ghost use Rattle.std.specs.List.{sum_by, range_with_len};
+ghost use Rattle.frame_words.specs.Geometry.{child_frames, word_frames};
 ghost use Rattle.frame_words.specs.Words.{flag};
 ghost use Rattle.frame_core.specs.Block.{block};
 ghost use Rattle.frame_core.specs.Image.{key_in};
@@ -25,7 +26,7 @@ const WORD: usize = WORD_FRAMES as usize;
 // The numbers of a child.
 pub(crate) fn count_child(image: &Image, child: u32) -> [u32; NUMBERS]
     requires { child < image.now.geometry.children }
-    ensures { result ≡ numbers_of (key_in image.now) image.now.words (512 * child) 512 }
+    ensures { result ≡ numbers_of (key_in image.now) image.now.words (child_frames * child) child_frames }
 {
     let mut clear = clear_frames(image, child);
     let mut numbers = [0; NUMBERS];
@@ -44,8 +45,8 @@ pub(crate) fn count_child(image: &Image, child: u32) -> [u32; NUMBERS]
 // 1 for each frame of a child that is not held.
 fn clear_frames(image: &Image, child: u32) -> [u8; FRAMES]
     requires { child < image.now.geometry.children }
-    ensures { (i : ℕ) → i < 512 → get_or result i 0
-        ≡ clear_at (key_in image.now) image.now.words (block (512 * child + i) 0) }
+    ensures { (i : ℕ) → i < child_frames → get_or result i 0
+        ≡ clear_at (key_in image.now) image.now.words (block (child_frames * child + i) 0) }
 {
     let huge = image.huge(child);
     let bits = child_bits(image, child);
@@ -59,9 +60,9 @@ fn clear_frames(image: &Image, child: u32) -> [u8; FRAMES]
 // 1 where the frame of a child with these bits is not held.
 #[inline]
 fn clear_in(bits: &[u64; 8], huge: bool, frame: usize) -> u8
-    requires { frame < 512 }
+    requires { frame < child_frames }
     ensures { result
-        ≡ 1 - max (bit_at (slice_index bits.now (frame / 64)) (frame % 64)) (flag huge) }
+        ≡ 1 - max (bit_at (slice_index bits.now (frame / word_frames)) (frame % word_frames)) (flag huge) }
 {
     if huge {
         return 0;
@@ -72,7 +73,7 @@ fn clear_in(bits: &[u64; 8], huge: bool, frame: usize) -> u8
 
 // How many of the first ones are 1.
 fn count_clear(clear: &[u8; FRAMES], blocks: usize) -> u32
-    requires { blocks ≤ 512 }
+    requires { blocks ≤ child_frames }
     ensures { result ≡ sum_by (λ i. get_or clear.now i 0) (range_with_len 0 blocks) }
 {
     let mut count = 0;
@@ -84,7 +85,7 @@ fn count_clear(clear: &[u8; FRAMES], blocks: usize) -> u32
 
 // Joins the halves of each block.
 fn halve(clear: &mut [u8; FRAMES], blocks: usize)
-    requires { blocks ≤ 256 }
+    requires { 2 * blocks ≤ child_frames }
     ensures { (i : ℕ) → i < blocks → get_or clear.new i 0
         ≡ min (get_or clear.old (2 * i) 0) (get_or clear.old (2 * i + 1) 0) }
 {

@@ -46,8 +46,8 @@ fn count_tree(image: &Image, tree: u32) -> [u32; NUMBERS]
 
 // Adds numbers to others, each to its own.
 fn add(sum: &mut [u32; NUMBERS], numbers: &[u32; NUMBERS])
-    requires { (i : ℕ) → i < 12 → get_or sum.old i 0 + get_or numbers.now i 0 < 2 ^ 32 }
-    ensures { (i : ℕ) → i < 12
+    requires { (i : ℕ) → i < NUMBERS → get_or sum.old i 0 + get_or numbers.now i 0 < 2 ^ 32 }
+    ensures { (i : ℕ) → i < NUMBERS
         → get_or sum.new i 0 ≡ get_or sum.old i 0 + get_or numbers.now i 0 }
 {
     for place in 0..NUMBERS {

@@ -1,6 +1,7 @@
 //! How many frames of an image are held.
 
 ghost use Rattle.std.specs.Prelude.{◌≡◌, ◌<◌, ◌≤◌};
+ghost use Rattle.frame_words.specs.Geometry.{child_frames};
 ghost use Rattle.frame_core.specs.Image.{key_in};
 ghost use Rattle.frame_core.specs.Key.{frame_count};
 ghost use Rattle.frame_core.specs.Report.{held_frames as the_held_frames};
@@ -27,7 +28,7 @@ pub fn held_frames(image: &Image) -> u32
 fn held_in_child(image: &Image, child: u32) -> u32
     requires { child < image.now.geometry.children }
     ensures value { result ≡ held_of (key_in image.now) image.now.words child }
-    ensures limit { result ≤ 512 }
+    ensures limit { result ≤ child_frames }
 {
     let set = image.set_frames(child);
     if image.huge(child) { CHILD_FRAMES } else { set }

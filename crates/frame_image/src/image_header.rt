@@ -2,6 +2,7 @@
 
 ghost use Rattle.std.specs.Prelude.{◌≡◌, ◌*◌, ◌≤◌, ◌<◌, IfSome, option_map, codes};
 ghost use Rattle.csv.specs.Records.{fields_of};
+ghost use Rattle.frame_words.specs.Geometry.{most_children, most_cores};
 ghost use Rattle.frame_core.specs.Key.{key_of};
 ghost use Rattle.frame_image.specs.ImageText as Spec;
 
@@ -56,7 +57,7 @@ fn sizes_said(version: &[u8], children: &[u8], cores: &[u8], frames: &[u8]) -> O
 // The frames of a memory of these children.
 #[tactic(auto, unfolding(crate::specs::ImageText::frames_said))]
 fn frames_said(version: &[u8], children: u32, frames: &[u8]) -> Option<u32>
-    requires { children ≤ 4096 }
+    requires { children ≤ most_children }
     ensures { result ≡ Spec.frames_said version.now children frames.now }
 {
     if version == b"1".as_slice() {
@@ -75,8 +76,8 @@ fn frames_said(version: &[u8], children: u32, frames: &[u8]) -> Option<u32>
 // The geometry of these sizes, where they lie within the limits.
 #[tactic(auto, unfolding(crate::specs::ImageText::key_with))]
 fn geometry_with(children: u32, cores: u32, frames: u32) -> Option<Geometry>
-    requires children { children ≤ 4096 }
-    requires cores { cores ≤ 64 }
+    requires children { children ≤ most_children }
+    requires cores { cores ≤ most_cores }
     ensures { option_map (λ g. key_of g) result ≡ Spec.key_with children cores frames }
 {
     match Geometry::with_frames(children, cores, frames) {

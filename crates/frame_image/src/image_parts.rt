@@ -8,6 +8,7 @@ ghost use Rattle.frame_image.specs.ImageText as Spec;
 ghost use Rattle.frame_image.specs.Numbers.{number_below as the_number_below};
 ghost use Rattle.std.specs.Prelude.{IfSome, IfNone, Some, None, length, ◌≢◌};
 ghost use Rattle.std.specs.Bool.{OnTrue, OnFalse};
+ghost use Rattle.frame_words.specs.Geometry.{child_frames, tree_frames};
 
 use crate::hex::words_in;
 use crate::numbers::number_below;
@@ -93,9 +94,9 @@ fn frames_in(geometry: Geometry, child: u32) -> u32
 // The free frames of a child, whether it is huge, and its bit words.
 #[tactic(auto, unfolding(crate::specs::ImageText::child_said))]
 fn child_said(frames: u32, free: &[u8], huge: &[u8], bits: &[u8]) -> Option<(u32, bool, [u64; 8])>
-    requires { frames ≤ 512 }
+    requires { frames ≤ child_frames }
     ensures value { result ≡ Spec.child_said frames free.now huge.now bits.now }
-    ensures limit { IfSome result (λ said. said.0 ≤ 512) }
+    ensures limit { IfSome result (λ said. said.0 ≤ child_frames) }
     ensures end { IfSome result (λ said. Spec.keeps_end frames said.1 said.2 ≡ true) }
 {
     let free = count_below(free, CHILD_FRAMES + 1)?;
@@ -111,7 +112,7 @@ fn child_said(frames: u32, free: &[u8], huge: &[u8], bits: &[u8]) -> Option<(u32
 // Are the frames that do not exist set, and the child not huge where there are any?
 #[tactic(auto, unfolding(crate::specs::ImageText::keeps_end))]
 fn keeps_end(frames: u32, huge: bool, bits: &[u64; 8]) -> bool
-    requires { frames ≤ 512 }
+    requires { frames ≤ child_frames }
     ensures { result ≡ Spec.keeps_end frames huge bits.now }
 {
     frames >= CHILD_FRAMES || (!huge && all_set_from(frames, bits))
@@ -120,7 +121,7 @@ fn keeps_end(frames: u32, huge: bool, bits: &[u64; 8]) -> bool
 // Are all frames of the child from this one on set?
 #[tactic(auto, unfolding(crate::specs::ImageText::all_set_from))]
 fn all_set_from(first: u32, bits: &[u64; 8]) -> bool
-    requires { first ≤ 512 }
+    requires { first ≤ child_frames }
     ensures { result ≡ Spec.all_set_from first bits.now }
 {
     for frame in first..CHILD_FRAMES {
@@ -168,7 +169,7 @@ fn read_tree(
 // The free frames of a tree of this size, and whether it is reserved.
 #[tactic(auto, unfolding(crate::specs::ImageText::tree_said))]
 fn tree_said(size: u32, free: &[u8], reserved: &[u8]) -> Option<(u32, bool)>
-    requires { size ≤ 4096 }
+    requires { size ≤ tree_frames }
     ensures value { result ≡ Spec.tree_said size free.now reserved.now }
     ensures limit { IfSome result (λ said. said.0 ≤ size) }
 {
