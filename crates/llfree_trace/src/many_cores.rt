@@ -42,7 +42,7 @@ pub fn run_trace<G: Gate, R: Threads + Wait>(
     let desks = open_desks(alloc, &allocator, cores)?;
     let answers = Vec::new(alloc);
     let start = Progress { desks, answers };
-    let end = run_all(rt, alloc, &allocator, gate, start, trace.lines())?;
+    let end = run_all(rt, alloc, &allocator, gate, start, trace)?;
     let Progress { desks, answers } = end;
     let cores = finish_all(alloc, desks)?;
     match allocator.close(alloc, cores) {

@@ -18,7 +18,7 @@ use frame_words::Fault;
 use std::alloc::Global;
 use std::sync::Wait;
 use std::thread::Threads;
-use trace_text::{Answer, Line, number_after};
+use trace_text::{Answer, Line, Trace, number_after};
 
 /// The desks of all cores, and the answers so far.
 #[derive(Drop)]
@@ -27,8 +27,31 @@ pub(crate) struct Progress {
     pub(crate) answers: Vec<Answer>,
 }
 
-/// Runs all records: requests in rounds, every other record between two of them.
+/// Runs all records of a trace: requests in rounds, every other record between two of them. Where they are one
+/// round its end is not looked for.
 pub(crate) fn run_all<G: Gate, R: Threads + Wait>(
+    rt: &R,
+    alloc: Global,
+    allocator: &Allocator,
+    gate: &G,
+    start: Progress,
+    trace: &Trace,
+) -> Result<Progress, Fault>
+    requires few { vec_len start.desks ≤ 64 }
+    requires desks { All (IsDeskOf allocator.now) start.desks.items }
+    requires sealed { (memory_of allocator.now).sealed ≡ true }
+    requires inside { All (λ l. cores_in l ≤ vec_len start.desks) trace.now }
+    ensures goes { IfOk result (λ p. GoesOn allocator.now 1 trace.now start p) }
+    ensures fault { IfErr result (λ e. e ≡ Fault.NoMemory) }
+{
+    if trace.is_one_round() {
+        return run_asks(rt, alloc, allocator, gate, start, 1, trace.lines());
+    }
+    run_rounds(rt, alloc, allocator, gate, start, trace.lines())
+}
+
+// Runs records, whose rounds are not known.
+fn run_rounds<G: Gate, R: Threads + Wait>(
     rt: &R,
     alloc: Global,
     allocator: &Allocator,

@@ -2,12 +2,12 @@
 use Rattle.std.specs.Prelude.{if◌then◌else◌, ◌==◌, ◌||◌, ◌≢◌, slice_get, slice_index, ⊤}
 use Rattle.std.specs.Bool.{MatchBool}
 use Rattle.std.specs.List.{All}
-use Rattle.std.proofs.Common.{◌≡◌, ◌∙◌, ℕ, zero, suc, ◌-◌, ◌≤◌, Bool, true, false, List, [], ◌∷◌, ◌++◌, length, take}
+use Rattle.std.proofs.Common.{◌≡◌, ◌∙◌, ℕ, zero, suc, ◌-◌, ◌<◌, ◌≤◌, Bool, true, false, List, [], ◌∷◌, ◌++◌, length, take}
 use Rattle.std.proofs.Common.{Option, Some, None, refl, ap, sym, arith, append_assoc, add-one}
 use Rattle.std.proofs.lemmas.Bool.{ne_eqb}
 use Rattle.std.proofs.Math.Bool.{and-false}
 use Rattle.std.proofs.lemmas.List.Elements.{All-head, All-tail, All-take, All-drop}
-use Rattle.std.proofs.lemmas.List.{length-take-le, take_all}
+use Rattle.std.proofs.lemmas.List.{length-append, length-take-le, take_all}
 use Rattle.std.proofs.Math.Seq.{take-suc}
 use Rattle.csv.specs.Machine.{Read, ends_at_end, field_after, fields_after, in_field, is_end, next_record}
 use Rattle.csv.specs.Machine.{start_field, start_record, step}
@@ -15,7 +15,10 @@ use Rattle.csv.specs.Reading.{default_config, is_bom, records, records_from, rec
 use Rattle.csv.specs.declared.parser.Action.{Action}
 use Rattle.csv.specs.declared.parser.State.{State}
 use Rattle.csv.specs.declared.parser.State.TheVariants as st
+use Rattle.csv.specs.Writing.{default_writer, is_blank, row_body, row_text}
+use Rattle.csv.proofs.RoundTrip.{read-write-many}
 use Rattle.frame_image.specs.Records.{records_of}
+use Rattle.trace_text.specs.PlainRows.{BeginsWith}
 
 -- the records of a text from a state on, with the fields and the bytes of the field at hand
 rows_onward : State → List (List ℕ) → List ℕ → List ℕ → List (List (List ℕ))
@@ -55,6 +58,36 @@ rows_by_turns (suc n) s fields field (c ∷ rest) h =
 rows_are_records : (xs : List ℕ) → records default_config xs ≡ rows_onward st.StartRecord [] [] xs
 unfolding records_from
 rows_are_records xs = rw add-one (rows_by_turns (length xs) st.StartRecord [] [] xs (omega arith))
+
+-- more turns than bytes read all records of a text
+enough_turns : (n : ℕ) (xs : List ℕ) → length xs < n → records_from default_config n st.StartRecord xs ≡ records default_config xs
+unfolding records_from
+enough_turns zero xs h = absurd (omega arith)
+enough_turns (suc n) xs h = rows_by_turns n st.StartRecord [] [] xs (omega arith) ∙ sym (rows_are_records xs)
+
+-- what `csv` writes of a record of several fields is not nothing
+row_is_long : (a b : List ℕ) (others : List (List ℕ)) → 0 < length (row_text default_writer (a ∷ b ∷ others))
+unfolding is_blank
+row_is_long a b others = omega (arith, length-append (row_body default_writer (a ∷ b ∷ others)) (10 ∷ []))
+
+-- a text that begins with what `csv` writes of a record of several fields has that record first
+row_first : (a b : List ℕ) (others : List (List ℕ)) (behind : List ℕ)
+    → records default_config (row_text default_writer (a ∷ b ∷ others) ++ behind)
+    ≡ (a ∷ b ∷ others) ∷ records default_config behind
+unfolding records_from
+row_first a b others behind =
+    let text = row_text default_writer (a ∷ b ∷ others) ++ behind in
+    rw (add-one, read-write-many a b others behind)
+    (ap (λ (t : List (List (List ℕ))). (a ∷ b ∷ others) ∷ t)
+    (enough_turns (length text) behind
+    (omega (arith, row_is_long a b others, length-append (row_text default_writer (a ∷ b ∷ others)) behind))))
+
+-- so it has where no byte order mark is read over
+pub records_of_row : (a b : List ℕ) (others : List (List ℕ)) (text behind : List ℕ)
+    → strip_bom text ≡ text → BeginsWith text (a ∷ b ∷ others) behind
+    → records_of text ≡ (a ∷ b ∷ others) ∷ records_of behind
+records_of_row a b others text behind same begins =
+    rw (same, begins.unmarked, begins.whole) (row_first a b others behind)
 
 -- a state outside quotes and comments, with no field at hand between two records
 abbrev IsPlain : State → List (List ℕ) → List ℕ → Type 0

@@ -4,6 +4,7 @@ use Rattle.std.proofs.lemmas.Bool.{ne_eqb}
 use Rattle.std.proofs.lemmas.Fmt.{decimal_by_steps}
 use Rattle.std.proofs.lemmas.List.Folds.{list_any-append}
 use Rattle.csv.specs.Writing.{default_writer, fields_text, is_blank, needs_byte, needs_quotes, row_text}
+use Rattle.trace_text.specs.PlainRows.{IsFieldBefore}
 
 -- a digit calls for no quotes
 digit_is_plain : (d : ℕ) → needs_byte default_writer (48 + d) ≡ false
@@ -28,3 +29,12 @@ pub plain_row : (a b c d e : List ℕ) → needs_quotes default_writer a ≡ fal
     ≡ a ++ (44 ∷ (b ++ (44 ∷ (c ++ (44 ∷ (d ++ (44 ∷ (e ++ (10 ∷ [])))))))))
 unfolding fields_text is_blank
 plain_row a b c d e pa pb pc pd pe = rw (pa, pb, pc, pd, pe) (simp append_assoc)
+
+-- the text of four fields that call for no quotes, each cut off at its mark, and a text behind them
+pub four_cut : (text a b c d after_a after_b after_c behind : List ℕ)
+    → IsFieldBefore 44 text a after_a → IsFieldBefore 44 after_a b after_b
+    → IsFieldBefore 44 after_b c after_c → IsFieldBefore 10 after_c d behind
+    → text ≡ row_text default_writer (a ∷ b ∷ c ∷ d ∷ []) ++ behind
+unfolding fields_text is_blank
+four_cut text a b c d after_a after_b after_c behind p q r s =
+    rw (p.whole, q.whole, r.whole, s.whole, p.plain, q.plain, r.plain, s.plain) (simp append_assoc)

@@ -7,6 +7,7 @@ mod in_flight;
 mod line;
 mod parser;
 mod parts;
+mod plain_rows;
 mod reply;
 mod row;
 

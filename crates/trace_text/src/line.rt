@@ -1,8 +1,9 @@
 //! The records of a trace.
 
-ghost use Rattle.std.specs.Prelude.{◌≡◌, ◌≤◌, ◌+◌, ◌++◌, length, max, IfOk};
+ghost use Rattle.std.specs.Prelude.{◌≡◌, ◌≤◌, ◌+◌, ◌++◌, ◌&&◌, length, max, IfOk};
 ghost use Rattle.frame_words.specs.Geometry.{most_cores};
 ghost use Rattle.trace_text.specs.Trace.{core_count, cores_in as the_cores_in};
+ghost use Rattle.trace_text.specs.Trace.{is_ask as the_test_of_ask, is_one_round as the_test_of_round};
 ghost use Rattle.trace_text.specs.Trace.{most_records, ranges_in};
 
 use core_frames::Label;
@@ -36,13 +37,14 @@ pub struct Trace {
     lines: Vec<Line>,
     // The ranges of the records, in order.
     ranges: Vec<(u32, u32)>,
+    one_round: bool,
 }
 
 impl Model for Trace {
     ghost use Rattle.std.specs.Prelude.{List, ◌≡◌, ◌≤◌, length};
     ghost use Rattle.trace_text.specs.declared.line.Line.{Line};
     ghost use Rattle.frame_words.specs.Geometry.{most_cores};
-    ghost use Rattle.trace_text.specs.Trace.{core_count, most_records, ranges_in};
+    ghost use Rattle.trace_text.specs.Trace.{core_count, is_one_round, most_records, ranges_in};
 
     ghost Value = { List Line };
 
@@ -50,18 +52,24 @@ impl Model for Trace {
 
     ghost invariant = { λ t. (length t.lines.items ≤ most_records)
         × (core_count t.lines.items ≤ most_cores)
-        × (t.ranges.items ≡ ranges_in t.lines.items) };
+        × (t.ranges.items ≡ ranges_in t.lines.items)
+        × (t.one_round ≡ is_one_round t.lines.items) };
 }
 
 impl Trace {
-    // The trace of these records, beside the ranges that they hold back.
-    pub(crate) fn of(lines: Vec<Line>, ranges: Vec<(u32, u32)>) -> Trace
+    // The trace of these records, beside the ranges that they hold back, and whether they are one round.
+    pub(crate) fn of(lines: Vec<Line>, ranges: Vec<(u32, u32)>, one_round: bool) -> Trace
         requires few { length lines.items ≤ most_records }
         requires cores { core_count lines.items ≤ most_cores }
         requires ranges { ranges.items ≡ ranges_in lines.items }
+        requires round { one_round ≡ the_test_of_round lines.items }
         ensures { result ≡ lines.items }
     {
-        Trace { lines, ranges }
+        Trace {
+            lines,
+            ranges,
+            one_round,
+        }
     }
 
     // These records, and behind them the others.
@@ -72,14 +80,20 @@ impl Trace {
         let Trace {
             mut lines,
             mut ranges,
+            one_round,
         } = self;
         let Trace {
             lines: mut more_lines,
             ranges: mut more_ranges,
+            one_round: one_more,
         } = behind;
         lines.append(&mut more_lines)?;
         ranges.append(&mut more_ranges)?;
-        Ok(Trace { lines, ranges })
+        Ok(Trace {
+            lines,
+            ranges,
+            one_round: one_round && one_more,
+        })
     }
 
     /// The records, in order.
@@ -88,6 +102,13 @@ impl Trace {
         ensures few { length result.now ≤ most_records }
     {
         self.lines.as_slice()
+    }
+
+    /// Whether each record is a request, so that all belong to one round.
+    pub fn is_one_round(&self) -> bool
+        ensures { result ≡ the_test_of_round self.now }
+    {
+        self.one_round
     }
 
     /// One more than the greatest core that a record names, or 0 where none names one.
@@ -109,6 +130,13 @@ impl Trace {
     {
         self.ranges.as_slice()
     }
+}
+
+/// Whether records that are one round, or not, are one with this behind them.
+pub(crate) fn stays_one_round(one_round: bool, line: &Line) -> bool
+    ensures { result ≡ (one_round && the_test_of_ask line.now) }
+{
+    one_round && matches!(line, Line::Ask { .. })
 }
 
 /// The number of the record behind so many.

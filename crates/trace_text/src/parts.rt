@@ -11,6 +11,7 @@ ghost use Rattle.trace_text.specs.TraceText.{ExplainsTrace, trace_of};
 use crate::in_flight::{Going, TURNS, join_all, keep};
 use crate::line::{Line, Trace};
 use crate::parser::{MOST_RECORDS, may_follow, most_records_of, parse_trace};
+use crate::plain_rows::has_mark;
 use frame_words::{Fault, Geometry};
 use memchr::memrchr;
 use std::alloc::Global;
@@ -24,9 +25,6 @@ const LEAST_TEXT: usize = 65_536;
 
 /// The least bytes that are worth a thread.
 const LEAST_PART: usize = 8192;
-
-/// The first byte of a byte order mark.
-const MARK: u8 = 0xEF;
 
 /// What the thread of a part promises: the trace that its text says, if it answers one.
 #[derive(Drop)]
@@ -112,7 +110,7 @@ fn read_parts<'s, E, R: Threads>(
     let most = geometry.cores() as usize;
     let size = (text.len() / (TURNS * most)).max(LEAST_PART);
     let lines = Vec::with_capacity(alloc, most_records_of(text))?;
-    let mut trace = Trace::of(lines, Vec::new(alloc));
+    let mut trace = Trace::of(lines, Vec::new(alloc), true);
     let mut rest = text;
     loop {
         if going.len() < most {
@@ -200,16 +198,6 @@ fn line_end(text: &[u8], size: usize) -> Option<usize>
 {
     let feed = memrchr(b'\n', &text[..size])?;
     Some(feed + 1)
-}
-
-// Whether a text begins as a byte order mark does, which would not be read as part of a record.
-fn has_mark(text: &[u8]) -> bool
-    ensures { result ≡ false → strip_bom text.now ≡ text.now }
-{
-    match text.first() {
-        Some(byte) => *byte == MARK,
-        None => false,
-    }
 }
 
 // The records of two parts. `None` where those of the second may not come behind.

@@ -14,7 +14,7 @@ run_all-requires-clause-inside g c κs within =
     let desks = c.in_ok-desks.desks in
     let wide : length desks.items ≡ c.args.geometry.cores =
     omega (arith, ap length c.in_ok-desks.ensures.cores, length-map desks.items core_of, c.in_ok-allocator.ensures.opened.count) in
-    rw c.lines.ensures.value (λ k d lt. omega (arith, cores_in_at c.args.trace.now k d lt, c.requires, wide, desks.ok))
+    λ k d lt. omega (arith, cores_in_at c.args.trace.now k d lt, c.requires, wide, desks.ok)
 
 pub close-requires : goal.close-requires
 close-requires g c =
@@ -25,7 +25,7 @@ pub returns-in-Ok-clause-fits : goal.returns-in-Ok-clause-fits
 returns-in-Ok-clause-fits g c =
     let a = c.in_ok-allocator.allocator in
     let opened = c.in_ok-allocator.ensures.opened in
-    let goes = rw c.lines.ensures.value at c.in_ok-end.ensures.goes in
+    let goes = c.in_ok-end.ensures.goes in
     let closing = rw c.in_ok-cores.ensures.cores at c.in-Ok.ensures.ok in
     let start = c.in_ok-desks.desks in
     let count : vec_len c.in_ok-allocator.cores ≡ c.args.geometry.cores = omega (arith, opened.count, c.in_ok-allocator.cores.ok) in

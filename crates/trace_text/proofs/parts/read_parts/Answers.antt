@@ -1,9 +1,9 @@
-use Rattle.std.proofs.Common.{◌≡◌, ◌<◌, ◌+◌, ◌*◌, ◌++◌, ◌∷◌, [], ap, arith, length, length-append, map, refl, rules}
+use Rattle.std.proofs.Common.{◌≡◌, ◌<◌, ◌+◌, ◌*◌, ◌∷◌, [], ap, arith, length, length-append, refl, rules}
 use Rattle.std.specs.Prelude.{IfSome}
 use Rattle.std.proofs.lemmas.List.{map-append}
 use Rattle.std.proofs.lemmas.Option.{IfSome_then}
 use Rattle.std.proofs.lemmas.Result.{IfOk-weaker}
-use Rattle.trace_text.specs.Parts.{IsJoint, IsReadSoFar, SaysPlainly}
+use Rattle.trace_text.specs.Parts.{IsJoint, SaysPlainly}
 use Rattle.trace_text.specs.Trace.{core_count, ranges_in}
 use Rattle.trace_text.proofs.InParts.{all_read, more_going, one_joined, read_none}
 use Rattle.trace_text.proofs.parts.read_parts.Goals as goal

@@ -1,6 +1,6 @@
 use Rattle.std.proofs.Common.{◌-◌, ◌≤◌, length, take}
 use Rattle.llfree_trace.specs.Rounds.{GoesOn}
-use Rattle.llfree_trace.proofs.progress.run_all.Given as goal
+use Rattle.llfree_trace.proofs.progress.run_rounds.Given as goal
 
 abbrev pub invariant-loop-done : goal.invariant-loop-done
 invariant-loop-done g l = record {
