@@ -1,8 +1,12 @@
 //! What no clause says.
 
+mod cues;
 mod desk;
 mod lists;
+mod places;
 mod plain;
 mod scripted;
 mod shared;
 mod stops;
+mod tree_takes;
+mod words;

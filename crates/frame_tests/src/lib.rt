@@ -1,4 +1,4 @@
-//! The work of cores in trees of one shared table, and tests of it with threads.
+//! The work of cores in trees of one shared table, tests of it with threads, and tests of images.
 #![tactic(auto)]
 
 mod blocks;

@@ -1,5 +1,9 @@
 mod closings;
+mod devices;
+mod images;
+mod reopenings;
 mod seats;
 mod stops;
 mod sums;
+mod texts;
 mod two_threads;

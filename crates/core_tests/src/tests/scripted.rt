@@ -6,10 +6,11 @@ ghost use Rattle.plain_moves.specs.PlainState.{IsByItself};
 ghost use Rattle.core_frames.specs.Searches.{MayBegin};
 ghost use Rattle.core_frames.specs.Splits.{MaySplit};
 
+use super::cues::{lose, stop, stranger};
 use core_frames::{Habit, split_by, take_by};
 use frame_core::{HeldBlock, Image, Moves, PlainBlock};
 use frame_words::{Geometry, TakeFault};
-use plain_moves::{Act, Cue, PlainMoves, ScriptMoves, What};
+use plain_moves::{Act, Cue, PlainMoves, ScriptMoves};
 use std::alloc::Global;
 use std::test::Fail;
 
@@ -31,27 +32,6 @@ struct Outcome {
     skipped: u32,
     after: Words,
     stop: Option<Words>,
-}
-
-fn lose(at: u32) -> Cue {
-    Cue {
-        at,
-        what: What::Lose,
-    }
-}
-
-fn stop(at: u32) -> Cue {
-    Cue {
-        at,
-        what: What::Stop,
-    }
-}
-
-fn stranger(at: u32, act: Act) -> Cue {
-    Cue {
-        at,
-        what: What::Stranger { who: 0, act },
-    }
 }
 
 // The words of a child, in a memory of one tree.
@@ -251,8 +231,8 @@ fn emptied_and_put_back(cues: &[Cue]) -> Row {
 fn takes_beside_losses_and_strangers(rt: HostRuntime) -> Result<(), Fail> {
     let alloc = rt.alloc();
     let (eight, seven) = (losses(alloc, 8)?, losses(alloc, 7)?);
-    let away = [stranger(1, EMPTIES)];
-    let back = [away[0], stranger(3, Act::Unreserve { tree: 0, n: 511 })];
+    let away = [stranger(1, 0, EMPTIES)];
+    let back = [away[0], stranger(3, 0, Act::Unreserve { tree: 0, n: 511 })];
     let rows = [
         all_lost(&eight),
         all_but_one_lost(&seven),

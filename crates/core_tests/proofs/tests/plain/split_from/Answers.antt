@@ -62,7 +62,7 @@ returns-in_ok-push-in-Err-clause-same c =
     let inside : c.args.place < length old = omega (arith, c.requires.place, c.args.blocks.now.ok.0) in
     let one : IsPermutation (b ∷ left) out = IsPermutation-trans (b ∷ left) old out (IsPermutation-sym old (b ∷ left)
     (IsPermutation-remove old c.args.place b inside c.remove-block.ensures.value)) c.requires.same in
-    let same : out ≡ new = ap (λ (s : PlainState). s.out) (sym c.in-Err.ensures.unchanged) in
+    let same : out ≡ new = ap (λ (s : PlainState). s.out) (sym c.in-Err.ensures.whole.1.1) in
     let back : IsPermutation (b ∷ left) new = subst (IsPermutation (b ∷ left)) same one in
     let pushed : IsPermutation (left ++ b ∷ []) new = IsPermutation-push_more left left new b (IsPermutation-refl left) back in
     let handed : c.in-Err.block ≡ b = c.in-Err.ensures.whole.0 in

@@ -3,7 +3,7 @@ use Rattle.frame_words.specs.declared.geometry.Geometry.{Geometry}
 use Rattle.frame_core.specs.Key.{key_of}
 use Rattle.frame_core.specs.Rebuilt.{IsRebuilt}
 use Rattle.frame_image.proofs.Resealed.{exact_resealed}
-use Rattle.image_tests.proofs.tests.images.reopened.Goals as goal
+use Rattle.frame_tests.proofs.tests.images.reopened.Goals as goal
 
 pub new_at-requires : goal.new_at-requires
 new_at-requires c =

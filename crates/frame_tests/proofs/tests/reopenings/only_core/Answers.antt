@@ -1,6 +1,6 @@
 use Rattle.std.proofs.lemmas.List.Elements.{All-pop}
 use Rattle.core_frames.specs.Cores.{IsCoreOf}
-use Rattle.image_tests.proofs.tests.reopenings.only_core.Goals as goal
+use Rattle.frame_tests.proofs.tests.reopenings.only_core.Goals as goal
 
 pub returns : goal.returns
 returns c =

@@ -1,5 +1,5 @@
 use Rattle.core_frames.specs.Cores.{IsCoreOf}
-use Rattle.image_tests.proofs.tests.reopenings.take_frames.Given as goal
+use Rattle.frame_tests.proofs.tests.reopenings.take_frames.Given as goal
 
 abbrev pub invariant-loop-i : goal.invariant-loop-i
 invariant-loop-i l = IsCoreOf l.allocator l.core

@@ -4,7 +4,7 @@ use Rattle.frame_core.specs.View.{count_in}
 use Rattle.frame_core.specs.Steps.Amounts.{more}
 use Rattle.frame_model.proofs.Amounts.{count_none}
 use Rattle.low_frames.proofs.ViewLemmas.{charged_here}
-use Rattle.low_tests.proofs.tests.scripted.pay.Goals as goal
+use Rattle.core_tests.proofs.tests.tree_takes.pay.Goals as goal
 
 pub tree_pay-requires : goal.tree_pay-requires
 tree_pay-requires c = record {

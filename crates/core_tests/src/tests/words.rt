@@ -14,28 +14,35 @@ where
     Fault::from(error)
 }
 
+// The text of each refusal.
+const TEXTS: [(Fault, &str); 12] = [
+    (Fault::BadGeometry, "bad geometry"),
+    (Fault::NoMemory, "no memory"),
+    (Fault::BadOrder, "bad order"),
+    (Fault::NoBlock, "no block"),
+    (Fault::Contended, "contended"),
+    (Fault::NotHeld, "not held"),
+    (Fault::MissingCores, "missing cores"),
+    (
+        Fault::BadTrace { line: 1000001 },
+        "bad trace at record 1000001",
+    ),
+    (Fault::ReadFailed, "read failed"),
+    (Fault::WriteFailed, "write failed"),
+    (Fault::BadImage { line: 3 }, "bad image at record 3"),
+    (Fault::BadRange, "bad range"),
+];
+
 #[test]
 fn each_fault_has_its_text(rt: HostRuntime) -> Result<(), Fail> {
-    let texts = [
-        (Fault::BadGeometry, "bad geometry"),
-        (Fault::NoMemory, "no memory"),
-        (Fault::BadOrder, "bad order"),
-        (Fault::NoBlock, "no block"),
-        (Fault::Contended, "contended"),
-        (Fault::NotHeld, "not held"),
-        (Fault::MissingCores, "missing cores"),
-        (
-            Fault::BadTrace { line: 1000001 },
-            "bad trace at record 1000001",
-        ),
-        (Fault::ReadFailed, "read failed"),
-        (Fault::WriteFailed, "write failed"),
-        (Fault::BadImage { line: 3 }, "bad image at record 3"),
-        (Fault::BadRange, "bad range"),
-    ];
-    for (fault, text) in texts {
-        assert_eq!(rt; fault.to_string(rt.alloc())?.as_str(), text);
+    for (fault, text) in &TEXTS {
+        assert_eq!(rt; fault.to_string(rt.alloc())?.as_str(), *text);
     }
+    Ok(())
+}
+
+#[test]
+fn each_refusal_of_a_take_is_a_fault(rt: HostRuntime) -> Result<(), Fail> {
     let refusals = [
         (TakeFault::BadOrder, "bad order"),
         (TakeFault::NoBlock, "no block"),
@@ -51,35 +58,47 @@ fn each_fault_has_its_text(rt: HostRuntime) -> Result<(), Fail> {
 }
 
 #[test]
-fn sizes_end_at_their_limits(rt: HostRuntime) -> Result<(), Fail> {
-    for (children, cores) in [(1, 1), (4096, 64)] {
-        assert!(rt; Geometry::new(children, cores).is_ok());
-    }
-    for (children, cores) in [(0, 1), (4097, 1), (1, 0), (1, 65)] {
-        assert_eq!(rt; Geometry::new(children, cores), Err(Fault::BadGeometry));
-    }
-    for (children, cores, frames) in [(1, 1, 1), (1, 1, 512), (2, 1, 513), (4096, 64, 2097152)] {
-        let made = Geometry::with_frames(children, cores, frames);
-        assert_eq!(rt; made.map(|geometry| geometry.frames()), Ok(frames));
-    }
-    for (children, cores, frames, fault) in [
-        (1, 1, 0, Fault::BadRange),
-        (1, 1, 513, Fault::BadRange),
-        (2, 1, 512, Fault::BadRange),
-        (4096, 64, 2097153, Fault::BadRange),
-        (0, 1, 0, Fault::BadGeometry),
-        (1, 65, 513, Fault::BadGeometry),
-        (4097, 1, u32::MAX, Fault::BadGeometry),
+fn children_and_cores_end_at_their_limits(rt: HostRuntime) {
+    for (children, cores, is_made) in [
+        (1, 1, true),
+        (4096, 64, true),
+        (0, 1, false),
+        (4097, 1, false),
+        (1, 0, false),
+        (1, 65, false),
     ] {
-        assert_eq!(rt; Geometry::with_frames(children, cores, frames), Err(fault));
+        assert_eq!(rt; Geometry::new(children, cores).is_ok(), is_made);
     }
+}
+
+#[test]
+fn frames_end_in_the_last_child(rt: HostRuntime) {
+    for (children, cores, frames, fault) in [
+        (1, 1, 1, None),
+        (1, 1, 512, None),
+        (2, 1, 513, None),
+        (4096, 64, 2097152, None),
+        (1, 1, 0, Some(Fault::BadRange)),
+        (1, 1, 513, Some(Fault::BadRange)),
+        (2, 1, 512, Some(Fault::BadRange)),
+        (4096, 64, 2097153, Some(Fault::BadRange)),
+        (0, 1, 0, Some(Fault::BadGeometry)),
+        (1, 65, 513, Some(Fault::BadGeometry)),
+        (4097, 1, u32::MAX, Some(Fault::BadGeometry)),
+    ] {
+        match Geometry::with_frames(children, cores, frames) {
+            Ok(geometry) => assert_eq!(rt; (geometry.frames(), fault), (frames, None)),
+            Err(why) => assert_eq!(rt; Some(why), fault),
+        }
+    }
+}
+
+#[test]
+fn nine_children_are_two_trees(rt: HostRuntime) -> Result<(), Fail> {
     let geometry = Geometry::new(9, 2)?;
-    assert_eq!(rt; geometry.children(), 9);
-    assert_eq!(rt; geometry.cores(), 2);
-    assert_eq!(rt; geometry.frames(), 4608);
-    assert_eq!(rt; geometry.trees(), 2);
-    assert_eq!(rt; geometry.tree_size(0), 4096);
-    assert_eq!(rt; geometry.tree_size(1), 512);
+    assert_eq!(rt; (geometry.children(), geometry.cores()), (9, 2));
+    assert_eq!(rt; (geometry.frames(), geometry.trees()), (4608, 2));
+    assert_eq!(rt; (geometry.tree_size(0), geometry.tree_size(1)), (4096, 512));
     for (frame, child, tree) in [
         (0, 0, 0),
         (511, 0, 0),
@@ -87,8 +106,7 @@ fn sizes_end_at_their_limits(rt: HostRuntime) -> Result<(), Fail> {
         (4095, 7, 0),
         (4096, 8, 1),
     ] {
-        assert_eq!(rt; child_of(frame), child);
-        assert_eq!(rt; tree_of(frame), tree);
+        assert_eq!(rt; (child_of(frame), tree_of(frame)), (child, tree));
     }
     Ok(())
 }

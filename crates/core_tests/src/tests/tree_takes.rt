@@ -7,11 +7,13 @@ ghost use Rattle.frame_core.specs.View.{IsIdle, paid_on};
 ghost use Rattle.plain_moves.specs.PlainState.{IsByItself};
 ghost use Rattle.low_frames.specs.Outcomes.{MayTakeOf};
 
+use super::cues::{lose, stop, stranger};
 use frame_core::{HeldBlock, Image, Moves, Place};
 use frame_words::{Geometry, frames_of, tree_free};
 use low_frames::take_in_tree;
-use plain_moves::{Act, Cue, PlainMoves, ScriptMoves, What};
+use plain_moves::{Act, Cue, PlainMoves, ScriptMoves};
 use std::alloc::Global;
+use std::process::Abort;
 use std::test::Fail;
 
 // All bits of a word.
@@ -34,27 +36,6 @@ struct Outcome {
     skipped: u32,
     after: Words,
     stop: Option<Words>,
-}
-
-fn lose(at: u32) -> Cue {
-    Cue {
-        at,
-        what: What::Lose,
-    }
-}
-
-fn stop(at: u32) -> Cue {
-    Cue {
-        at,
-        what: What::Stop,
-    }
-}
-
-fn stranger(at: u32, who: u32, act: Act) -> Cue {
-    Cue {
-        at,
-        what: What::Stranger { who, act },
-    }
 }
 
 // A stranger pays and charges a frame, and claims the first bit of a word.
@@ -208,153 +189,124 @@ fn is_held(order: u8, outcome: &Outcome) -> bool
     true
 }
 
-// The order, the cues; the block's first frame, the moves, how many cues were not made, and the words
-// afterwards.
-#[derive(Clone, Copy)]
-struct Row<'a> {
-    order: u8,
-    cues: &'a [Cue],
-    frame: Option<u32>,
-    moves: u64,
-    skipped: u32,
-    entry: u32,
-    tree: u32,
-    bits: [u64; 8],
+// The words of a child and its tree; a hexadecimal digit for each bit word, the first one first: f is
+// a full word, and of other words the digit is the word.
+fn words_with(entry: u32, tree: u32, digits: u32) -> Words {
+    let mut bits = [0; 8];
+    for word in 0..8u32 {
+        let digit = u64::from(digits >> (28 - 4 * word)) % 16;
+        bits[word as usize] = if digit == 15 { FULL } else { digit };
+    }
+    Words { entry, tree, bits }
 }
 
-// Beside nobody, and where exchanges are lost. A lost charge is tried again, four times in all; a load
-// cannot be lost, and a stranger that has paid nothing cannot refund. Where a stranger claims a frame
-// of a group of words, what was claimed of it is released, and the next group is claimed.
-#[test]
-fn takes_go_on_after_lost_exchanges(rt: HostRuntime) -> Result<(), Fail> {
-    let refunds_nothing = stranger(1, 0, Act::TreeRefund { tree: 0, n: 1 });
-    let rows = [
-        Row {
-            order: 0,
-            cues: &[],
-            frame: Some(0),
-            moves: 5,
-            skipped: 0,
-            entry: 511,
-            tree: 511,
-            bits: [1, 0, 0, 0, 0, 0, 0, 0],
-        },
-        Row {
-            order: 7,
-            cues: &[],
-            frame: Some(0),
-            moves: 13,
-            skipped: 0,
-            entry: 384,
-            tree: 384,
-            bits: [FULL, FULL, 0, 0, 0, 0, 0, 0],
-        },
-        Row {
-            order: 8,
-            cues: &[],
-            frame: Some(0),
-            moves: 15,
-            skipped: 0,
-            entry: 256,
-            tree: 256,
-            bits: [FULL, FULL, FULL, FULL, 0, 0, 0, 0],
-        },
-        Row {
-            order: 0,
-            cues: &[lose(0), refunds_nothing, lose(1)],
-            frame: Some(0),
-            moves: 7,
-            skipped: 2,
-            entry: 511,
-            tree: 511,
-            bits: [1, 0, 0, 0, 0, 0, 0, 0],
-        },
-        Row {
-            order: 0,
-            cues: &[lose(1)],
-            frame: Some(0),
-            moves: 7,
-            skipped: 0,
-            entry: 511,
-            tree: 511,
-            bits: [1, 0, 0, 0, 0, 0, 0, 0],
-        },
-        Row {
-            order: 0,
-            cues: &[lose(1), lose(3), lose(5), lose(7)],
-            frame: None,
-            moves: 8,
-            skipped: 0,
-            entry: 512,
-            tree: 511,
-            bits: [0; 8],
-        },
-        Row {
-            order: 7,
-            cues: &claims(0, 1, 11),
-            frame: Some(128),
-            moves: 17,
-            skipped: 0,
-            entry: 383,
-            tree: 383,
-            bits: [0, 1, FULL, FULL, 0, 0, 0, 0],
-        },
-        Row {
-            order: 8,
-            cues: &claims(0, 3, 13),
-            frame: Some(256),
-            moves: 23,
-            skipped: 0,
-            entry: 255,
-            tree: 255,
-            bits: [0, 0, 0, 1, FULL, FULL, FULL, FULL],
-        },
-    ];
-    for row in &rows {
-        if row.order > 9 {
-            return Err(Fail::from("no such order"));
-        }
-        let outcome = run(rt.alloc(), row.order, row.cues)?;
-        let after = Words {
-            entry: row.entry,
-            tree: row.tree,
-            bits: row.bits,
-        };
-        assert_eq!(rt; (outcome.frame, outcome.moves), (row.frame, row.moves));
-        assert_eq!(rt; outcome.after, after);
-        assert_eq!(rt; outcome.skipped, row.skipped);
-    }
+// A take answers the block of this first frame, in so many moves, with so many cues that were not made,
+// and leaves these words.
+fn answers(
+    rt: &impl Abort,
+    alloc: Global,
+    order: u8,
+    cues: &[Cue],
+    want: (Option<u32>, u64, u32),
+    after: Words,
+) -> Result<(), Fail>
+    requires { order ≤ 9 }
+{
+    let outcome = run(alloc, order, cues)?;
+    assert_eq!(rt; (outcome.frame, outcome.moves, outcome.skipped), want);
+    assert_eq!(rt; outcome.after, after);
     Ok(())
 }
 
-// The words before a move: the order, whether a stranger claims, the move, the entry and the bits. A
-// stop before does not stay.
+#[test]
+fn takes_beside_nobody(rt: HostRuntime) -> Result<(), Fail> {
+    let alloc = rt.alloc();
+    answers(
+        &rt,
+        alloc,
+        0,
+        &[],
+        (Some(0), 5, 0),
+        words_with(511, 511, 0x1000_0000),
+    )?;
+    answers(
+        &rt,
+        alloc,
+        7,
+        &[],
+        (Some(0), 13, 0),
+        words_with(384, 384, 0xff00_0000),
+    )?;
+    answers(
+        &rt,
+        alloc,
+        8,
+        &[],
+        (Some(0), 15, 0),
+        words_with(256, 256, 0xffff_0000),
+    )
+}
+
+// A lost charge is tried again, four times in all; a load cannot be lost, and a stranger that has paid
+// nothing cannot refund. Where a stranger claims a frame of a group of words, what was claimed of it is
+// released, and the next group is claimed.
+#[test]
+fn takes_go_on_after_lost_exchanges(rt: HostRuntime) -> Result<(), Fail> {
+    let alloc = rt.alloc();
+    let skips = [
+        lose(0),
+        stranger(1, 0, Act::TreeRefund { tree: 0, n: 1 }),
+        lose(1),
+    ];
+    let four = [lose(1), lose(3), lose(5), lose(7)];
+    answers(
+        &rt,
+        alloc,
+        0,
+        &skips,
+        (Some(0), 7, 2),
+        words_with(511, 511, 0x1000_0000),
+    )?;
+    answers(&rt, alloc, 0, &four, (None, 8, 0), words_with(512, 511, 0))?;
+    answers(
+        &rt,
+        alloc,
+        7,
+        &claims(0, 1, 11),
+        (Some(128), 17, 0),
+        words_with(383, 383, 0x01ff_0000),
+    )?;
+    answers(
+        &rt,
+        alloc,
+        8,
+        &claims(0, 3, 13),
+        (Some(256), 23, 0),
+        words_with(255, 255, 0x0001_ffff),
+    )
+}
+
+// The words before a move: the order, whether a stranger claims, the move, the entry and the bit words
+// by digits. A stop before does not stay.
 #[test]
 fn a_stop_shows_each_step(rt: HostRuntime) -> Result<(), Fail> {
-    let rows = [
-        (7, None, 1, 512, [0; 8]),
-        (7, None, 2, 384, [0; 8]),
-        (7, None, 11, 384, [FULL, 0, 0, 0, 0, 0, 0, 0]),
-        (7, None, 12, 384, [FULL, FULL, 0, 0, 0, 0, 0, 0]),
-        (7, Some((1, 11)), 10, 383, [0; 8]),
-        (7, Some((1, 11)), 11, 383, [FULL, 1, 0, 0, 0, 0, 0, 0]),
-        (7, Some((1, 11)), 13, 383, [FULL, 1, 0, 0, 0, 0, 0, 0]),
-        (7, Some((1, 11)), 14, 383, [0, 1, 0, 0, 0, 0, 0, 0]),
-        (7, Some((1, 11)), 15, 383, [0, 1, FULL, 0, 0, 0, 0, 0]),
-        (7, Some((1, 11)), 16, 383, [0, 1, FULL, FULL, 0, 0, 0, 0]),
-        (8, Some((3, 13)), 15, 255, [FULL, FULL, FULL, 1, 0, 0, 0, 0]),
-        (8, Some((3, 13)), 16, 255, [0, FULL, FULL, 1, 0, 0, 0, 0]),
-        (8, Some((3, 13)), 17, 255, [0, 0, FULL, 1, 0, 0, 0, 0]),
-        (8, Some((3, 13)), 18, 255, [0, 0, 0, 1, 0, 0, 0, 0]),
-        (
-            8,
-            Some((3, 13)),
-            22,
-            255,
-            [0, 0, 0, 1, FULL, FULL, FULL, FULL],
-        ),
-    ];
-    for (order, claim, at, entry, bits) in rows {
+    for (order, claim, at, entry, digits) in [
+        (7, None, 1, 512, 0),
+        (7, None, 2, 384, 0),
+        (7, None, 11, 384, 0xf000_0000),
+        (7, None, 12, 384, 0xff00_0000),
+        (7, Some((1, 11)), 10, 383, 0),
+        (7, Some((1, 11)), 11, 383, 0xf100_0000),
+        (7, Some((1, 11)), 13, 383, 0xf100_0000),
+        (7, Some((1, 11)), 14, 383, 0x0100_0000),
+        (7, Some((1, 11)), 15, 383, 0x01f0_0000),
+        (7, Some((1, 11)), 16, 383, 0x01ff_0000),
+        (8, Some((3, 13)), 15, 255, 0xfff1_0000),
+        (8, Some((3, 13)), 16, 255, 0x0ff1_0000),
+        (8, Some((3, 13)), 17, 255, 0x00f1_0000),
+        (8, Some((3, 13)), 18, 255, 0x0001_0000),
+        (8, Some((3, 13)), 22, 255, 0x0001_ffff),
+    ] {
         if order > 9 {
             return Err(Fail::from("no such order"));
         }
@@ -366,8 +318,7 @@ fn a_stop_shows_each_step(rt: HostRuntime) -> Result<(), Fail> {
         cues.push(stop(at))?;
         let outcome = run(rt.alloc(), order, &cues)?;
         let found = outcome.stop.ok_or("no stop")?;
-        assert_eq!(rt; found.entry, entry, "at {at}");
-        assert_eq!(rt; found.bits, bits, "at {at}");
+        assert_eq!(rt; found, words_with(entry, found.tree, digits), "at {at}");
     }
     Ok(())
 }

@@ -1,4 +1,0 @@
-mod devices;
-mod images;
-mod reopenings;
-mod texts;

@@ -1,5 +1,0 @@
-//! What no clause says.
-
-mod places;
-mod scripted;
-mod words;
