@@ -6,8 +6,8 @@ use Rattle.std.proofs.lemmas.Bool.{cases_lt}
 use Rattle.std.proofs.lemmas.List.{get_or_append_left, get_or_push, length_push, get_or_default}
 use Rattle.core_frames.specs.declared.shared.allocator.Allocator.{Allocator}
 use Rattle.core_frames.specs.declared.shared.allocator.Core.{Core}
-use Rattle.core_frames.specs.Cores.{IsNewCore, IsOpened}
-use Rattle.frame_zones.specs.Sizes.{AreLaidOut, HaveCores}
+use Rattle.core_frames.specs.Cores.{memory_of, IsNewCore, IsOpened}
+use Rattle.frame_zones.specs.Sizes.{AreLaidOut, AreSized, HaveCores}
 use Rattle.frame_zones.specs.Spans.{Place, MayComeAfter, MayBeZones, HoldsLawful}
 use Rattle.frame_zones.specs.declared.spans.Span.{Span}
 use Rattle.frame_zones.specs.Openings.{AreNewCoresIn, IsLonger, IsAt, AreAt, AreDealt, IsBegun, AreOpened}
@@ -173,3 +173,20 @@ holds_one spans i s within is before holds k d below =
           subst (λ (t : Span). HoldsLawful t)
           (is ∙ get_or_default spans i s d within ∙ ap (λ j. slice_index_or spans j d) here) holds
     ]
+
+pub sized_none : AreSized [] []
+sized_none = record {
+  count = omega arith;
+  each = λ z a within. absurd (omega (arith, within));
+}
+
+-- the frames of one zone more
+pub sized_one : (zones : List Allocator) (frames : List ℕ) (a : Allocator) (n : ℕ) → AreSized zones frames
+    → n ≡ (memory_of a).frames → AreSized (zones ++ a ∷ []) (frames ++ n ∷ [])
+sized_one zones frames a n was is = record {
+  count = omega (arith, was.count, length_push zones a, length_push frames n);
+  each = λ z b within.
+      more_at (λ (e : Allocator) m. m ≡ (memory_of e).frames) zones frames a n was.count
+      (λ k d m k-within. get_or_default frames k m 0 (subst (λ i. k < i) (sym was.count) k-within) ∙ was.each k d k-within)
+      is z b 0 within;
+}

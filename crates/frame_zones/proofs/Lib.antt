@@ -10,3 +10,5 @@ pub mod Gathering
 pub mod Parted
 pub mod Closed
 pub mod Reopened
+pub mod Stopped
+pub mod Found

@@ -9,7 +9,7 @@ use Rattle.core_frames.specs.Cores.{memory_of, IsCoreOf}
 use Rattle.frame_zones.specs.Openings.{IsLonger, AreDealt}
 use Rattle.frame_zones.specs.Parting.{PartsOff, KeepsFirsts}
 use Rattle.frame_zones.specs.Zones.{HasCoresIn}
-use Rattle.frame_zones.specs.Sizes.{AreLaidOut, HaveCores, end_from}
+use Rattle.frame_zones.specs.Sizes.{AreLaidOut, AreSized, HaveCores, end_from}
 use Rattle.frame_zones.specs.Spans.{most_zone_frames}
 use Rattle.frame_zones.specs.declared.zones.ZoneCore.{ZoneCore}
 
@@ -86,6 +86,23 @@ laid_less zones us firsts gs a first is firsts-is laid =
           (subst (λ n. end_from n (slice_index_or us i d) ≤ slice_index_or firsts j 0) (at i i-within)
           (subst (λ (e : Allocator). end_from (slice_index_or firsts i 0) e ≤ slice_index_or firsts j 0) (zone-at i d i-within)
           (laid.ascend i j d less (omega (arith, one, within)))));
+    }
+
+-- they have as many frames as before
+pub sized_less : (zones us : List Allocator) (frames ns : List ℕ) (a : Allocator) (n : ℕ)
+    → zones ≡ us ++ a ∷ [] → frames ≡ ns ++ n ∷ [] → AreSized zones frames → AreSized us ns
+sized_less zones us frames ns a n is frames-is was =
+    let one : length zones ≡ length us + 1 = ap length is ∙ length_push us a in
+    let ones : length frames ≡ length ns + 1 = ap length frames-is ∙ length_push ns n in
+    let count : length ns ≡ length us = omega (arith, one, ones, was.count) in
+    record {
+      count = count;
+      each = λ z b within.
+          sym (ap (λ (l : List ℕ). slice_index_or l z 0) frames-is
+          ∙ get_or_append_left ns (n ∷ []) 0 z (subst (λ m. z < m) (sym count) within))
+          ∙ was.each z b (omega (arith, one, within))
+          ∙ ap (λ (e : Allocator). (memory_of e).frames)
+          (ap (λ (l : List Allocator). slice_index_or l z b) is ∙ get_or_append_left us (a ∷ []) b z within);
     }
 
 -- they have as many cores as before

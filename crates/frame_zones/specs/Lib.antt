@@ -1,6 +1,8 @@
 pub mod Spans
 pub mod Sizes
 pub mod Zones
+pub mod Frames
+pub mod Stops
 pub mod Uses
 pub mod Faults
 pub mod Laws

@@ -13,6 +13,12 @@ abbrev pub HaveCores : ℕ → List Allocator → Type 0
 HaveCores n zones = (z : ℕ) (a : Allocator) → z < length zones
     → (memory_of (slice_index_or zones z a)).cores ≡ n
 
+-- so many frames are those of each one's memory
+pub record AreSized (zones : List Allocator) (frames : List ℕ) : Type 0 where
+  pub count : length frames ≡ length zones
+  pub each : (z : ℕ) (a : Allocator) → z < length zones
+      → slice_index_or frames z 0 ≡ (memory_of (slice_index_or zones z a)).frames
+
 -- each zone has a first frame, a multiple of 512, ends within all frames, and lies below each later one
 pub record AreLaidOut (zones : List Allocator) (firsts : List ℕ) : Type 0 where
   pub few : length zones ≤ most_zones

@@ -101,6 +101,7 @@ impl Zones {
         let Zones {
             mut zones,
             mut firsts,
+            mut frames,
             cores: count,
             ..
         } = self;
@@ -110,12 +111,16 @@ impl Zones {
         let Some(first) = firsts.pop() else {
             unreachable!()
         };
+        let Some(last_frames) = frames.pop() else {
+            unreachable!()
+        };
         let parts = gather(cores, parts);
         match zone.close(alloc, parts) {
             Ok(image) => {
                 let left = Zones {
                     zones,
                     firsts,
+                    frames,
                     cores: count,
                 };
                 Ok((left, ZoneImage { first, image }))
@@ -123,10 +128,12 @@ impl Zones {
             Err(e) => {
                 zones.push_reserved(e.allocator);
                 firsts.push_reserved(first);
+                frames.push_reserved(last_frames);
                 put_back(cores, e.cores);
                 Err(Zones {
                     zones,
                     firsts,
+                    frames,
                     cores: count,
                 })
             }

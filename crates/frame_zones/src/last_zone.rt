@@ -39,6 +39,7 @@ impl Zones {
         let Zones {
             mut zones,
             mut firsts,
+            mut frames,
             cores: count,
             ..
         } = self;
@@ -48,10 +49,14 @@ impl Zones {
         let Some(_first) = firsts.pop() else {
             unreachable!()
         };
+        let Some(_frames) = frames.pop() else {
+            unreachable!()
+        };
         let parts = gather(cores, parts);
         let left = Zones {
             zones,
             firsts,
+            frames,
             cores: count,
         };
         Ok((left, zone, parts))

@@ -14,6 +14,7 @@ mod openings;
 mod reopenings;
 mod spans;
 mod splits;
+mod stops;
 mod takes;
 mod zones;
 
@@ -21,5 +22,6 @@ pub use block::ZoneBlock;
 pub use closings::ZonesFault;
 pub use image::ZoneImage;
 pub use laws::blocks_lie_in_zones;
-pub use spans::Span;
+pub use spans::{Span, may_be_zones};
+pub use stops::StopRoom;
 pub use zones::{ZoneCore, Zones};

@@ -28,16 +28,19 @@ impl Zones {
         let mut all = begun(alloc, cores, spans.len() as u32)?;
         let mut zones = Vec::with_capacity(alloc, spans.len())?;
         let mut firsts = Vec::with_capacity(alloc, spans.len())?;
+        let mut frames = Vec::with_capacity(alloc, spans.len())?;
         for span in spans {
             let (zone, parts) = open_zone(alloc, span)?;
             deal(&mut all, parts)?;
             zones.push_reserved(zone);
             firsts.push_reserved(span.first);
+            frames.push_reserved(span.geometry.frames);
         }
         Ok((
             Zones {
                 zones,
                 firsts,
+                frames,
                 cores,
             },
             all,
@@ -65,8 +68,13 @@ pub(crate) fn begun(alloc: Global, cores: u32, zones: u32) -> Result<Vec<ZoneCor
         return Err(Fault::NoMemory);
     };
     for number in 0..cores {
+        // Room for one part more than it gets keeps the parts of two cores apart: no cache line has
+        // some of both, however the heap lays their lists.
+        let Ok(room) = Vec::with_capacity(alloc, zones as usize + 1) else {
+            return Err(Fault::NoMemory);
+        };
         all.push_reserved(ZoneCore {
-            cores: Vec::new(alloc),
+            cores: room,
             home: number % zones,
         });
     }

@@ -38,16 +38,19 @@ impl Zones {
         let mut zones = Vec::with_capacity(alloc, images.len())?;
         let mut firsts = Vec::with_capacity(alloc, images.len())?;
         let mut left = Vec::with_capacity(alloc, images.len())?;
+        let mut frames = Vec::with_capacity(alloc, images.len())?;
         for image in images {
             let (zone, parts, survivors) = Allocator::open_at(alloc, &image.image)?;
             deal(&mut all, parts)?;
             zones.push_reserved(zone);
             firsts.push_reserved(image.first);
             left.push_reserved(survivors);
+            frames.push_reserved(image.image.geometry().frames);
         }
         let zones = Zones {
             zones,
             firsts,
+            frames,
             cores,
         };
         Ok((zones, all, left))

@@ -24,7 +24,7 @@ pub struct Span {
 }
 
 /// May zones of so many cores lie like this?
-pub(crate) fn may_be_zones(cores: u32, spans: &[Span]) -> bool
+pub fn may_be_zones(cores: u32, spans: &[Span]) -> bool
     ensures { MatchBool result (MayBeZones cores (map place_of spans.now))
         (¬ MayBeZones cores (map place_of spans.now)) }
 {

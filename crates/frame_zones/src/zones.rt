@@ -1,25 +1,28 @@
 //! The zones of a memory, and a core of all of them.
 
-ghost use Rattle.frame_zones.specs.Sizes.{AreLaidOut, HaveCores};
+ghost use Rattle.frame_zones.specs.Sizes.{AreLaidOut, AreSized, HaveCores};
 
 use core_frames::{Allocator, Core};
 
 /// Gives out blocks of one memory, which may have more frames than one allocator, and holes.
 #[derive(Drop)]
 pub struct Zones {
-    pub(crate) zones: Vec<Allocator>,
-    // The first frame of each.
-    pub(crate) firsts: Vec<u64>,
-    // How many cores each has.
-    pub(crate) cores: u32,
-    pub(crate) ghost laid_out: { AreLaidOut zones.items firsts.items },
-    pub(crate) ghost same_cores: { HaveCores cores zones.items },
+    pub zones: Vec<Allocator>,
+    /// The first frame of each among all of the memory.
+    pub firsts: Vec<u64>,
+    /// How many frames each has.
+    pub frames: Vec<u32>,
+    /// How many cores each has.
+    pub cores: u32,
+    pub ghost laid_out: { AreLaidOut zones.items firsts.items },
+    pub ghost sized: { AreSized zones.items frames.items },
+    pub ghost same_cores: { HaveCores cores zones.items },
 }
 
 /// What one thread takes and gives through: a core of each zone.
 #[derive(Drop)]
 pub struct ZoneCore {
-    pub(crate) cores: Vec<Core>,
-    // The zone where takes begin.
-    pub(crate) home: u32,
+    pub cores: Vec<Core>,
+    /// The zone where takes begin.
+    pub home: u32,
 }

@@ -3,7 +3,7 @@ use Rattle.core_frames.specs.declared.shared.allocator.Allocator.{Allocator}
 use Rattle.core_frames.specs.declared.shared.allocator.Core.{Core}
 use Rattle.frame_zones.specs.Openings.{AreDealt}
 use Rattle.frame_zones.proofs.Closed.{closed_last, all_back}
-use Rattle.frame_zones.proofs.Parted.{parts_off, laid_less, cores_less}
+use Rattle.frame_zones.proofs.Parted.{parts_off, laid_less, sized_less, cores_less}
 use Rattle.frame_zones.proofs.zones.Zones.close_last.Goals as goal
 
 pub close-requires : goal.close-requires
@@ -16,6 +16,8 @@ pub invariant_of-left : goal.invariant_of-left
 invariant_of-left c = record {
   laid_out = laid_less c.args.self.zones.items c.pop.new.self.items c.args.self.firsts.items c.pop-2.new.self.items
       c.in-Some.zone c.in-Some-pop.first c.in-Some.ensures.items c.in-Some-pop.ensures.items c.args.self.laid_out;
+  sized = sized_less c.args.self.zones.items c.pop.new.self.items c.args.self.frames.items c.pop-3.new.self.items
+      c.in-Some.zone c.in-Some-pop-2.last_frames c.in-Some.ensures.items c.in-Some-pop-2.ensures.items c.args.self.sized;
   same_cores = cores_less c.args.self.cores c.args.self.zones.items c.pop.new.self.items c.in-Some.zone
       c.in-Some.ensures.items c.args.self.same_cores;
 }

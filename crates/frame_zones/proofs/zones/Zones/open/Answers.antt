@@ -1,9 +1,11 @@
 use Rattle.std.proofs.Common.{◌≡◌, ◌++◌, ◌∷◌, [], length, map, slice_index_or, List, ℕ, refl, sym, ◌∙◌, ap, subst, arith, rules}
 use Rattle.std.proofs.lemmas.List.{length-map}
 use Rattle.core_frames.specs.declared.shared.allocator.Allocator.{Allocator}
+use Rattle.frame_model.specs.declared.key.Key.{Key}
+use Rattle.frame_zones.specs.Sizes.{AreSized}
 use Rattle.frame_zones.specs.Spans.{Place, place_of}
 use Rattle.frame_zones.specs.declared.spans.Span.{Span}
-use Rattle.frame_zones.proofs.Begun.{IsOpening, opening_one, opening_all, laid_out, have_cores, holds_one}
+use Rattle.frame_zones.proofs.Begun.{IsOpening, opening_one, opening_all, laid_out, have_cores, holds_one, sized_one}
 use Rattle.frame_zones.proofs.Lying.{one_read, place_read}
 use Rattle.frame_zones.proofs.zones.Zones.open.Goals as goal
 
@@ -50,6 +52,12 @@ loop-span-preserved c =
       count = search rules;
       room = search rules;
       firsts_room = search rules;
+      frames_room = search rules;
+      sized = subst (λ (l : List Allocator). AreSized l c.push_reserved-in-loop-span-2.new.self.items)
+          (sym c.push_reserved.ensures.items)
+          (subst (λ (l : List ℕ). AreSized (c.loop-span.zones.items ++ c.in_ok-zone.zone ∷ []) l)
+          (sym c.push_reserved-in-loop-span-2.ensures.items)
+          (sized_one c.loop-span.zones.items c.loop-span.frames.items c.in_ok-zone.zone s.geometry.frames inv.sized (sym (ap (λ (k : Key). k.frames) c.in_ok-zone.ensures.opened.memory))));
     }
 
 pub invariant_of-result : goal.invariant_of-result
@@ -58,6 +66,7 @@ invariant_of-result c =
     omega (arith, c.loop-span.invariant.count, c.loop-span.auto.span-index-end, c.loop-span-test.false, length-map c.args.spans.now place_of) in
     record {
       laid_out = laid_out _ _ _ _ _ _ c.loop-span.invariant.lawful c.loop-span.invariant.opening whole;
+      sized = c.loop-span.invariant.sized;
       same_cores = have_cores _ _ _ _ _ _ c.loop-span.invariant.lawful c.loop-span.invariant.opening whole;
     }
 

@@ -1,4 +1,5 @@
 use Rattle.std.proofs.Common.{◌≡◌, ◌<◌, ◌≤◌, ℕ, length, map, slice_index_or, vec_capacity}
+use Rattle.frame_zones.specs.Sizes.{AreSized}
 use Rattle.frame_zones.specs.Spans.{place_of, MayBeZones, HoldsLawful}
 use Rattle.frame_zones.specs.declared.spans.Span.{Span}
 use Rattle.frame_zones.proofs.Begun.{IsOpening}
@@ -12,4 +13,6 @@ invariant-loop-span l = record {
   count : length l.zones.items ≡ l.span-index;
   room : length l.spans ≤ vec_capacity l.zones;
   firsts_room : length l.spans ≤ vec_capacity l.firsts;
+  frames_room : length l.spans ≤ vec_capacity l.frames;
+  sized : AreSized l.zones.items l.frames.items;
 }

@@ -2,10 +2,13 @@ use Rattle.std.proofs.Common.{◌≡◌, ◌+◌, ◌++◌, ◌∷◌, [], lengt
 use Rattle.std.proofs.lemmas.List.{length-map}
 use Rattle.core_frames.specs.declared.shared.allocator.Allocator.{Allocator}
 use Rattle.core_frames.specs.declared.shared.survivors.Survivors.{Survivors}
+use Rattle.frame_words.specs.declared.geometry.Geometry.{Geometry}
+use Rattle.frame_model.specs.declared.key.Key.{Key}
+use Rattle.frame_zones.specs.Sizes.{AreSized}
 use Rattle.frame_zones.specs.Reopening.{AreLeftOf, AreHeldAt}
 use Rattle.frame_zones.specs.Spans.{Place, place_at}
 use Rattle.frame_zones.specs.declared.image.ZoneImage.{ZoneImage}
-use Rattle.frame_zones.proofs.Begun.{IsOpening, opening_one, opening_all, laid_out, have_cores}
+use Rattle.frame_zones.proofs.Begun.{IsOpening, opening_one, opening_all, laid_out, have_cores, sized_one}
 use Rattle.frame_zones.proofs.Lying.{one_read, place_read}
 use Rattle.frame_zones.proofs.Reopened.{left_one, held_one}
 use Rattle.frame_zones.proofs.zones.Zones.open_at.Goals as goal
@@ -61,6 +64,13 @@ loop-image-preserved c =
       count = search rules;
       room = search rules;
       firsts_room = search rules;
+      frames_room = search rules;
+      sized = subst (λ (l : List Allocator). AreSized l c.push_reserved-in-loop-image-3.new.self.items)
+          (sym c.push_reserved.ensures.items)
+          (subst (λ (l : List ℕ). AreSized (c.loop-image.zones.items ++ c.in_ok-zone.zone ∷ []) l)
+          (sym c.push_reserved-in-loop-image-3.ensures.items)
+          (sized_one c.loop-image.zones.items c.loop-image.frames.items c.in_ok-zone.zone c.geometry.result.frames inv.sized
+          (ap (λ (g : Geometry). g.frames) c.geometry.ensures.value ∙ sym (ap (λ (k : Key). k.frames) c.in_ok-zone.ensures.opened.memory))));
       left_room = search rules;
     }
 
@@ -70,6 +80,7 @@ invariant_of-zones c =
     omega (arith, c.loop-image.invariant.count, c.loop-image.auto.image-index-end, c.loop-image-test.false, length-map c.args.images.now place_at) in
     record {
       laid_out = laid_out _ _ _ _ _ _ c.loop-image.invariant.lawful c.loop-image.invariant.opening whole;
+      sized = c.loop-image.invariant.sized;
       same_cores = have_cores _ _ _ _ _ _ c.loop-image.invariant.lawful c.loop-image.invariant.opening whole;
     }
 

@@ -1,5 +1,6 @@
 use Rattle.std.proofs.Common.{◌≡◌, ◌≤◌, length, map, vec_capacity}
 use Rattle.frame_zones.specs.Reopening.{AreLeftOf, AreHeldAt}
+use Rattle.frame_zones.specs.Sizes.{AreSized}
 use Rattle.frame_zones.specs.Spans.{place_at, MayBeZones}
 use Rattle.frame_zones.proofs.Begun.{IsOpening}
 use Rattle.frame_zones.proofs.zones.Zones.open_at.Given as goal
@@ -13,5 +14,7 @@ invariant-loop-image l = record {
   count : length l.zones.items ≡ l.image-index;
   room : length l.images ≤ vec_capacity l.zones;
   firsts_room : length l.images ≤ vec_capacity l.firsts;
+  frames_room : length l.images ≤ vec_capacity l.frames;
+  sized : AreSized l.zones.items l.frames.items;
   left_room : length l.images ≤ vec_capacity l.left;
 }

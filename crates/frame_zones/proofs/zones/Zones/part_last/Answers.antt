@@ -1,4 +1,4 @@
-use Rattle.frame_zones.proofs.Parted.{parts_off, laid_less, cores_less}
+use Rattle.frame_zones.proofs.Parted.{parts_off, laid_less, sized_less, cores_less}
 use Rattle.frame_zones.proofs.zones.Zones.part_last.Goals as goal
 
 pub returns-clause-parted : goal.returns-clause-parted
@@ -11,6 +11,8 @@ pub invariant_of-left : goal.invariant_of-left
 invariant_of-left c = record {
   laid_out = laid_less c.args.self.zones.items c.pop.new.self.items c.args.self.firsts.items c.pop-2.new.self.items
       c.in-Some.zone c.in-Some-pop._first c.in-Some.ensures.items c.in-Some-pop.ensures.items c.args.self.laid_out;
+  sized = sized_less c.args.self.zones.items c.pop.new.self.items c.args.self.frames.items c.pop-3.new.self.items
+      c.in-Some.zone c.in-Some-pop-2._frames c.in-Some.ensures.items c.in-Some-pop-2.ensures.items c.args.self.sized;
   same_cores = cores_less c.args.self.cores c.args.self.zones.items c.pop.new.self.items c.in-Some.zone
       c.in-Some.ensures.items c.args.self.same_cores;
 }
