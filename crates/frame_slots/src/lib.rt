@@ -35,4 +35,5 @@ pub use reopenings::reopen_cores;
 pub use replay::MOST_STEPS;
 pub use shared::Shared;
 pub use slot::Slot;
+pub use slots::SlotList;
 pub use stops::StopFault;

@@ -9,7 +9,6 @@ ghost use Rattle.frame_slots.specs.Reopenings.{AreReopened, HasLaidDown, KeepsRe
 
 use crate::core_state::CoreState;
 use crate::openings::{cores_over, next_core, open_shared, state_over};
-use crate::replay::replay;
 use crate::shared::Shared;
 use core_frames::Core;
 use frame_core::FrameBlock;
@@ -65,7 +64,14 @@ fn reopen_shared(
     let Some(mut core) = next_core(&shared.allocator, &mut cores) else {
         return Err(Fault::NoMemory);
     };
-    let receipts = replay(alloc, &shared, &mut core, numbers, claimed)?;
+    let receipts = shared.slots.replay(
+        alloc,
+        &shared.allocator,
+        &mut core,
+        shared.frames,
+        numbers,
+        claimed,
+    )?;
     shared.reclaimed = receipts;
     Ok((shared, cores, core))
 }

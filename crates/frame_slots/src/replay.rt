@@ -3,19 +3,19 @@
 
 ghost use Rattle.std.specs.Prelude.{◌≡◌, [], ◌∷◌, ◌++◌, map, vec_len, IfOk, IfErr, IsTrue};
 ghost use Rattle.std.specs.List.{All};
-ghost use Rattle.core_frames.specs.Cores.{IsCoreOf, IsOutOf};
+ghost use Rattle.core_frames.specs.Cores.{memory_of, IsCoreOf, IsOutOf};
 ghost use Rattle.frame_core.specs.Block.{block as block_at};
 ghost use Rattle.frame_slots.specs.Calls.{laid_down};
 ghost use Rattle.frame_slots.specs.Numbers.{IsFreeIn, AreAllHeld};
 ghost use Rattle.frame_slots.specs.Openings.{IsUnused};
 ghost use Rattle.frame_slots.specs.Reopenings.{IsNoReplay, IsFollowing, KeepsRest, MakeUp};
+ghost use Rattle.frame_slots.specs.SlotLists.{IsListOf};
 ghost use Rattle.frame_slots.specs.Reopenings.{HasFoundNone, HasHalved, HasLaid, LendsJust, waiting_blocks};
 
-use crate::by_numbers::lay_down;
 use crate::claims::is_claimed;
 use crate::numbers::{is_free, is_held_whole};
 use crate::receipt::Receipt;
-use crate::shared::Shared;
+use crate::slots::SlotList;
 use core_frames::{Allocator, Core};
 use frame_core::{FrameBlock, HeldBlock};
 use frame_table::Block;
@@ -35,62 +35,75 @@ enum BlockUse {
     Mixed,
 }
 
-/// Holds what the image with these numbers holds. The claimed blocks, which ascend, are laid down at
-/// their slots; all else that is held the core keeps.
-pub(crate) fn replay(
-    alloc: Global,
-    shared: &Shared,
-    core: &mut Core,
-    numbers: &[u64],
-    claimed: &[FrameBlock],
-) -> Result<Vec<Receipt>, Fault>
-    requires core { IsCoreOf shared.now.allocator core.old }
-    requires unused { IsUnused core.old }
-    ensures core { IsCoreOf shared.now.allocator core.new }
-    ensures laid { IfOk result (λ receipts. map laid_down receipts.items ≡ claimed.now) }
-    ensures rest { IfOk result (λ _. KeepsRest shared.now.frames numbers.now claimed.now core.new) }
-    ensures err { IfErr result IsNoReplay }
-{
-    let mut pending = take_all(alloc, shared, core)?;
-    let mut receipts = Vec::new(alloc);
-    for _step in 0..MOST_STEPS {
-        let Some(held) = pending.pop() else {
-            break;
-        };
-        settle(
-            shared,
-            core,
-            held,
-            numbers,
-            claimed,
-            &mut pending,
-            &mut receipts,
-        )?;
-    }
-    receipts.sort_unstable_by_key(|receipt| receipt.frame());
-    if pending.is_empty() && are_for(&receipts, claimed) {
-        Ok(receipts)
-    } else {
-        Err(Fault::Contended)
+impl SlotList {
+    /// A fresh memory of so many frames holds what the image with these numbers holds. The claimed blocks,
+    /// which ascend, are laid down at their slots; all else that is held the core keeps. Refused for want of
+    /// memory; or as `Contended` where a claimed block is not held by itself, or some block was not found.
+    pub fn replay(
+        &self,
+        alloc: Global,
+        allocator: &Allocator,
+        core: &mut Core,
+        frames: u32,
+        numbers: &[u64],
+        claimed: &[FrameBlock],
+    ) -> Result<Vec<Receipt>, Fault>
+        requires slots { IsListOf allocator.now self.now }
+        requires frames { frames ≡ (memory_of allocator.now).frames }
+        requires core { IsCoreOf allocator.now core.old }
+        requires unused { IsUnused core.old }
+        ensures core { IsCoreOf allocator.now core.new }
+        ensures laid { IfOk result (λ receipts. map laid_down receipts.items ≡ claimed.now) }
+        ensures rest { IfOk result (λ _. KeepsRest (memory_of allocator.now).frames numbers.now claimed.now core.new) }
+        ensures err { IfErr result IsNoReplay }
+    {
+        let mut pending = take_all(alloc, allocator, core, frames)?;
+        let mut receipts = Vec::new(alloc);
+        for _step in 0..MOST_STEPS {
+            let Some(held) = pending.pop() else {
+                break;
+            };
+            settle(
+                allocator,
+                self,
+                core,
+                held,
+                numbers,
+                claimed,
+                &mut pending,
+                &mut receipts,
+            )?;
+        }
+        receipts.sort_unstable_by_key(|receipt| receipt.frame());
+        if pending.is_empty() && are_for(&receipts, claimed) {
+            Ok(receipts)
+        } else {
+            Err(Fault::Contended)
+        }
     }
 }
 
 // All frames of the memory, in blocks of which the first comes last.
-fn take_all(alloc: Global, shared: &Shared, core: &mut Core) -> Result<Vec<Block>, Fault>
-    requires core { IsCoreOf shared.now.allocator core.old }
+fn take_all(
+    alloc: Global,
+    allocator: &Allocator,
+    core: &mut Core,
+    frames: u32,
+) -> Result<Vec<Block>, Fault>
+    requires core { IsCoreOf allocator.now core.old }
     requires unused { IsUnused core.old }
-    ensures core { IsCoreOf shared.now.allocator core.new }
-    ensures out { IfOk result (λ blocks. All (IsOutOf shared.now.allocator) blocks.items) }
+    ensures core { IsCoreOf allocator.now core.new }
+    ensures out { IfOk result (λ blocks. All (IsOutOf allocator.now) blocks.items) }
     ensures lends { IfOk result (λ blocks. LendsJust (vec_len blocks) core.new) }
-    ensures all { IfOk result (λ blocks. MakeUp shared.now.frames (waiting_blocks blocks.items)) }
+    ensures all { IfOk result (λ blocks. MakeUp frames (waiting_blocks blocks.items)) }
     ensures err { IfErr result IsNoReplay }
 {
     let mut pending = Vec::new(alloc);
     for less in 0..HUGE_ORDER + 1 {
-        take_into(&shared.allocator, core, HUGE_ORDER - less, &mut pending)?;
+        take_into(allocator, core, HUGE_ORDER - less, &mut pending)?;
     }
     pending.sort_unstable_by_key(|held| held.frame());
-    if !make_up(&shared.allocator, &pending, shared.frames) {
+    if !make_up(allocator, &pending, frames) {
         return Err(Fault::Contended);
     }
     pending.reverse();
@@ -159,7 +172,8 @@ fn make_up(allocator: &Allocator, blocks: &[Block], frames: u32) -> bool
 // A block is laid down where it is claimed, given back where it is free, and kept where it is held
 // as one; else its halves wait for the same.
 fn settle(
-    shared: &Shared,
+    allocator: &Allocator,
+    slots: &SlotList,
     core: &mut Core,
     held: Block,
     numbers: &[u64],
@@ -167,28 +181,29 @@ fn settle(
     pending: &mut Vec<Block>,
     receipts: &mut Vec<Receipt>,
 ) -> Result<(), Fault>
-    requires core { IsCoreOf shared.now.allocator core.old }
-    requires out { IsOutOf shared.now.allocator held
-        × All (IsOutOf shared.now.allocator) pending.old.items }
-    requires follows { IsFollowing shared.now.frames numbers.now (held ∷ pending.old.items)
+    requires slots { IsListOf allocator.now slots.now }
+    requires core { IsCoreOf allocator.now core.old }
+    requires out { IsOutOf allocator.now held
+        × All (IsOutOf allocator.now) pending.old.items }
+    requires follows { IsFollowing (memory_of allocator.now).frames numbers.now (held ∷ pending.old.items)
         receipts.old.items core.old }
-    ensures core { IsCoreOf shared.now.allocator core.new }
-    ensures out { All (IsOutOf shared.now.allocator) pending.new.items }
-    ensures follows { IfOk result (λ _. IsFollowing shared.now.frames numbers.now pending.new.items
+    ensures core { IsCoreOf allocator.now core.new }
+    ensures out { All (IsOutOf allocator.now) pending.new.items }
+    ensures follows { IfOk result (λ _. IsFollowing (memory_of allocator.now).frames numbers.now pending.new.items
         receipts.new.items core.new) }
     ensures err { IfErr result IsNoReplay }
 {
     match use_of(numbers, claimed, held.frame(), held.order()) {
-        BlockUse::Claimed => lay_claimed(shared, core, held, receipts),
+        BlockUse::Claimed => lay_claimed(allocator, slots, core, held, receipts),
         BlockUse::Free => {
-            shared.allocator.give(core, held);
+            allocator.give(core, held);
             Ok(())
         }
         BlockUse::Held => {
-            shared.allocator.keep(core, held);
+            allocator.keep(core, held);
             Ok(())
         }
-        BlockUse::Mixed => split_into(&shared.allocator, core, held, pending),
+        BlockUse::Mixed => split_into(allocator, core, held, pending),
     }
 }
 
@@ -209,19 +224,21 @@ fn use_of(numbers: &[u64], claimed: &[FrameBlock], frame: u32, order: u8) -> Blo
 }
 
 fn lay_claimed(
-    shared: &Shared,
+    allocator: &Allocator,
+    slots: &SlotList,
     core: &mut Core,
     held: Block,
     receipts: &mut Vec<Receipt>,
 ) -> Result<(), Fault>
-    requires core { IsCoreOf shared.now.allocator core.old }
-    requires held { IsOutOf shared.now.allocator held }
-    ensures core { IsCoreOf shared.now.allocator core.new }
+    requires slots { IsListOf allocator.now slots.now }
+    requires core { IsCoreOf allocator.now core.old }
+    requires held { IsOutOf allocator.now held }
+    ensures core { IsCoreOf allocator.now core.new }
     ensures laid { IfOk result (λ _. HasLaid held receipts.old.items receipts.new.items
         core.old core.new) }
     ensures err { IfErr result IsNoReplay }
 {
-    let Some(receipt) = lay_down(shared, core, held) else {
+    let Some(receipt) = slots.lay_down(allocator, core, held) else {
         return Err(Fault::Contended);
     };
     let Ok(()) = receipts.push(receipt) else {

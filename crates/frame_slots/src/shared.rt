@@ -18,7 +18,7 @@ pub struct Shared {
     pub allocator: Allocator,
     /// The frames of its memory.
     pub frames: u32,
-    slots: SlotList,
+    pub(crate) slots: SlotList,
     /// Of the blocks that were laid down before any core was handed out.
     pub reclaimed: Vec<Receipt>,
     pub ghost sized: { frames ≡ (memory_of allocator).frames },

@@ -5,6 +5,7 @@ ghost use Rattle.std.specs.Prelude.{◌≡◌, ◌+◌, ◌≤◌, IfOk, IfErr, 
 ghost use Rattle.std.specs.List.{All};
 ghost use Rattle.core_frames.specs.Cores.{IsCoreOf, IsOutOf};
 ghost use Rattle.core_frames.specs.Uses.{HasGiven};
+ghost use Rattle.frame_table.specs.Seats.{block_in};
 ghost use Rattle.frame_slots.specs.SlotLists.{place_for, HasRoomFor, IsBetween, IsListOf};
 ghost use Rattle.frame_slots.specs.Slots.{IsSlotFor, IsUsedAsBefore, HasGivenSoMany};
 
@@ -20,9 +21,9 @@ use std::alloc::Global;
 // The places of the blocks of a child, and one behind them that is no block's.
 const CHILD_PLACES: usize = 2 * CHILD_FRAMES as usize;
 
-/// Slots, and the places that have none.
+/// Slots of an allocator's blocks, and the places that have none.
 #[derive(Drop)]
-pub(crate) struct SlotList {
+pub struct SlotList {
     pub(crate) list: Vec<Slot>,
     pub(crate) gaps: Gaps,
 }
@@ -55,7 +56,7 @@ impl SlotList {
     }
 
     /// No slot, and no room for any.
-    pub(crate) fn none(alloc: Global, allocator: &Allocator) -> SlotList
+    pub fn none(alloc: Global, allocator: &Allocator) -> SlotList
         ensures room { vec_capacity result.list ≡ 0 }
         ensures slots { IsListOf allocator.now result }
     {
@@ -66,8 +67,9 @@ impl SlotList {
         }
     }
 
-    /// A slot for each block that is free.
-    pub(crate) fn open(
+    /// A slot for each block that is free, and room for those of so many frames. Refused only for want
+    /// of memory.
+    pub fn open(
         alloc: Global,
         allocator: &Allocator,
         core: &mut Core,
@@ -88,7 +90,7 @@ impl SlotList {
 
     /// The slot of the block of these numbers, if there is such a block.
     #[inline(always)]
-    pub(crate) fn find(&self, allocator: &Allocator, frame: u32, order: u8) -> Option<&Slot>
+    pub fn find(&self, allocator: &Allocator, frame: u32, order: u8) -> Option<&Slot>
         requires { IsListOf allocator.now self.now }
         ensures { IfSome result (λ p. IsSlotFor allocator.now frame order p.now) }
     {
@@ -198,7 +200,8 @@ impl SlotList {
     }
 
     // The slots of the block and of all blocks inside it, in the order of their places. It is given back
-    // in single frames, the first first: the core stays with the last tree, next to which no other begins.
+    // in blocks below order 9, the first first: the core stays with the last tree, next to which no other
+    // begins.
     fn add_each(&mut self, allocator: &Allocator, core: &mut Core, held: Block) -> Result<(), Fault>
         requires slots { IsListOf allocator.now self.old }
         requires held { IsOutOf allocator.now held }
@@ -209,18 +212,72 @@ impl SlotList {
         ensures given { IfOk result (λ _. HasGiven core.old core.new) }
         ensures err { IfErr result (λ e. e ≡ Fault.NoMemory) }
     {
+        if held.order() < HUGE_ORDER {
+            let held = self.add_inside(allocator, core, held)?;
+            allocator.give(core, held);
+            return Ok(());
+        }
+        self.add_huge(allocator, core, held)
+    }
+
+    // The same for a block of order 9, which no halves make up again.
+    fn add_huge(&mut self, allocator: &Allocator, core: &mut Core, held: Block) -> Result<(), Fault>
+        requires slots { IsListOf allocator.now self.old }
+        requires held { IsOutOf allocator.now held }
+        requires core { IsCoreOf allocator.now core.old }
+        requires huge { held.order ≡ 9 }
+        ensures core { IsCoreOf allocator.now core.new }
+        ensures slots { IfOk result (λ _. IsListOf allocator.now self.new) }
+        ensures room { vec_capacity self.old.list ≤ vec_capacity self.new.list }
+        ensures given { IfOk result (λ _. HasGiven core.old core.new) }
+        ensures err { IfErr result (λ e. e ≡ Fault.NoMemory) }
+    {
+        let slot = Slot::of(allocator, &held);
+        let (frame, order) = (held.frame(), held.order());
+        let Ok((lower, upper)) = allocator.split(core, held) else {
+            unreachable!()
+        };
+        let lower = self.add_inside(allocator, core, lower)?;
+        self.add(allocator, slot, frame, order)?;
+        let upper = self.add_inside(allocator, core, upper)?;
+        allocator.give(core, lower);
+        allocator.give(core, upper);
+        Ok(())
+    }
+
+    // The slots of a block below order 9 and of all blocks inside it, in the order of their places. Each is
+    // made like a right that is there: the block is split, and its halves are joined again.
+    fn add_inside(
+        &mut self,
+        allocator: &Allocator,
+        core: &mut Core,
+        held: Block,
+    ) -> Result<Block, Fault>
+        requires slots { IsListOf allocator.now self.old }
+        requires held { IsOutOf allocator.now held × (held.order ≤ 8) }
+        requires core { IsCoreOf allocator.now core.old }
+        ensures core { IsCoreOf allocator.now core.new }
+        ensures slots { IfOk result (λ _. IsListOf allocator.now self.new) }
+        ensures room { vec_capacity self.old.list ≤ vec_capacity self.new.list }
+        ensures lends { IfOk result (λ _. IsUsedAsBefore core.old core.new) }
+        ensures same { IfOk result (λ b. IsOutOf allocator.now b × (block_in b ≡ block_in held)) }
+        ensures err { IfErr result (λ e. e ≡ Fault.NoMemory) }
+    {
         let slot = Slot::of(allocator, &held);
         let (frame, order) = (held.frame(), held.order());
         match allocator.split(core, held) {
             Ok((lower, upper)) => {
-                self.add_each(allocator, core, lower)?;
+                let lower = self.add_inside(allocator, core, lower)?;
                 self.add(allocator, slot, frame, order)?;
-                self.add_each(allocator, core, upper)
+                let upper = self.add_inside(allocator, core, upper)?;
+                let Ok(whole) = allocator.join(core, lower, upper) else {
+                    unreachable!()
+                };
+                Ok(whole)
             }
             Err(single) => {
                 self.add(allocator, slot, frame, order)?;
-                allocator.give(core, single);
-                Ok(())
+                Ok(single)
             }
         }
     }

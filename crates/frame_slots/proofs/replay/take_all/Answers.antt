@@ -9,15 +9,15 @@ use Rattle.frame_slots.proofs.replay.take_all.Goals as goal
 
 pub make_up-requires : goal.make_up-requires
 make_up-requires c =
-    let sorted = All-permutation (IsOutOf c.args.shared.now.allocator) c.loop-less.pending.items
+    let sorted = All-permutation (IsOutOf c.args.allocator.now) c.loop-less.pending.items
     c.sort_unstable_by_key.new.self.items c.sort_unstable_by_key.ensures.permutation c.loop-less.invariant.out in
     search (rules, sorted)
 
 pub returns-clause-out : goal.returns-clause-out
 returns-clause-out c =
-    let sorted = All-permutation (IsOutOf c.args.shared.now.allocator) c.loop-less.pending.items
+    let sorted = All-permutation (IsOutOf c.args.allocator.now) c.loop-less.pending.items
     c.sort_unstable_by_key.new.self.items c.sort_unstable_by_key.ensures.permutation c.loop-less.invariant.out in
-    All-permutation (IsOutOf c.args.shared.now.allocator) c.sort_unstable_by_key.new.self.items c.reverse.new.self.items
+    All-permutation (IsOutOf c.args.allocator.now) c.sort_unstable_by_key.new.self.items c.reverse.new.self.items
     c.reverse.ensures.permutation sorted
 
 pub returns-clause-lends : goal.returns-clause-lends
@@ -28,7 +28,7 @@ returns-clause-lends c =
 
 pub returns-clause-all : goal.returns-clause-all
 returns-clause-all c =
-    let frames : ℕ = c.args.shared.now.frames in
+    let frames : ℕ = c.args.frames in
     let sorted : List Block = c.sort_unstable_by_key.new.self.items in
     let told : IsTrue c.make_up.result = search rules in
     made_still frames sorted c.reverse.new.self.items c.reverse.ensures.permutation

@@ -6,7 +6,7 @@ use Rattle.frame_slots.proofs.replay.take_all.Given as goal
 
 abbrev pub invariant-loop-less : goal.invariant-loop-less
 invariant-loop-less l = record {
-  is_core : IsCoreOf l.shared.allocator l.core;
-  out : All (IsOutOf l.shared.allocator) l.pending.items;
+  is_core : IsCoreOf l.allocator l.core;
+  out : All (IsOutOf l.allocator) l.pending.items;
   lends : LendsJust (vec_len l.pending) l.core;
 }
