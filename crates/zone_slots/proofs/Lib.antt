@@ -1,0 +1,11 @@
+pub mod Laid
+pub mod Cutting
+pub mod Claiming
+pub mod Spanning
+pub mod Slotted
+pub mod Lifted
+pub mod WrongTakes
+pub mod Few
+pub mod Opened
+pub mod Rights
+pub mod Reopened

@@ -1,0 +1,201 @@
+-- What the zones' own calls leave, as calls by numbers say it.
+use Rattle.std.proofs.Common.{◌≡◌, ℕ, ℤ, pos, ◌+ℤ◌, ◌-ℤ◌, ◌<◌, ◌≤◌, Result, Ok, Err, IfOk, inl, inr, refl, sym, ◌∙◌, ap, subst, arith}
+use Rattle.std.proofs.lemmas.Bool.{cases_eq, true≢false}
+use Rattle.std.proofs.Math.IntN.{+ℤ-neg_ℤ_cancel}
+use Rattle.std.proofs.Math.Nat.{one-le-pow}
+use Rattle.std.specs.Prelude.{true, Option, Some, None, IfSome, option_map}
+use Rattle.std.specs.Option.{is_some}
+use Rattle.std.specs.Arc.{arc_value}
+use Rattle.core_frames.specs.declared.shared.allocator.Allocator.{Allocator}
+use Rattle.core_frames.specs.declared.shared.allocator.Core.{Core}
+use Rattle.core_frames.specs.Cores.{memory_of, lent_by}
+use Rattle.core_frames.specs.Uses.{HasTaken, HasSplit}
+use Rattle.frame_words.specs.declared.fault.TakeFault.{TakeFault}
+use Rattle.frame_words.specs.declared.fault.TakeFault.TheVariants.{BadOrder, NoBlock, Contended}
+use Rattle.frame_core.specs.Block.{block, IsBlock}
+use Rattle.frame_core.specs.Mover.{LiesInside}
+use Rattle.low_frames.specs.Outcomes.{HasNoBootFrame}
+use Rattle.frame_slots.specs.Slots.{one_more}
+use Rattle.frame_zones.proofs.Rounds.{some_zone, some_core}
+use Rattle.frame_zones.specs.Splits.{HasSplitIn, SplitsIn}
+use Rattle.frame_zones.specs.Uses.{OthersStay, GivesIn, HasTakenIn, TakesAmong}
+use Rattle.frame_zones.specs.Zones.{zone_count, zone_at, core_at, first_frame_in, AreCoresOf, IsOutIn}
+use Rattle.frame_zones.specs.declared.zones.Zones.{Zones}
+use Rattle.frame_zones.specs.declared.zones.ZoneCore.{ZoneCore}
+use Rattle.frame_zones.specs.declared.block.ZoneBlock.{ZoneBlock}
+use Rattle.zone_slots.specs.Blocks.{HasTakenBlock, HasSplitBlock}
+use Rattle.zone_slots.specs.Calls.{zones_of, laid_down, SharesOne, TakesFor}
+use Rattle.zone_slots.specs.Memories.{frame_numbers, number_for, AreNumbered}
+use Rattle.zone_slots.specs.Uses.{TakesInZone, GivesInZone, SplitsInZone, GivesByNumber, SplitsByNumber}
+use Rattle.zone_slots.specs.Uses.{LendAsMany, FindsNoSlot, IsReceiptOf, HasTakenFor, IsRefusedBlock, IsRefusedTake}
+use Rattle.zone_slots.specs.declared.core_state.CoreState.{CoreState}
+use Rattle.zone_slots.specs.declared.memory.Memory.{Memory}
+use Rattle.zone_slots.specs.declared.zone_receipt.ZoneReceipt.{ZoneReceipt}
+
+-- a block was taken in its zone
+pub taken_in : (zs : Zones) (n : ℕ) (b : ZoneBlock) (c d : ZoneCore) → HasTakenIn zs n b c d
+    → TakesInZone zs n c d b.zone b.block.frame
+taken_in zs n b c d taken = record {
+  here = λ a x.
+      let one : HasTaken (zone_at zs b.zone a) n b.block (core_at c b.zone x) (core_at d b.zone x) = taken.here a x in
+      record {
+        is_block = subst (λ k. IsBlock (memory_of (zone_at zs b.zone a)) (block b.block.frame k)) one.order one.is_out.is_block;
+        no_boot_frame = subst (λ k. HasNoBootFrame (memory_of (zone_at zs b.zone a)) (block b.block.frame k)) one.order one.no_boot_frame;
+        inside = subst (λ k. LiesInside (memory_of (zone_at zs b.zone a)) (block b.block.frame k)) one.order one.inside;
+        lent = one.lent;
+      };
+  others = taken.others;
+}
+
+-- the order of a block that was taken
+pub taken_order : (zs : Zones) (n : ℕ) (b : ZoneBlock) (c d : ZoneCore) → AreCoresOf zs c → HasTakenIn zs n b c d
+    → b.block.order ≡ n
+taken_order zs n b c d are taken =
+    (taken.here (some_zone zs b.zone taken.is_out.zone)
+    (some_core c b.zone (subst (λ k. b.zone < k) (sym are.parts.count) taken.is_out.zone))).order
+
+pub taken_for : (zs : Zones) (n : ℕ) (b : ZoneBlock) (r : ZoneReceipt) (c d : ZoneCore) → AreCoresOf zs c
+    → HasTakenIn zs n b c d → IsReceiptOf b r → HasTakenFor zs n c d r
+taken_for zs n b r c d are taken is = record {
+  zone = subst (λ k. k < zone_count zs) (sym is.zone) taken.is_out.zone;
+  order = is.order ∙ taken_order zs n b c d are taken;
+  taken = subst (λ k. TakesInZone zs n c d k r.receipt.frame) (sym is.zone)
+      (subst (λ k. TakesInZone zs n c d b.zone k) (sym is.frame) (taken_in zs n b c d taken));
+}
+
+pub taken_block : (zs : Zones) (n : ℕ) (b : ZoneBlock) (c d : ZoneCore) → AreCoresOf zs c
+    → HasTakenIn zs n b c d → HasTakenBlock zs n c d b
+taken_block zs n b c d are taken = record {
+  is_out = taken.is_out;
+  order = taken_order zs n b c d are taken;
+  taken = taken_in zs n b c d taken;
+}
+
+-- a block that is out was given in its zone
+pub given_in : (zs : Zones) (b : ZoneBlock) (c d : ZoneCore) → IsOutIn zs b → GivesIn zs b.zone c d
+    → GivesInZone zs b.block.order c d b.zone b.block.frame
+given_in zs b c d out gives = record {
+  here = λ a x. record { block = (out.is_out a).is_block; lent = (gives.here x).lent };
+  others = gives.others;
+}
+
+pub given_among : (zs : Zones) (frame order : ℕ) (b : ZoneBlock) (c d : ZoneCore) → IsOutIn zs b
+    → first_frame_in zs b ≡ frame → b.block.order ≡ order → GivesIn zs b.zone c d → GivesByNumber zs order frame c d
+given_among zs frame order b c d out frame-is order-is gives = record {
+  zone = b.zone;
+  local = b.block.frame;
+  within = out.zone;
+  number = sym frame-is;
+  holds = subst (λ k. GivesInZone zs k c d b.zone b.block.frame) order-is (given_in zs b c d out gives);
+}
+
+-- a block was split in its zone
+pub halved_in : (zs : Zones) (b first second : ZoneBlock) (c d : ZoneCore) → HasSplitIn zs b first second c d
+    → OthersStay zs b.zone c d → SplitsInZone zs b.block.order c d b.zone b.block.frame
+halved_in zs b first second c d split others = record {
+  here = λ a x.
+      let one : HasSplit (zone_at zs b.zone a) b.block first.block second.block (core_at c b.zone x) (core_at d b.zone x) =
+      split.here a x in
+      record {
+        halves = record {
+          some = one.are_halves.some;
+          lower = subst (IsBlock (memory_of (zone_at zs b.zone a))) one.are_halves.lower one.first_out.is_block;
+          upper = subst (IsBlock (memory_of (zone_at zs b.zone a))) one.are_halves.upper one.second_out.is_block;
+        };
+        lent = one.lent;
+      };
+  others = others;
+}
+
+pub split_among : (zs : Zones) (frame order : ℕ) (b first second : ZoneBlock) (c d : ZoneCore) → IsOutIn zs b
+    → first_frame_in zs b ≡ frame → b.block.order ≡ order → HasSplitIn zs b first second c d
+    → OthersStay zs b.zone c d → SplitsByNumber zs order frame c d
+split_among zs frame order b first second c d out frame-is order-is split others = record {
+  zone = b.zone;
+  local = b.block.frame;
+  within = out.zone;
+  number = sym frame-is;
+  holds = subst (λ k. SplitsInZone zs k c d b.zone b.block.frame) order-is (halved_in zs b first second c d split others);
+}
+
+pub split_block : (zs : Zones) (b first second : ZoneBlock) (c d : ZoneCore) → AreCoresOf zs c → IsOutIn zs b
+    → HasSplitIn zs b first second c d → OthersStay zs b.zone c d → HasSplitBlock zs b first second c d
+split_block zs b first second c d are out split others = record {
+  first_out = split.first_out;
+  second_out = split.second_out;
+  zones = (split.first_zone, split.second_zone);
+  are_halves = (split.here (some_zone zs b.zone out.zone)
+      (some_core c b.zone (subst (λ k. b.zone < k) (sym are.parts.count) out.zone))).are_halves;
+  split = halved_in zs b first second c d split others;
+}
+
+-- one more and then one less is as many
+back_again : (n m k : ℤ) → m ≡ n +ℤ pos 1 → k ≡ m -ℤ pos 1 → k ≡ n
+back_again n m k up down = down ∙ ap (λ i. i -ℤ pos 1) up ∙ +ℤ-neg_ℤ_cancel n (pos 1)
+
+-- what was taken and given again is lent no more
+pub lent_again : (zs : Zones) (n : ℕ) (b : ZoneBlock) (c d e : ZoneCore) → HasTakenIn zs n b c d
+    → GivesIn zs b.zone d e → LendAsMany zs c e
+lent_again zs n b c d e taken gives z a x within =
+    elim (cases_eq z b.zone) as (λ _. lent_by (core_at e z x) ≡ lent_by (core_at c z x)) [
+      | inl same ↦ subst (λ k. lent_by (core_at e k x) ≡ lent_by (core_at c k x)) (sym same)
+          (back_again (lent_by (core_at c b.zone x)) (lent_by (core_at d b.zone x)) (lent_by (core_at e b.zone x))
+          (taken.here a x).lent (gives.here x).lent)
+      | inr other ↦ ap lent_by (gives.others z x within other) ∙ taken.others z x within other
+    ]
+
+-- a block that was taken found no slot
+pub found_no_slot : (zs : Zones) (n : ℕ) (b : ZoneBlock) (c d e : ZoneCore) (count later : ℕ) → AreCoresOf zs c
+    → HasTakenIn zs n b c d → GivesIn zs b.zone d e → later ≡ one_more count → FindsNoSlot zs n c e count later
+found_no_slot zs n b c d e count later are taken gives counted = record {
+  order = subst (λ k. k ≤ 9) (taken_order zs n b c d are taken)
+      (taken.is_out.is_out (some_zone zs b.zone taken.is_out.zone)).is_block.order;
+  counted = counted;
+  lent = lent_again zs n b c d e taken gives;
+}
+
+-- the number of a block that was taken is one of all numbers
+pub number_fits : (zs : Zones) (n : ℕ) (c d : ZoneCore) (r : ZoneReceipt) → AreNumbered zs → AreCoresOf zs c
+    → HasTakenFor zs n c d r → number_for zs r < frame_numbers
+number_fits zs n c d r numbered are taken =
+    let a : Allocator = some_zone zs r.zone taken.zone in
+    let x : Core = some_core c r.zone (subst (λ k. r.zone < k) (sym are.parts.count) taken.zone) in
+    omega (arith, numbered r.zone a taken.zone, (taken.taken.here a x).is_block.inside, one-le-pow n 2 (omega arith))
+
+-- the block was laid down, and is the last one that was
+pub takes_for : (s t : CoreState) (r : ZoneReceipt) (frame n : ℕ) → SharesOne s t → t.last ≡ Some r
+    → frame ≡ number_for (zones_of s) r → HasTakenFor (zones_of s) n s.core t.core r → TakesFor n frame s t
+takes_for s t r frame n shares last number taken = record {
+  taken = record { zone = r.zone; local = r.receipt.frame; within = taken.zone; number = number; holds = taken.taken };
+  laid = ap (option_map (laid_down (zones_of t))) last
+      ∙ ap (λ (m : Memory). Some (block (number_for m.zones r) r.receipt.order)) (ap arc_value shares)
+      ∙ ap (λ k. Some (block k r.receipt.order)) (sym number)
+      ∙ ap (λ k. Some (block frame k)) taken.order;
+}
+
+-- what a take of all zones answers
+pub taken_ok : (zs : Zones) (n : ℕ) (answer : Result ZoneBlock TakeFault) (c d : ZoneCore) → AreCoresOf zs c
+    → TakesAmong zs n answer c d → IfOk answer (HasTakenBlock zs n c d)
+taken_ok zs n (Ok b) c d are takes = taken_block zs n b c d are takes.ok
+taken_ok zs n (Err e) c d are takes = tt
+
+-- what a split of all zones answers
+pub split_ok : (zs : Zones) (b : ZoneBlock) (answer : Result (ZoneBlock × ZoneBlock) ZoneBlock) (c d : ZoneCore)
+    → AreCoresOf zs c → IsOutIn zs b → SplitsIn zs b answer c d → IfOk answer (λ r. HasSplitBlock zs b r.0 r.1 c d)
+split_ok zs b (Ok r) c d are out splits = split_block zs b r.0 r.1 c d are out splits.ok splits.others
+split_ok zs b (Err e) c d are out splits = tt
+
+-- why a take of all zones was refused, where nothing is counted
+pub refused_take : (zs : Zones) (n : ℕ) (c d : ZoneCore) (count : ℕ) (fault : TakeFault) → IsRefusedBlock zs n c d fault
+    → IsRefusedTake zs n c d count count fault
+refused_take zs n c d count BadOrder why = (why.0.0, why.0.1, refl)
+refused_take zs n c d count NoBlock why = (
+  λ z a x within. record { looked = why.0.0 z a x within; unlost = why.0.1 z a x within; lent = why.1 z a x within },
+  refl,
+)
+refused_take zs n c d count Contended why = inl (record { looked = why.0.0; lost = why.0.1; lent = why.1 }, refl)
+
+-- where the block was laid down, the core is as it was
+pub rested : (answer : Option ZoneReceipt) (c d : ZoneCore) → true ≡ is_some answer → IfSome answer (λ _. d ≡ c) → d ≡ c
+rested (Some r) c d is same = same
+rested None c d is same = absurd (true≢false is)

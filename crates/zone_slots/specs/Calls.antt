@@ -1,0 +1,89 @@
+-- What takes, gives and splits by numbers leave.
+use Rattle.std.specs.Prelude.{◌≡◌, ◌⊎◌, ℕ, Option, Some, option_map}
+use Rattle.std.specs.Arc.{arc_value}
+use Rattle.frame_words.specs.declared.fault.TakeFault.{TakeFault}
+use Rattle.frame_core.specs.Block.{block}
+use Rattle.frame_model.specs.declared.block.FrameBlock.{FrameBlock}
+use Rattle.frame_slots.specs.Slots.{one_more}
+use Rattle.frame_zones.specs.FreeCounts.{frames_among}
+use Rattle.frame_zones.specs.declared.zones.Zones.{Zones}
+use Rattle.zone_slots.specs.Memories.{number_for}
+use Rattle.zone_slots.specs.Uses.{TakesByNumber, GivesByNumber, SplitsByNumber, LendAsMany, FindNothing, LoseSome, FindsNoSlot, IsRefusedBlock, IsRefusedTake}
+use Rattle.zone_slots.specs.declared.core_state.CoreState.{CoreState}
+use Rattle.zone_slots.specs.declared.zone_receipt.ZoneReceipt.{ZoneReceipt}
+
+-- the zones that the core belongs to
+abbrev pub zones_of : CoreState → Zones
+zones_of s = (arc_value s.shared).zones
+
+-- both share one memory and its slots
+abbrev pub SharesOne : CoreState → CoreState → Type 0
+SharesOne s t = t.shared ≡ s.shared
+
+-- the frames of the core's memory, of all zones
+abbrev pub frames_by : CoreState → ℕ
+frames_by s = frames_among (zones_of s)
+
+-- the block that a receipt says was laid down, by its number among the frames of all zones
+abbrev pub laid_down : Zones → ZoneReceipt → FrameBlock
+laid_down zs r = block (number_for zs r) r.receipt.order
+
+-- the block that the last take through the core laid down at its slot
+abbrev pub last_laid : CoreState → Option FrameBlock
+last_laid s = option_map (laid_down (zones_of s)) s.last
+
+-- a block of the order was taken through the core, and this very block was laid down at its slot
+pub record TakesFor (order frame : ℕ) (s t : CoreState) : Type 0 where
+  pub taken : TakesByNumber (zones_of s) order frame s.core t.core
+  pub laid : last_laid t ≡ Some (block frame order)
+
+-- the block was given through the core
+abbrev pub GivesFor : ℕ → ℕ → CoreState → CoreState → Type 0
+GivesFor order frame s t = GivesByNumber (zones_of s) order frame s.core t.core
+
+-- the block was split through the core
+abbrev pub SplitsFor : ℕ → ℕ → CoreState → CoreState → Type 0
+SplitsFor order frame s t = SplitsByNumber (zones_of s) order frame s.core t.core
+
+-- the core found no block of the order in any zone
+abbrev pub FindsNoneFor : ℕ → CoreState → CoreState → Type 0
+FindsNoneFor order s t = FindNothing (zones_of s) order s.core t.core
+
+-- the core is as it was in each zone
+abbrev pub KeepsCore : CoreState → CoreState → Type 0
+KeepsCore s t = t.core ≡ s.core
+
+-- the core lends as many blocks of each zone as before
+abbrev pub LendsNoMore : CoreState → CoreState → Type 0
+LendsNoMore s t = LendAsMany (zones_of s) s.core t.core
+
+-- the core found no block of the order in any zone, and an exchange was lost to other cores
+abbrev pub LosesFor : ℕ → CoreState → CoreState → Type 0
+LosesFor order s t = LoseSome (zones_of s) order s.core t.core
+
+-- the core has counted as many blocks that found no slot as before
+abbrev pub CountsNone : CoreState → CoreState → Type 0
+CountsNone s t = t.slotless ≡ s.slotless
+
+-- the core remembers the block that its last take laid down
+abbrev pub RemembersLast : CoreState → CoreState → Type 0
+RemembersLast s t = last_laid t ≡ last_laid s
+
+-- the core has counted one block more that found no slot
+abbrev pub CountsOne : CoreState → CoreState → Type 0
+CountsOne s t = t.slotless ≡ one_more s.slotless
+
+-- the core found no block of the order in any zone, and an exchange was lost to other cores; or the
+-- block that it took found no slot, which alone is counted
+abbrev pub IsContendedFor : ℕ → CoreState → CoreState → Type 0
+IsContendedFor order s t =
+    (LosesFor order s t × CountsNone s t)
+    ⊎ FindsNoSlot (zones_of s) order s.core t.core s.slotless t.slotless
+
+-- why a take of the order through the core was refused
+abbrev pub RefusesTake : ℕ → CoreState → CoreState → TakeFault → Type 0
+RefusesTake n s t fault = IsRefusedTake (zones_of s) n s.core t.core s.slotless t.slotless fault
+
+-- why a take of a block of the order through the core was refused, which needs no slot
+abbrev pub RefusesBlock : ℕ → CoreState → CoreState → TakeFault → Type 0
+RefusesBlock n s t fault = IsRefusedBlock (zones_of s) n s.core t.core fault

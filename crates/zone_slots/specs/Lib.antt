@@ -1,0 +1,14 @@
+pub mod Layouts
+pub mod Cuts
+pub mod ZoneClaims
+pub mod ImageParts
+pub mod ZoneSpans
+pub mod Memories
+pub mod Uses
+pub mod Calls
+pub mod Refusals
+pub mod Blocks
+pub mod FreeCounts
+pub mod WrongTakes
+pub mod Openings
+pub mod Reopenings

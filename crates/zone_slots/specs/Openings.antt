@@ -1,0 +1,91 @@
+-- What the cores of an opening of zones share.
+use Rattle.std.specs.Prelude.{◌≡◌, ◌⊎◌, ℕ, ◌<◌, ◌≤◌, Bool, true, false, List, length, map, slice_index_or, vec_capacity}
+use Rattle.std.specs.Arc.{arc_value}
+use Rattle.std.specs.List.{All}
+use Rattle.frame_words.specs.declared.fault.Fault.{Fault}
+use Rattle.frame_words.specs.declared.fault.Fault.TheVariants.{BadRange, NoMemory}
+use Rattle.core_frames.specs.declared.shared.allocator.Allocator.{Allocator}
+use Rattle.core_frames.specs.Cores.{memory_of}
+use Rattle.frame_slots.specs.Openings.{IsUnused}
+use Rattle.frame_slots.specs.SlotLists.{HasRoomFor, IsListOf}
+use Rattle.frame_slots.specs.Slots.{IsUsedAsBefore}
+use Rattle.frame_slots.specs.declared.slots.SlotList.{SlotList}
+use Rattle.frame_zones.specs.Openings.{AreAt}
+use Rattle.frame_zones.specs.Spans.{Place, place_of, end_of, MayBeZones, HoldsLawful}
+use Rattle.frame_zones.specs.Zones.{zone_count, zone_at, InEach, AreCoresOf}
+use Rattle.frame_zones.specs.declared.spans.Span.{Span}
+use Rattle.frame_zones.specs.declared.zones.Zones.{Zones}
+use Rattle.frame_zones.specs.declared.zones.ZoneCore.{ZoneCore}
+use Rattle.zone_slots.specs.Memories.{frame_numbers}
+use Rattle.zone_slots.specs.declared.core_state.CoreState.{CoreState}
+use Rattle.zone_slots.specs.declared.memory.Memory.{Memory}
+
+-- the zones lie at these places, each with so many cores
+pub record LieAt (as_many : ℕ) (places : List Place) (zs : Zones) : Type 0 where
+  pub lawful : MayBeZones as_many places
+  pub count : zone_count zs ≡ length places
+  pub same_cores : zs.cores ≡ as_many
+  pub are_at : AreAt places zs.firsts.items zs.zones.items
+
+-- the core has its zones and their slots from here
+abbrev pub Shares : Memory → CoreState → Type 0
+Shares m s = arc_value s.shared ≡ m
+
+-- there is room for a slot of each block of so many frames, or for no slot
+abbrev pub HasSlots : Bool → ℕ → SlotList → Type 0
+HasSlots true frames list = HasRoomFor frames list
+HasSlots false frames list = vec_capacity list.list ≡ 0
+
+-- the list is one of the zone's slots, with room for all or for none
+pub record IsListIn (has_slots : Bool) (zs : Zones) (z : ℕ) (list : SlotList) : Type 0 where
+  pub is_list : (a : Allocator) → IsListOf (zone_at zs z a) list
+  pub room : (a : Allocator) → HasSlots has_slots (memory_of (zone_at zs z a)).frames list
+
+-- there is such a list for each zone
+pub record AreListsIn (has_slots : Bool) (zs : Zones) (lists : List SlotList) : Type 0 where
+  pub count : length lists ≡ zone_count zs
+  pub each : (z : ℕ) (list : SlotList) → z < zone_count zs
+      → IsListIn has_slots zs z (slice_index_or lists z list)
+
+-- the core lends and keeps what it did before, in each zone
+abbrev pub IsUsedAlike : Zones → ZoneCore → ZoneCore → Type 0
+IsUsedAlike zs c d = InEach zs (λ _ x y. IsUsedAsBefore x y) c d
+
+-- the core lends no block of any zone, and keeps none
+abbrev pub IsUnusedCore : ZoneCore → Type 0
+IsUnusedCore c = All IsUnused c.cores.items
+
+-- the same of a core with what all share
+abbrev pub IsUnusedState : CoreState → Type 0
+IsUnusedState s = IsUnusedCore s.core
+
+-- the span ends where frames have numbers
+abbrev pub HasNumbers : Span → Type 0
+HasNumbers s = end_of (place_of s) ≤ frame_numbers
+
+-- zones may be opened like this: they may lie so, with a number for each frame, and may hold back
+-- what each of them is to
+pub record MayBeOpened (as_many : ℕ) (spans : List Span) : Type 0 where
+  pub lie : MayBeZones as_many (map place_of spans)
+  pub numbers : All HasNumbers spans
+  pub lawful : All HoldsLawful spans
+
+-- why an opening was refused: zones may not be opened like this; or there is not enough memory
+abbrev pub IsNoOpening : ℕ → List Span → Fault → Type 0
+IsNoOpening cores spans fault =
+    ((fault ≡ BadRange) × ¬ MayBeOpened cores spans)
+    ⊎ ((fault ≡ NoMemory) × MayBeZones cores (map place_of spans) × All HasNumbers spans)
+
+-- the cores belong to these zones, and none was used yet
+pub record AreUnusedIn (zs : Zones) (cs : List ZoneCore) : Type 0 where
+  pub are_cores : All (AreCoresOf zs) cs
+  pub unused : All IsUnusedCore cs
+
+-- these are all cores of one memory whose zones lie at these places, with slots or without, and none
+-- was used yet
+pub record AreAllCoresOf (has_slots : Bool) (as_many : ℕ) (places : List Place) (states : List CoreState)
+    : Type 0 where
+  pub count : length states ≡ as_many
+  pub one : (m : Memory) × LieAt as_many places m.zones
+      × AreListsIn has_slots m.zones m.slots.items × All (Shares m) states
+  pub unused : All IsUnusedState states

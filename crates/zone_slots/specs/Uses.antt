@@ -1,0 +1,100 @@
+-- What takes, gives and splits of blocks of zones leave.
+use Rattle.std.specs.Prelude.{◌≡◌, ◌⊎◌, ℕ, ◌<◌, ◌≤◌}
+use Rattle.frame_words.specs.declared.fault.TakeFault.{TakeFault}
+use Rattle.frame_words.specs.declared.fault.TakeFault.TheVariants.{BadOrder, NoBlock, Contended}
+use Rattle.core_frames.specs.declared.shared.allocator.Allocator.{Allocator}
+use Rattle.core_frames.specs.declared.shared.allocator.Core.{Core}
+use Rattle.core_frames.specs.Cores.{lent_by}
+use Rattle.core_frames.specs.Uses.{HasMovedForEach}
+use Rattle.frame_slots.specs.Slots.{TakesAt, GivesAt, SplitsAt, FindsNothing, one_more}
+use Rattle.frame_zones.specs.Uses.{OthersStay, LendsAsMany, LosesIn, AreRefusedFor}
+use Rattle.frame_zones.specs.Zones.{zone_count, zone_at, core_at, InEach}
+use Rattle.frame_zones.specs.declared.zones.Zones.{Zones}
+use Rattle.frame_zones.specs.declared.zones.ZoneCore.{ZoneCore}
+use Rattle.frame_zones.specs.declared.block.ZoneBlock.{ZoneBlock}
+use Rattle.zone_slots.specs.Memories.{IsInZone}
+use Rattle.zone_slots.specs.declared.zone_receipt.ZoneReceipt.{ZoneReceipt}
+
+-- every other zone lends as many blocks as before
+abbrev pub OthersLendAsMany : Zones → ℕ → ZoneCore → ZoneCore → Type 0
+OthersLendAsMany zs z c d = (k : ℕ) (x : Core) → k < zone_count zs → ¬ (k ≡ z)
+    → lent_by (core_at d k x) ≡ lent_by (core_at c k x)
+
+-- a block of the order was taken in the zone, from this frame of it on, and every other zone lends as
+-- many as before
+pub record TakesInZone (zs : Zones) (order : ℕ) (c d : ZoneCore) (z local : ℕ) : Type 0 where
+  pub here : (a : Allocator) (x : Core)
+      → TakesAt (zone_at zs z a) order local (core_at c z x) (core_at d z x)
+  pub others : OthersLendAsMany zs z c d
+
+-- the receipt is of this block
+pub record IsReceiptOf (b : ZoneBlock) (r : ZoneReceipt) : Type 0 where
+  pub zone : r.zone ≡ b.zone
+  pub frame : r.receipt.frame ≡ b.block.frame
+  pub order : r.receipt.order ≡ b.block.order
+
+-- a block of the order was taken, and was laid down for the receipt
+pub record HasTakenFor (zs : Zones) (n : ℕ) (c d : ZoneCore) (r : ZoneReceipt) : Type 0 where
+  pub zone : r.zone < zone_count zs
+  pub order : r.receipt.order ≡ n
+  pub taken : TakesInZone zs n c d r.zone r.receipt.frame
+
+-- a block of the order was given in the zone, and in every other all is as before
+pub record GivesInZone (zs : Zones) (order : ℕ) (c d : ZoneCore) (z local : ℕ) : Type 0 where
+  pub here : (a : Allocator) (x : Core)
+      → GivesAt (zone_at zs z a) order local (core_at c z x) (core_at d z x)
+  pub others : OthersStay zs z c d
+
+-- a block of the order was split in the zone, and in every other all is as before
+pub record SplitsInZone (zs : Zones) (order : ℕ) (c d : ZoneCore) (z local : ℕ) : Type 0 where
+  pub here : (a : Allocator) (x : Core)
+      → SplitsAt (zone_at zs z a) order local (core_at c z x) (core_at d z x)
+  pub others : OthersStay zs z c d
+
+-- a block was taken, which begins at the frame of this number
+abbrev pub TakesByNumber : Zones → (order frame : ℕ) → ZoneCore → ZoneCore → Type 0
+TakesByNumber zs order frame c d = IsInZone zs frame (TakesInZone zs order c d)
+
+-- the block that begins at the frame of this number was given
+abbrev pub GivesByNumber : Zones → (order frame : ℕ) → ZoneCore → ZoneCore → Type 0
+GivesByNumber zs order frame c d = IsInZone zs frame (GivesInZone zs order c d)
+
+-- the block that begins at the frame of this number was split
+abbrev pub SplitsByNumber : Zones → (order frame : ℕ) → ZoneCore → ZoneCore → Type 0
+SplitsByNumber zs order frame c d = IsInZone zs frame (SplitsInZone zs order c d)
+
+-- each zone lends as many blocks as before
+abbrev pub LendAsMany : Zones → ZoneCore → ZoneCore → Type 0
+LendAsMany zs c d = InEach zs LendsAsMany c d
+
+-- in each zone a move was made for each tree, for an order of blocks, no exchange was lost, and no
+-- block more is lent
+abbrev pub FindNothing : Zones → ℕ → ZoneCore → ZoneCore → Type 0
+FindNothing zs n c d = InEach zs (λ a. FindsNothing a n) c d
+
+-- in each zone a move was made for each tree, for an order of blocks, and no block more is lent; in
+-- one of them an exchange was lost to other cores
+pub record LoseSome (zs : Zones) (n : ℕ) (c d : ZoneCore) : Type 0 where
+  pub looked : InEach zs (λ a. HasMovedForEach a n) c d
+  pub lost : (z : ℕ) × (z < zone_count zs) × LosesIn c d z
+  pub lent : LendAsMany zs c d
+
+-- a block of an order that there is found no slot, and is counted; no zone lends a block more
+pub record FindsNoSlot (zs : Zones) (n : ℕ) (c d : ZoneCore) (count later : ℕ) : Type 0 where
+  pub order : n ≤ 9
+  pub counted : later ≡ one_more count
+  pub lent : LendAsMany zs c d
+
+-- why a take of the order was refused, which needs no slot: as one of all zones is, and no zone lends
+-- a block more
+abbrev pub IsRefusedBlock : Zones → ℕ → ZoneCore → ZoneCore → TakeFault → Type 0
+IsRefusedBlock zs n c d fault = AreRefusedFor zs n c d fault × LendAsMany zs c d
+
+-- why a take of the order was refused: there are no blocks of that order; or a move was made for each
+-- tree of each zone, and no exchange was lost; or one was; or the block that was taken found no slot,
+-- which alone is counted
+abbrev pub IsRefusedTake : Zones → ℕ → ZoneCore → ZoneCore → (count later : ℕ) → TakeFault → Type 0
+IsRefusedTake zs n c d count later BadOrder = (9 < n) × (d ≡ c) × (later ≡ count)
+IsRefusedTake zs n c d count later NoBlock = FindNothing zs n c d × (later ≡ count)
+IsRefusedTake zs n c d count later Contended =
+    (LoseSome zs n c d × (later ≡ count)) ⊎ FindsNoSlot zs n c d count later

@@ -1,0 +1,141 @@
+//! Takes, gives and splits of blocks whose rights the caller keeps, by no slot.
+
+ghost use Rattle.std.specs.Prelude.{◌≡◌, IfOk, IfErr};
+ghost use Rattle.frame_zones.specs.Zones.{AreCoresOf, IsOutIn, first_frame_in};
+ghost use Rattle.zone_slots.specs.Blocks.{HasTakenBlock, HasSplitBlock, TakesBlockFor, SplitsBlockFor, IsOutFor, frame_for, IsRightFor, IsRightIn};
+ghost use Rattle.zone_slots.specs.Calls.{SharesOne, GivesFor, CountsNone, RemembersLast, KeepsCore, RefusesBlock};
+ghost use Rattle.zone_slots.specs.Uses.{GivesInZone, IsRefusedBlock};
+
+use crate::core_state::CoreState;
+use crate::memory::Memory;
+use atomic_table::Seat;
+use frame_core::{Eye, HeldBlock};
+use frame_table::Block;
+use frame_words::TakeFault;
+use frame_zones::{ZoneBlock, ZoneCore};
+
+impl CoreState {
+    /// Takes a block of `2^order` frames: of the core's home zone, else of the next one that has such a
+    /// block. No memory is needed, and nobody waits.
+    pub fn take_block(&mut self, order: u8) -> Result<ZoneBlock, TakeFault>
+        ensures shared { SharesOne self.old self.new }
+        ensures taken { IfOk result (TakesBlockFor order self.old self.new) }
+        ensures counted { CountsNone self.old self.new }
+        ensures last { RemembersLast self.old self.new }
+        ensures refused { IfErr result (RefusesBlock order self.old self.new) }
+    {
+        self.shared.take_from(&mut self.core, order)
+    }
+
+    /// Gives the block back, whichever core took it. It always succeeds. No memory is needed, and
+    /// nobody waits.
+    pub fn give_block(&mut self, held: ZoneBlock)
+        requires { IsOutFor self.old held }
+        ensures shared { SharesOne self.old self.new }
+        ensures given { GivesFor held.block.order (frame_for self.old held) self.old self.new }
+        ensures counted { CountsNone self.old self.new }
+        ensures last { RemembersLast self.old self.new }
+    {
+        self.shared.give_to(&mut self.core, held);
+    }
+
+    /// The halves of the block, the lower first. A block of order 0 has none, and is handed back.
+    pub fn split_block(&mut self, held: ZoneBlock) -> Result<(ZoneBlock, ZoneBlock), ZoneBlock>
+        requires { IsOutFor self.old held }
+        ensures shared { SharesOne self.old self.new }
+        ensures split { IfOk result (λ r. SplitsBlockFor held r.0 r.1 self.old self.new) }
+        ensures counted { CountsNone self.old self.new }
+        ensures last { RemembersLast self.old self.new }
+        ensures whole { IfErr result (λ same. (same ≡ held) × (held.block.order ≡ 0)) }
+        ensures same { IfErr result (λ _. KeepsCore self.old self.new) }
+    {
+        self.shared.split_in(&mut self.core, held)
+    }
+
+    /// The number of the block's first frame among those of all zones.
+    pub fn frame_of(&self, held: &ZoneBlock) -> u32
+        requires { IsOutFor self.now held.now }
+        ensures { result ≡ frame_for self.now held.now }
+    {
+        self.shared.frame_at(held)
+    }
+
+    /// The block of the order that begins at the frame of this number, whose right this seat is: its
+    /// zone is looked up.
+    pub fn block_of(&self, frame: u32, order: u8, seat: Seat<(), Eye>) -> ZoneBlock
+        requires { IsRightFor self.now frame order seat.table_id seat.me }
+        ensures out { IsOutFor self.now result }
+        ensures frame { frame_for self.now result ≡ frame }
+        ensures order { result.block.order ≡ order }
+        ensures seat { result.block.seat ≡ seat }
+    {
+        self.shared.block_at(frame, order, seat)
+    }
+}
+
+impl Memory {
+    fn take_from(&self, core: &mut ZoneCore, order: u8) -> Result<ZoneBlock, TakeFault>
+        requires { AreCoresOf self.now.zones core.old }
+        ensures core { AreCoresOf self.now.zones core.new }
+        ensures taken { IfOk result (HasTakenBlock self.now.zones order core.old core.new) }
+        ensures refused { IfErr result (IsRefusedBlock self.now.zones order core.old core.new) }
+    {
+        self.zones.take(core, order)
+    }
+
+    fn give_to(&self, core: &mut ZoneCore, held: ZoneBlock)
+        requires core { AreCoresOf self.now.zones core.old }
+        requires out { IsOutIn self.now.zones held }
+        ensures core { AreCoresOf self.now.zones core.new }
+        ensures given { GivesInZone self.now.zones held.block.order core.old core.new
+            held.zone held.block.frame }
+    {
+        self.zones.give(core, held);
+    }
+
+    fn split_in(
+        &self,
+        core: &mut ZoneCore,
+        held: ZoneBlock,
+    ) -> Result<(ZoneBlock, ZoneBlock), ZoneBlock>
+        requires core { AreCoresOf self.now.zones core.old }
+        requires out { IsOutIn self.now.zones held }
+        ensures core { AreCoresOf self.now.zones core.new }
+        ensures split { IfOk result (λ r.
+            HasSplitBlock self.now.zones held r.0 r.1 core.old core.new) }
+        ensures whole { IfErr result (λ same. (same ≡ held) × (held.block.order ≡ 0)) }
+        ensures same { IfErr result (λ _. core.new ≡ core.old) }
+    {
+        if held.order() == 0 {
+            return Err(held);
+        }
+        self.zones.split(core, held)
+    }
+
+    #[inline]
+    fn frame_at(&self, held: &ZoneBlock) -> u32
+        requires { IsOutIn self.now.zones held.now }
+        ensures { result ≡ first_frame_in self.now.zones held.now }
+    {
+        self.number_at(held.zone, held.block.frame())
+    }
+
+    #[inline]
+    fn block_at(&self, frame: u32, order: u8, seat: Seat<(), Eye>) -> ZoneBlock
+        requires { IsRightIn self.now.zones frame order seat.table_id seat.me }
+        ensures out { IsOutIn self.now.zones result }
+        ensures frame { first_frame_in self.now.zones result ≡ frame }
+        ensures order { result.block.order ≡ order }
+        ensures seat { result.block.seat ≡ seat }
+    {
+        let Some(zone) = self.zones.last_from(u64::from(frame)) else {
+            unreachable!()
+        };
+        let local = frame - self.zones.firsts[zone] as u32;
+        let block = Block::of(local, order, seat);
+        ZoneBlock {
+            zone: zone as u32,
+            block,
+        }
+    }
+}

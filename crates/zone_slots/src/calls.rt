@@ -1,0 +1,63 @@
+//! What a core is asked for by frame and order.
+
+ghost use Rattle.std.specs.Prelude.{◌≡◌, ◌≢◌, IfOk, IfErr};
+ghost use Rattle.zone_slots.specs.Calls.{frames_by, SharesOne, TakesFor, GivesFor, SplitsFor, CountsNone, RemembersLast, KeepsCore, RefusesTake};
+ghost use Rattle.zone_slots.specs.Refusals.{RefusesSplit};
+
+use crate::core_state::CoreState;
+use frame_slots::Refusal;
+use frame_words::TakeFault;
+
+impl CoreState {
+    /// The frames of the memory: those of all zones together.
+    pub fn frames(&self) -> u32
+        ensures { result ≡ frames_by self.now }
+    {
+        self.shared.frames
+    }
+
+    /// Takes a block of `2^order` frames and answers its first, by its number over all zones: of the
+    /// core's home zone, else of the next one that has such a block. Its right rests at its slot until
+    /// any core gives it. No memory is needed, and nobody waits.
+    pub fn take(&mut self, order: u8) -> Result<u32, TakeFault>
+        ensures shared { SharesOne self.old self.new }
+        ensures taken { IfOk result (λ frame. TakesFor order frame self.old self.new) }
+        ensures counted { IfOk result (λ _. CountsNone self.old self.new) }
+        ensures refused { IfErr result (RefusesTake order self.old self.new) }
+        ensures last { IfErr result (λ _. RemembersLast self.old self.new) }
+    {
+        let receipt = self
+            .shared
+            .take_at_slot(&mut self.core, &mut self.slotless, order)?;
+        let frame = self.shared.number_of(&receipt);
+        self.last = Some(receipt);
+        Ok(frame)
+    }
+
+    /// Gives exactly this block back, where it is held, whichever core took it. No memory is needed,
+    /// and nobody waits.
+    pub fn give(&mut self, frame: u32, order: u8) -> Result<(), Refusal>
+        ensures shared { SharesOne self.old self.new }
+        ensures given { IfOk result (λ _. GivesFor order frame self.old self.new) }
+        ensures same { IfErr result (λ _. KeepsCore self.old self.new) }
+        ensures counted { CountsNone self.old self.new }
+        ensures refused { IfErr result (λ e. e ≡ Refusal.NotHeld) }
+        ensures last { RemembersLast self.old self.new }
+    {
+        self.shared.give_from_slot(&mut self.core, frame, order)
+    }
+
+    /// Splits exactly this block into its halves, where it is held, whichever core took it; any core
+    /// gives each of them then. No memory is needed, and nobody waits.
+    pub fn split(&mut self, frame: u32, order: u8) -> Result<(), Refusal>
+        ensures shared { SharesOne self.old self.new }
+        ensures split { IfOk result (λ _. SplitsFor order frame self.old self.new) }
+        ensures same { IfErr result (λ e. e ≢ Refusal.NoSlot → KeepsCore self.old self.new) }
+        ensures counted { IfOk result (λ _. CountsNone self.old self.new) }
+        ensures refused { IfErr result (RefusesSplit order self.old self.new) }
+        ensures last { RemembersLast self.old self.new }
+    {
+        self.shared
+            .split_at_slot(&mut self.core, &mut self.slotless, frame, order)
+    }
+}

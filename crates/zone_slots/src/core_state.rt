@@ -1,0 +1,24 @@
+//! A core of all zones of a memory.
+
+ghost use Rattle.std.specs.Arc.{arc_value};
+ghost use Rattle.frame_zones.specs.Zones.{AreCoresOf};
+
+use crate::memory::Memory;
+use crate::zone_receipt::ZoneReceipt;
+use frame_zones::ZoneCore;
+use std::alloc::Global;
+use std::sync::Arc;
+
+/// A core: what all share, and its own part in each zone.
+#[derive(Drop)]
+pub struct CoreState {
+    pub(crate) shared: Arc<Memory, Global>,
+    pub(crate) core: ZoneCore,
+    // How often a block that was taken or split found no slot; it wraps.
+    pub(crate) slotless: u64,
+    // Of the block that its last take laid down.
+    pub(crate) last: Option<ZoneReceipt>,
+    // No two cores share a cache line.
+    pub(crate) apart: [u64; 15],
+    pub ghost is_core: { AreCoresOf (arc_value shared).zones core },
+}

@@ -1,0 +1,35 @@
+//! Blocks of all zones of a memory that any core gives back by frame and order: each rests at a slot
+//! of its own while only its numbers are out.
+#![tactic(auto)]
+
+mod bare_openings;
+mod blocks;
+mod by_numbers;
+mod calls;
+mod core_state;
+mod cuts;
+mod free_counts;
+mod image_parts;
+mod laws;
+mod layouts;
+mod memory;
+mod openings;
+mod reopenings;
+mod stops;
+mod zone_claims;
+mod zone_receipt;
+mod zone_spans;
+
+pub use bare_openings::open_bare_cores;
+pub use core_state::CoreState;
+pub use cuts::{may_be_held_back, pieces_in};
+pub use image_parts::{image_numbers, image_starts};
+pub use laws::wrong_takes_are_not_told;
+pub use layouts::{MOST_ZONES, even_zones, may_be_laid_out, zone_of};
+pub use memory::Memory;
+pub use openings::open_cores;
+pub use reopenings::reopen_cores;
+pub use stops::StopFault;
+pub use zone_claims::{are_in_zones, blocks_in};
+pub use zone_receipt::ZoneReceipt;
+pub use zone_spans::spans_of;

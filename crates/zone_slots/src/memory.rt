@@ -1,0 +1,122 @@
+//! What all cores share: the zones of a memory, and the slots of their blocks.
+
+ghost use Rattle.std.specs.Prelude.{◌≡◌, ◌+◌, ◌<◌, IfOk, IfErr, IfSome};
+ghost use Rattle.frame_zones.specs.FreeCounts.{frames_among};
+ghost use Rattle.frame_zones.specs.Zones.{zone_count, first_frame_of, first_frame_in, IsOutIn};
+ghost use Rattle.zone_slots.specs.Memories.{frame_numbers, number_for, AreSlotted, AreNumbered, IsOutOfZone};
+ghost use Rattle.zone_slots.specs.Uses.{IsReceiptOf};
+
+use crate::zone_receipt::ZoneReceipt;
+use frame_core::HeldBlock;
+use frame_slots::{Receipt, SlotList};
+use frame_table::Block;
+use frame_zones::{ZoneBlock, Zones};
+use std::alloc::Global;
+
+/// What all cores share. Its frames are numbered by `u32` over all zones.
+#[derive(Drop)]
+pub struct Memory {
+    pub(crate) zones: Zones,
+    // The slots of each zone's blocks.
+    pub(crate) slots: Vec<SlotList>,
+    // The frames of all zones.
+    pub(crate) frames: u32,
+    // Of the blocks that were laid down before any core was handed out, a list for each zone.
+    pub(crate) reclaimed: Vec<Vec<Receipt>>,
+    pub(crate) ghost slotted: { AreSlotted zones slots.items },
+    pub(crate) ghost numbered: { AreNumbered zones },
+    pub(crate) ghost sized: { frames ≡ frames_among zones },
+}
+
+impl Memory {
+    /// These zones, with these slots, of which none was used yet.
+    pub(crate) fn of(alloc: Global, zones: Zones, slots: Vec<SlotList>) -> Memory
+        requires slots { AreSlotted zones slots.items }
+        requires numbered { AreNumbered zones }
+        ensures zones { result.zones ≡ zones }
+        ensures slots { result.slots ≡ slots }
+    {
+        let frames = zones.frames() as u32;
+        Memory {
+            zones,
+            slots,
+            frames,
+            reclaimed: Vec::new(alloc),
+        }
+    }
+
+    /// The number among those of all zones of the first frame of a block that was laid down.
+    #[inline]
+    pub(crate) fn number_of(&self, receipt: &ZoneReceipt) -> u32
+        requires zone { receipt.now.zone < zone_count self.now.zones }
+        requires fits { number_for self.now.zones receipt.now < frame_numbers }
+        ensures { result ≡ number_for self.now.zones receipt.now }
+    {
+        self.number_at(receipt.zone, receipt.receipt.frame())
+    }
+
+    /// The number among those of all zones of this frame of the zone.
+    #[inline]
+    pub(crate) fn number_at(&self, zone: u32, frame: u32) -> u32
+        requires zone { zone < zone_count self.now.zones }
+        requires fits { first_frame_of self.now.zones zone + frame < frame_numbers }
+        ensures { result ≡ first_frame_of self.now.zones zone + frame }
+    {
+        self.zones.firsts[zone as usize] as u32 + frame
+    }
+
+    /// The block of these numbers, if it rests at its slot. Its zone is looked for at a hinted one first.
+    #[inline]
+    pub(crate) fn fetch(&self, hint: u32, frame: u32, order: u8) -> Option<ZoneBlock>
+        ensures out { IfSome result (IsOutIn self.now.zones) }
+        ensures frame { IfSome result (λ b. first_frame_in self.now.zones b ≡ frame) }
+        ensures order { IfSome result (λ b. b.block.order ≡ order) }
+    {
+        let (zone, local) = self.zones.zone_of(hint, u64::from(frame))?;
+        let block = self.fetch_in(zone, local, order)?;
+        Some(ZoneBlock { zone, block })
+    }
+
+    // The same in its zone, counted from the zone's first frame.
+    #[inline]
+    fn fetch_in(&self, zone: u32, frame: u32, order: u8) -> Option<Block>
+        requires { zone < zone_count self.now.zones }
+        ensures out { IfSome result (IsOutOfZone self.now.zones zone) }
+        ensures same { IfSome result (λ b. (b.frame ≡ frame) × (b.order ≡ order)) }
+    {
+        let place = zone as usize;
+        let allocator = &self.zones.zones[place];
+        self.slots[place].fetch(allocator, frame, order)
+    }
+
+    /// Lays the block down at its slot. Where one rests there, or there is none, it is handed back.
+    #[inline]
+    pub(crate) fn rest(&self, held: ZoneBlock) -> Result<ZoneReceipt, ZoneBlock>
+        requires { IsOutIn self.now.zones held }
+        ensures laid { IfOk result (IsReceiptOf held) }
+        ensures out { IfErr result (IsOutIn self.now.zones) }
+        ensures zone { IfErr result (λ b. b.zone ≡ held.zone) }
+    {
+        let ZoneBlock { zone, block } = held;
+        match self.rest_in(zone, block) {
+            Ok(receipt) => Ok(ZoneReceipt { zone, receipt }),
+            Err(block) => Err(ZoneBlock { zone, block }),
+        }
+    }
+
+    // The same in its zone.
+    #[inline]
+    fn rest_in(&self, zone: u32, block: Block) -> Result<Receipt, Block>
+        requires zone { zone < zone_count self.now.zones }
+        requires out { IsOutOfZone self.now.zones zone block }
+        ensures laid { IfOk result (λ r. (r.frame ≡ block.frame) × (r.order ≡ block.order)) }
+        ensures out { IfErr result (IsOutOfZone self.now.zones zone) }
+    {
+        let place = zone as usize;
+        let allocator = &self.zones.zones[place];
+        let Some(slot) = self.slots[place].find(allocator, block.frame(), block.order()) else {
+            return Err(block);
+        };
+        slot.rest(allocator, block)
+    }
+}

@@ -1,0 +1,59 @@
+//! The last core of a memory of zones stops it.
+
+ghost use Rattle.std.specs.Prelude.{◌≡◌, ◌⊎◌, IfOk, IfErr};
+ghost use Rattle.frame_zones.specs.Stops.{AreStopped};
+ghost use Rattle.zone_slots.specs.Calls.{zones_of};
+
+use crate::core_state::CoreState;
+use frame_words::Fault;
+use frame_zones::ZoneImage;
+use std::alloc::Global;
+use std::sync::Arc;
+
+/// A memory that was not stopped. The core is as it was.
+#[derive(Drop)]
+pub struct StopFault {
+    /// `MissingCores` where other cores are open, or `NoMemory`.
+    pub fault: Fault,
+    pub core: CoreState,
+}
+
+impl CoreState {
+    /// The words of each zone, in order, from the one core that is left: they fit some views, of which
+    /// one is that core's own there, and all that it keeps there is held. That blocks which rest at
+    /// their slots are held too is by the body, which writes no word. Refused as `MissingCores` where
+    /// other cores are open, else for want of memory; no zone is stopped then.
+    pub fn stop(self, alloc: Global) -> Result<Vec<ZoneImage>, StopFault>
+        ensures images { IfOk result (λ images. AreStopped (zones_of self) self.core images.items) }
+        ensures same { IfErr result (λ e. e.core ≡ self) }
+        ensures refused { IfErr result (λ e.
+            (e.fault ≡ Fault.MissingCores) ⊎ (e.fault ≡ Fault.NoMemory)) }
+    {
+        let Ok(room) = self.shared.zones.make_room(alloc) else {
+            return Err(StopFault {
+                fault: Fault::NoMemory,
+                core: self,
+            });
+        };
+        let CoreState {
+            shared,
+            core,
+            slotless,
+            last,
+            apart,
+        } = self;
+        match Arc::try_unwrap(shared) {
+            Ok(shared) => Ok(shared.zones.stop(core, room)),
+            Err(shared) => Err(StopFault {
+                fault: Fault::MissingCores,
+                core: CoreState {
+                    shared,
+                    core,
+                    slotless,
+                    last,
+                    apart,
+                },
+            }),
+        }
+    }
+}
