@@ -8,7 +8,7 @@ recording that is replayed, how many takes and gives.
 A file of bench/results has lines `# machine:`, `# date:`, `# method:` and then the table as the script prints it,
 with a line for each number of threads. A group is an order, or a kind of work and an order (`random,mixed`), or trees
 and an order (`one tree,0`); with none named all are drawn. --measure runs the script first, which takes its time, and
-lays down such a file.
+lays down such a file, a new one at each run.
 """
 import argparse
 import datetime
@@ -20,7 +20,7 @@ import sys
 import textwrap
 
 HERE = os.path.dirname(os.path.abspath(__file__))
-WIDTH, ACROSS, PANEL_WIDTH, PANEL_HEIGHT, LEFT = 860, 3, 230, 190, 44
+WIDTH, ACROSS, PANEL_WIDTH, PANEL_HEIGHT, LEFT, GAP = 860, 3, 230, 190, 44, 42
 TEXT, GRID = '#24292f', '#dfe4e9'
 FONT = 'font-family="DejaVu Sans, Verdana, sans-serif"'
 # a column of a table, what it is called, and its colour
@@ -116,16 +116,19 @@ def ticks(least, most):
 
 
 class Panel:
-    """Where the points of a group are: threads to the right, the logarithm of pairs a second upward."""
+    """Where the points of a group are: threads to the right, the logarithm of pairs a second upward. Few groups share
+    the whole width."""
 
-    def __init__(self, place, top, threads, axis):
-        self.left = LEFT + place % ACROSS * (PANEL_WIDTH + 42)
+    def __init__(self, place, of, top, threads, axis):
+        across = min(of, ACROSS)
+        self.width = (ACROSS * PANEL_WIDTH + (ACROSS - across) * GAP) // across
+        self.left = LEFT + place % ACROSS * (self.width + GAP)
         self.top = top + 24 + place // ACROSS * (PANEL_HEIGHT + 70)
         self.threads, self.axis = threads, axis
 
     def right_of(self, threads):
         at = self.threads.index(threads)
-        return self.left + 16 + at * (PANEL_WIDTH - 32) / max(1, len(self.threads) - 1)
+        return self.left + 16 + at * (self.width - 32) / max(1, len(self.threads) - 1)
 
     def height_of(self, figure):
         low, high = math.log10(self.axis[0]), math.log10(self.axis[-1])
@@ -136,13 +139,13 @@ class Panel:
                f'{title}</text>')
         for tick in self.axis:
             height = self.height_of(tick)
-            yield f'<path d="M{self.left} {height:.1f}h{PANEL_WIDTH}" stroke="{GRID}"/>'
+            yield f'<path d="M{self.left} {height:.1f}h{self.width}" stroke="{GRID}"/>'
             yield (f'<text x="{self.left - 5}" y="{height + 4:.1f}" font-size="11" text-anchor="end" fill="{TEXT}">'
                    f'{tick:g}</text>')
         for threads in self.threads:
             yield (f'<text x="{self.right_of(threads):.1f}" y="{self.top + PANEL_HEIGHT + 16}" font-size="11" '
                    f'text-anchor="middle" fill="{TEXT}">{threads}</text>')
-        yield (f'<text x="{self.left + PANEL_WIDTH // 2}" y="{self.top + PANEL_HEIGHT + 31}" font-size="11" '
+        yield (f'<text x="{self.left + self.width // 2}" y="{self.top + PANEL_HEIGHT + 31}" font-size="11" '
                f'text-anchor="middle" fill="{TEXT}">threads</text>')
 
     def line(self, points, colour, width):
@@ -198,7 +201,7 @@ def plot(said, groups):
         yield f'<text x="10" y="{44 + 15 * place}" font-size="11" fill="{TEXT}">{escaped(text)}</text>'
     yield from key(keys, top - more - 14)
     for place, (group, lines) in enumerate(groups.items()):
-        panel = Panel(place, top, threads, axis)
+        panel = Panel(place, len(groups), top, threads, axis)
         yield from panel.frame(title_of(group))
         for column, _, colour in ALLOCATORS:
             if column in lines:
@@ -216,6 +219,16 @@ def machine():
     return f'{os.cpu_count()} processors: {names[0] if names else "of a kind that is not told"}'
 
 
+def unused(name, day):
+    """A file of bench/results for a measurement: the second of a day has its number behind the day."""
+    numbers = [''] + [f'-{number}' for number in range(2, 100)]
+    for number in numbers:
+        file = os.path.join(HERE, 'results', f'{name}-{day}{number}.txt')
+        if not os.path.exists(file):
+            return file
+    raise Fault(f'bench/results has {len(numbers)} measurements {name} of {day}')
+
+
 def measured(name):
     """Runs a script of this folder, lays its table down beside what is said of it, and answers that text."""
     day = datetime.date.today().isoformat()
@@ -227,8 +240,8 @@ def measured(name):
         raise Fault(f'bench/{name}.sh ended with status {done.returncode}')
     text = (f'# machine: {machine()}\n# date: {day}\n# method: {" ".join([*settings, f"bench/{name}.sh"])}, '
             f'load {os.getloadavg()[0]:.1f} at the end\n{done.stdout}')
-    file = os.path.join(HERE, 'results', f'{name}-{day}.txt')
-    with open(file, 'w', encoding='utf-8') as out:
+    file = unused(name, day)
+    with open(file, 'x', encoding='utf-8') as out:
         out.write(text)
     print(f'plot: the table is in {os.path.relpath(file)}', file=sys.stderr)
     return text

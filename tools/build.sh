@@ -19,20 +19,20 @@ fi
 
 # seconds of a first run on 4 processors, and MB that stay in out/
 costs='
-frame_words 40 120
-frame_model 30 100
-frame_core 210 170
-low_frames 75 120
-held_blocks 70 250
-frame_table 85 290
-plain_moves 170 670
-core_frames 150 480
-frame_image 160 440
-trace_text 150 360
-llfree_trace 460 620
-llfree 180 80
-frame_slots 210 400
-llfree_c 240 280'
+frame_words 36 120
+frame_model 31 100
+frame_core 45 170
+low_frames 40 120
+held_blocks 40 250
+frame_table 45 290
+plain_moves 180 670
+core_frames 80 480
+frame_image 80 440
+trace_text 75 360
+llfree_trace 220 620
+llfree 90 80
+frame_slots 100 400
+llfree_c 120 280'
 
 stops() {
     echo "$target: $1" >&2

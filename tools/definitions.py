@@ -40,8 +40,8 @@ PAGES = [
     ]),
     ("allocator", "The allocator that threads share", [
         ("a take, and why it is refused", ["Allocator::take"]),
-        ("a give, a block that is kept or recalled, a split", [
-            "Allocator::give", "Allocator::keep", "Allocator::recall", "Allocator::split"]),
+        ("a give, a block that is kept or recalled, a split, a join", [
+            "Allocator::give", "Allocator::keep", "Allocator::recall", "Allocator::split", "Allocator::join"]),
         ("opening and closing", ["Allocator::open", "Allocator::open_with", "Allocator::close"]),
         ("what survived", ["Allocator::open_at", "Survivors::adopt"]),
     ]),
