@@ -9,7 +9,7 @@ use std::process::Abort;
 use std::test::Fail;
 
 // The first frame of a block that is taken, and stays held.
-fn taken(zones: &Zones, core: &mut ZoneCore, order: u8) -> Result<u64, TakeFault>
+pub(super) fn taken(zones: &Zones, core: &mut ZoneCore, order: u8) -> Result<u64, TakeFault>
     requires { AreCoresOf zones.now core.old }
     ensures { AreCoresOf zones.now core.new }
 {

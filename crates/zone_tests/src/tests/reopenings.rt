@@ -5,6 +5,7 @@ ghost use Rattle.std.specs.List.{All};
 ghost use Rattle.frame_zones.specs.Reopening.{IsReopenable, AreSurvivorsOf};
 ghost use Rattle.frame_zones.specs.Zones.{AreCoresOf};
 
+use super::calls::taken;
 use super::closings::held_in;
 use super::memory::{next_core, open_two};
 use core_frames::Survivors;
@@ -163,12 +164,8 @@ fn what_zones_held_is_adopted_once(rt: HostRuntime) -> Result<(), Fail> {
     let mut second = next_core(&zones, &mut cores).ok_or("a core")?;
     let mut first = next_core(&zones, &mut cores).ok_or("a core")?;
     assert_eq!(rt; free_in(&zones, &mut second), (1008, 0));
-    let lower = zones.take(&mut first, 8).map_err(Fault::from)?;
-    let upper = zones.take(&mut second, 7).map_err(Fault::from)?;
-    assert_eq!(rt;
-        (zones.frame_of(&lower), zones.frame_of(&upper)),
-        (256, 8320)
-    );
+    assert_eq!(rt; taken(&zones, &mut first, 8), Ok(256));
+    assert_eq!(rt; taken(&zones, &mut second, 7), Ok(8320));
     assert_eq!(rt; free_in(&zones, &mut first), (624, 0));
     let images = closed(rt.alloc(), zones, first, second)?;
     assert_eq!(rt; held_in_two(&rt, &images), [(0, 264), (8192, 136)]);
