@@ -1,4 +1,4 @@
-//! What would be wrong, and is told: laws, proved as contracts of a function that does nothing.
+//! What would be wrong, and is told: laws, proved as contracts of functions that do nothing.
 
 ghost use Rattle.core_frames.specs.Refusals.{OrderIsLawful, OrderIsUnlawful, MovesTooLittle};
 ghost use Rattle.core_frames.specs.Refusals.{LossIsUntold, DeskIsRefused, LeftIsRefused};
@@ -7,16 +7,21 @@ ghost use Rattle.core_frames.specs.WrongAnswers.{TakenPastTheEnd, KeptIsClearAtC
 ghost use Rattle.core_frames.specs.WrongAnswers.{KeptOverlapAtClosing, KeptIsClearAtStop};
 ghost use Rattle.core_frames.specs.WrongAnswers.{SeatIsElsewhere};
 
-/// No call says of a refusal, or of the cores of an opening, what is wrong: no take that it found no
-/// block, without as many moves as there are trees, or that it was contended, without a loss; no
-/// adoption that a block is not held which is left; no opening that ranges are bad which may be held
-/// back; no closing that memory is wanting where a core is missing.
-pub fn wrong_refusals_are_not_told()
+/// No take that is refused says what is wrong: none that the order is bad but one above 9, and each of
+/// those; none that it found no block, without as many moves as there are trees, or that it was
+/// contended, without a loss; and none through a desk either.
+pub fn wrong_refused_takes_are_not_told()
     ensures order_is_lawful { OrderIsLawful }
     ensures order_is_unlawful { OrderIsUnlawful }
     ensures moves { MovesTooLittle }
     ensures losses { LossIsUntold }
     ensures desk { DeskIsRefused }
+{}
+
+/// No call says of a refusal, or of the cores of an opening, what is wrong: no adoption that a block is
+/// not held which is left; no opening that ranges are bad which may be held back; no closing that
+/// memory is wanting where a core is missing; and no opening a core of another number.
+pub fn wrong_refusals_are_not_told()
     ensures left { LeftIsRefused }
     ensures ranges { RangesAreRefused }
     ensures closing { ClosingIsRefused }

@@ -17,7 +17,9 @@ pub use free_counts::{FreeCounts, free_counts_by};
 pub use gives::give_by;
 pub use held_blocks::{Label, LabelledBlock, LabelledBlocks};
 pub use joins::join_by;
-pub use laws::{wrong_answers_are_not_told, wrong_refusals_are_not_told};
+pub use laws::{
+    wrong_answers_are_not_told, wrong_refusals_are_not_told, wrong_refused_takes_are_not_told,
+};
 pub use plain::PlainAllocator;
 pub use ranges::MOST_RANGES;
 pub use search::Habit;

@@ -11,30 +11,37 @@ ghost use Rattle.llfree_trace.specs.WrongTexts.{WrongSuccess};
 
 /// No outcome of a trace answers a record by a reply of another kind, a take by a block of another
 /// order or by frames that are held, a give by another block than the oldest that is meant, or any of
-/// them by a refusal without its reason; none has an answer too many or too few; and no image of one
-/// holds a frame too many or too few.
-pub fn wrong_outcomes_are_not_told()
+/// them by a refusal without its reason; and none goes on with a list two of whose blocks share a frame.
+pub fn wrong_replies_are_not_told()
     ensures kind { OtherKind }
     ensures taken { WrongBlockIsTaken }
     ensures take_refused { TakeIsRefused }
     ensures given { OtherBlockIsGiven }
     ensures give_refused { GiveIsRefused }
     ensures overlap { ListOverlaps }
+{}
+
+/// No outcome of a trace has an answer too many or too few, or leaves a frame in two blocks; and no image
+/// of one holds a frame too many or too few.
+pub fn wrong_outcomes_are_not_told()
     ensures answers { OtherIsAnswered }
     ensures shared { FrameIsShared }
     ensures held { OtherFramesAreHeld }
 {}
 
-/// No text is shown of what says none, or that is no outcome's; no record is refused but the lowest;
-/// no call succeeds, or is refused, but as its bytes and its devices say; and no words do what they
-/// don't name.
-pub fn wrong_ends_are_not_told()
+/// No text is shown of what says none, or that is no outcome's, and no record is refused but the lowest.
+pub fn wrong_texts_are_not_shown()
     ensures no_trace { NoTraceIsShown }
     ensures shown { OtherIsShown }
     ensures cores { WrongRefusalIsShown }
     ensures image { OtherImageIsShown }
     ensures record_refused { OtherRecordIsRefused }
     ensures part_refused { OtherPartIsRefused }
+{}
+
+/// No call succeeds, or is refused, but as its bytes and its devices say; and no words do what they
+/// don't name.
+pub fn wrong_ends_are_not_told()
     ensures success { WrongSuccess }
     ensures reading { WrongReading }
     ensures fault { WrongFault }

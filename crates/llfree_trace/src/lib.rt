@@ -21,7 +21,10 @@ mod transfers;
 
 pub use gate::{Gate, OpenGate};
 pub use image_streams::{rebuild_over, report_over};
-pub use laws::{wrong_ends_are_not_told, wrong_outcomes_are_not_told};
+pub use laws::{
+    wrong_ends_are_not_told, wrong_outcomes_are_not_told, wrong_replies_are_not_told,
+    wrong_texts_are_not_shown,
+};
 pub use many_cores::run_trace;
 pub use many_streams::run_many_over;
 pub use one_core::run_one;

@@ -40,19 +40,6 @@ unlawful_ranges geometry ranges not why = ⊎_elim (λ h. absurd (no_memory h.0)
 
 pub returns : goal.returns
 returns c = record {
-  order_is_lawful = λ a n d e. (λ low why. absurd (omega (arith, low, why.0)), λ other why. other why.1);
-  order_is_unlawful = λ a n d e high.
-      (λ why. absurd (omega (arith, high, why.0.order)), λ why. absurd (omega (arith, high, why.0.order)));
-  moves = λ a n d e few.
-      (λ why. absurd (omega (arith, few, why.0.moved)), λ why. absurd (omega (arith, few, why.0.moved)));
-  losses = λ a n d e.
-      (λ none why. absurd (omega (arith, none, why.1)), λ some why. absurd (omega (arith, some, why.1)));
-  desk = λ a n d e. (
-    λ other. (λ why. other why.1, λ why. other why.1),
-    λ few. (λ why. absurd (omega (arith, few, why.0.moved)), λ why. absurd (omega (arith, few, why.0.moved))),
-    λ none why. absurd (omega (arith, none, why.1)),
-    λ some why. absurd (omega (arith, some, why.1)),
-  );
   left = λ a b blocks. (left a b blocks, lawful a b blocks);
   ranges = λ geometry ranges. (lawful_ranges geometry ranges, unlawful_ranges geometry ranges);
   closing = λ cores seats. (λ all why. absurd (omega (arith, all, why)), λ few why. absurd (omega (arith, few, why)));
