@@ -52,6 +52,15 @@ trap 'interrupted 130' INT
 trap 'interrupted 143' TERM
 trap 'interrupted 129' HUP
 
+# as many processes as share the proofs of a crate: up to 4, each with a processor and 1.5 GB
+jobs=$(awk -v processors="$(nproc)" '
+    /^MemAvailable/ { jobs = int($2 / 1500000) }
+    END {
+        if (jobs > processors) jobs = processors
+        if (jobs > 4) jobs = 4
+        print (jobs < 1 ? 1 : jobs)
+    }' /proc/meminfo)
+
 # the crates that the target stands on and itself, lowest first, with the seconds and MB of each
 crates() {
     { sed 's/#.*//' "$top/crates.txt"; echo costs; echo "$costs"; } | awk -F: -v target="$target" '
@@ -72,14 +81,21 @@ crates() {
         }'
 }
 
-# one crate: a library is proved and built, the program is also run once, on no input
-prove() {
+# as CRATE WORD..: in the crate's folder
+as() {
     (
         cd "$top/crates/$1" || exit
-        if [ "$1" = "$target" ] && [ -n "$hint" ]; then exec rt run -- run 1 1; else exec rt lib; fi
+        shift
+        exec "$@"
     ) </dev/null >>"$log" 2>&1 &
     child=$!
     wait "$child"
+}
+
+# one crate: a library is proved and built, the program is also run once, on no input
+prove() {
+    as "$1" rt check --jobs "$jobs" || return
+    if [ "$1" = "$target" ] && [ -n "$hint" ]; then as "$1" rt run -- run 1 1; else as "$1" rt lib; fi
 }
 
 # minutes SECONDS: in words

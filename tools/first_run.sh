@@ -40,6 +40,7 @@ name=$(basename "$PWD")
 case $1 in
     doc) echo "$kit/START-HERE.md"; exit ;;
     try) shift 2; echo "try $*" >>"$kit/calls"; echo "tried $*"; exit ;;
+    check) exit ;;
     ci)
         mkdir -p crates/low/out/rlib/low.rlib crates/mid/out/rlib/mid.rlib crates/llfree/out
         printf '#!/bin/sh\n' >crates/llfree/out/llfree
