@@ -3,6 +3,10 @@
  * A frame is 4 KiB, by its number from 0 on; a block of order o (0 to 9) is 2^o frames from a multiple
  * of 2^o on; a child is 512 frames. The library counts frames: it touches none of their memory.
  *
+ * A memory has 1 to 1024 zones, of 1 to 2097152 frames each, which share nothing but their cores: the nodes
+ * of a machine, with holes between them (llfree_open_zones), or so many frames without a hole, of which each
+ * 2097152 are a zone (llfree_open). Frames are numbered over all zones, below 2^32; no block lies in two.
+ *
  * Whatever numbers are passed as frames, ranges and orders, each call is safe, and a wrong one is
  * refused. What a caller has to uphold, and nothing checks:
  *  1. Each pointer is to memory of its type, aligned, that nobody else reads or writes during the
@@ -63,12 +67,14 @@ enum llfree_status LLFREE_STATUS_TYPE {
                                  struct holds none */
     LLFREE_CLOSED_HANDLE = 4, /* nothing is behind the handle */
     LLFREE_NO_MEMORY = 5,
-    LLFREE_BAD_GEOMETRY = 6,  /* a memory has 1 to 2097152 frames and 1 to 64 cores */
+    LLFREE_BAD_GEOMETRY = 6,  /* a memory has 1 to 2147483648 frames, for one thread 1 to 2097152, and 1 to
+                                 64 cores; or zones may not lie so */
     LLFREE_OPEN_HANDLE = 7,   /* something is behind the handle already, or the struct holds a block */
     LLFREE_CONTENDED = 8,     /* no block was had, since other cores were in the way, or it could not be
                                  laid down in the library's list */
-    LLFREE_BAD_RANGE = 9,     /* more than 1024 ranges, or one is empty, ends past the end of memory, or
-                                 begins before the end of the one before it */
+    LLFREE_BAD_RANGE = 9,     /* more than 1024 ranges, or one is empty, has a frame that no zone has, in a
+                                 hole or past the end of memory, or begins before the end of the one
+                                 before it */
     LLFREE_NO_ROOM = 10,      /* the image has more numbers than the buffer */
     LLFREE_CORES_OPEN = 11,   /* other cores of the allocator are open */
     LLFREE_BAD_IMAGE = 12     /* the numbers are those of no image of so many frames */
@@ -90,8 +96,9 @@ typedef struct llfree_range {
 } llfree_range;
 
 /* How many numbers the image of so many frames has: nine for each child, of which the last may be cut;
- * 0 where no memory has so many frames. What the numbers words[9 * c] to words[9 * c + 8] of child c
- * say:
+ * 0 where no memory has so many frames. An image of zones that llfree_open_zones opened has those of each
+ * zone, one after another: their sum. What the numbers words[9 * c] to words[9 * c + 8] of child c say (in
+ * the numbers of its zone, by its place there):
  *  - words[9 * c]: how many of its frames are free, and 32768 where it is held as one block of order 9.
  *  - words[9 * c + 1 + w], w from 0 to 7: bit b is set where frame 512 * c + 64 * w + b is held by a
  *    smaller block, lies in a range that is never given out, or past the end of memory. */
@@ -107,13 +114,26 @@ typedef struct llfree_core {
 /* Opens an allocator of so many frames, with a core behind each of the closed handles. All frames are
  * free but those of the ranges, which are never given out: what a kernel keeps, holes of the memory.
  * Ranges ascend and do not overlap; NULL and 0 are none. (That all else is free is tested, not proved.)
- * Beside the words of the allocator it has a list of what is out: 16 bytes a frame in one block, and a
+ * Beside the words of each zone it has a list of what is out there: 16 bytes a frame in one block, and a
  * quarter of a byte more where something is held back or the last child is cut. While it opens it needs up
- * to 24 bytes more for each largest block that is free: one for each 512 frames where nothing is held back.
- * On OPEN_HANDLE (of any handle), BAD_GEOMETRY, BAD_RANGE and NO_MEMORY the handles are as they were. */
+ * to 24 bytes more for each largest block of a zone that is free: one for each 512 frames where nothing is
+ * held back. On OPEN_HANDLE (of any handle), BAD_GEOMETRY, BAD_RANGE and NO_MEMORY the handles are as they
+ * were. */
 LLFREE_NODISCARD
 enum llfree_status llfree_open(llfree_core *handles, size_t cores, uint32_t frames,
                                const llfree_range *ranges, size_t count);
+
+/* Opens an allocator of zones: each has so many frames from a first one on, as a node of a machine has them,
+ * and a frame that no zone has lies in a hole, costs nothing and is never given out. There are 1 to 1024
+ * zones of 1 to 2097152 frames each. Each begins at a multiple of 512, behind the one before it, and ends at
+ * or below frame 2^32, so its first and last frame have numbers; a longer node is several zones, one after
+ * another. Ranges are by the same numbers: one may reach from a zone into the next, but have no frame in a
+ * hole. All else is as llfree_open has it, BAD_GEOMETRY where zones may not lie so. A core takes from its
+ * home zone first (the homes lie evenly among the zones), and where that has no block of the order from the
+ * next one, round (tested, not proved). */
+LLFREE_NODISCARD
+enum llfree_status llfree_open_zones(llfree_core *handles, size_t cores, const llfree_range *zones,
+                                     size_t zone_count, const llfree_range *ranges, size_t range_count);
 
 /* The block of this order from this frame on, which a program holds from before an opening. */
 typedef struct llfree_claim {
@@ -125,6 +145,7 @@ typedef struct llfree_claim {
  * with a core behind each of the closed handles. The claimed blocks are those that the program holds
  * from before: they are out, as if they had been taken, and any core gives them. What the image holds
  * besides is held for good, and all else is free (for several threads the latter is tested, not proved).
+ * Of more frames than a zone has they are those that llfree_open makes of so many.
  * The counts of free frames are not read: only that none is above 512. On OPEN_HANDLE (of any handle),
  * BAD_GEOMETRY, BAD_IMAGE (count is not llfree_image_words(frames), a number is none of an image, the
  * last child is cut and one block of order 9, or a bit past the end is clear), BAD_ORDER, NOT_HELD (a
@@ -136,9 +157,16 @@ enum llfree_status llfree_reopen(llfree_core *handles, size_t cores, uint32_t fr
                                  const uint64_t *words, size_t count, const llfree_claim *claims,
                                  size_t claimed);
 
-/* Takes a block of the order, and writes its first frame. NO_BLOCK after at least as many steps as there
- * are trees, of 4096 frames each, and no exchange that another core won; CONTENDED after as many and one
- * that another core won, or where the block that it took could not be laid down in the library's list and
+/* llfree_reopen of zones as llfree_open_zones takes them: the numbers are those of each zone, one after another,
+ * and a claimed block lies in one of them. BAD_GEOMETRY where zones may not lie so, before anything is read. */
+LLFREE_NODISCARD
+enum llfree_status llfree_reopen_zones(llfree_core *handles, size_t cores, const llfree_range *zones,
+                                       size_t zone_count, const uint64_t *words, size_t count,
+                                       const llfree_claim *claims, size_t claimed);
+
+/* Takes a block of the order, and writes its first frame. NO_BLOCK after at least as many steps in each zone
+ * as it has trees, of 4096 frames each, and no exchange that another core won; CONTENDED after as many and
+ * one that another core won, or where the block that it took could not be laid down in the library's list and
  * is free again (of cores that llfree_open opened no run ever showed this); BAD_ORDER; CLOSED_HANDLE: then
  * *frame is as it was, and nothing more is held. It needs no memory, and neither locks nor waits.
  *
@@ -175,7 +203,7 @@ enum llfree_status llfree_give(llfree_core *handle, uint32_t frame, uint8_t orde
 LLFREE_NODISCARD
 enum llfree_status llfree_split(llfree_core *handle, uint32_t frame, uint8_t order);
 
-/* The frames of the memory behind the handle, those of the ranges too; 0 of a closed one. */
+/* The frames of the memory behind the handle, of all zones, those of the ranges too; 0 of a closed one. */
 uint32_t llfree_frames(llfree_core *handle);
 
 /* How many frames are free, by what each child counts, four of them in one load: exact where no other
@@ -192,22 +220,22 @@ uint32_t llfree_free_huge(llfree_core *handle);
  * it, blocks that are held and all. */
 void llfree_close(llfree_core *handle);
 
-/* Writes the numbers of the memory's image, as many as llfree_image_words says, in which just the
- * blocks that are held and the ranges are held (tested, not proved); then as llfree_close of the last
- * handle of an allocator. What lies behind the numbers stays. NO_ROOM where the buffer has fewer,
+/* Writes the numbers of the memory's image, as many as llfree_image_words says, zone after zone, in which
+ * just the blocks that are held and the ranges are held (tested, not proved); then as llfree_close of the
+ * last handle of an allocator. What lies behind the numbers stays. NO_ROOM where the buffer has fewer,
  * CORES_OPEN where it is not the last, NO_MEMORY, CLOSED_HANDLE: then nothing changes. */
 LLFREE_NODISCARD
 enum llfree_status llfree_close_image(llfree_core *handle, uint64_t *words, size_t count);
 
-/* How many words an allocator for several threads has, of so many frames and cores: an opening asks its
- * heap for them as one block of 8 * llfree_words(frames, cores) bytes, aligned to 8. 0 where there is no
- * such memory. */
+/* How many words a zone of so many frames has in an allocator for several threads with so many cores: an
+ * opening asks its heap for those of each zone as one block of 8 * llfree_words(frames, cores) bytes,
+ * aligned to 8. 0 where there is no such zone. */
 size_t llfree_words(uint32_t frames, uint32_t cores);
 
-/* Writes the numbers of the image that these words are rebuilt to, whatever their counters say, as many as
- * llfree_image_words says: for the words of an allocator whose process has ended, wherever it was, an image
- * that holds just what was held there (docs/C.md, "After a kill"). Words that a call may still change say
- * nothing. BAD_GEOMETRY, BAD_IMAGE (count is not llfree_words), NO_ROOM: then the numbers are as they were.
+/* Writes the numbers of the image that these words of a zone are rebuilt to, whatever their counters say, as
+ * many as llfree_image_words says: for the words of an allocator whose process has ended, wherever it was, an
+ * image that holds just what was held there (docs/C.md, "After a kill"). Words that a call may still change
+ * say nothing. BAD_GEOMETRY, BAD_IMAGE (count is not llfree_words), NO_ROOM: then the numbers are as they were.
  * It needs no memory. */
 LLFREE_NODISCARD
 enum llfree_status llfree_image_of_words(uint32_t frames, uint32_t cores, const uint64_t *words,
@@ -237,6 +265,13 @@ typedef struct llfree_block {
 LLFREE_NODISCARD
 enum llfree_status llfree_open_unchecked(llfree_core *handles, size_t cores, uint32_t frames,
                                          const llfree_range *ranges, size_t count);
+
+/* As llfree_open_zones, but no list is made, as llfree_open_unchecked makes none. The struct of a block has
+ * its number over all zones, and any core gives it. */
+LLFREE_NODISCARD
+enum llfree_status llfree_open_zones_unchecked(llfree_core *handles, size_t cores, const llfree_range *zones,
+                                               size_t zone_count, const llfree_range *ranges,
+                                               size_t range_count);
 
 /* Takes a block of the order into an empty struct. NO_BLOCK, BAD_ORDER and CLOSED_HANDLE as
  * llfree_take, CONTENDED only after an exchange that another core won, for no list is looked up, OPEN_HANDLE

@@ -31,7 +31,9 @@ frame_image 80 440
 trace_text 75 360
 llfree_trace 220 620
 llfree 90 80
-frame_slots 100 400
+frame_zones 80 320
+frame_slots 60 350
+zone_slots 110 290
 llfree_c 120 280'
 
 stops() {

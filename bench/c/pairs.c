@@ -2,9 +2,10 @@
  * in structs, the library for one thread, a bitmap and a buddy allocator, each under a mutex, and the C
  * library's own aligned_alloc and free of as much memory, which nobody touches.
  *
- *     pairs COUNT ROUNDS
+ *     pairs COUNT ROUNDS [zones]
  *
- * A round measures each allocator once, in turn, with 1, 2 and 4 threads and orders 0, 3 and 9. Each
+ * A round measures each allocator once, in turn, with 1, 2 and 4 threads and orders 0, 3 and 9: with `zones` the
+ * library alone, by numbers, over as much memory in 1, 4 and 64 zones with holes between them. Each
  * thread stands on a processor of its own and makes COUNT takes, each with its give (of malloc's huge
  * blocks a hundredth as many). A line: threads, order, allocator, tenths of a nanosecond for a pair of
  * one thread. The clock is the wall's, from the first thread's begin to the last one's end. */
@@ -16,6 +17,7 @@
 #include <sched.h>
 #include <stdio.h>
 #include <stdlib.h>
+#include <string.h>
 #include <time.h>
 
 enum { MOST_THREADS = 4, FRAME_BYTES = 4096 };
@@ -105,6 +107,37 @@ static void open_unchecked(void)
     open_by(llfree_open_unchecked);
 }
 
+enum { MOST_ZONES = 64 };
+
+/* So many zones, each behind a hole as large as it is. */
+static void open_zones(uint32_t zone_count)
+{
+    llfree_core handles[MOST_THREADS] = { LLFREE_CLOSED };
+    llfree_range zones[MOST_ZONES];
+    uint32_t frames = FRAMES / zone_count;
+
+    for (uint32_t z = 0; z < zone_count; z++)
+        zones[z] = (llfree_range) { (2 * z + 1) * frames, frames };
+    want(llfree_open_zones(handles, (size_t)threads, zones, zone_count, NULL, 0) == LLFREE_OK, "no memory");
+    for (int i = 0; i < threads; i++)
+        workers[i].core = handles[i];
+}
+
+static void open_1_zone(void)
+{
+    open_zones(1);
+}
+
+static void open_4_zones(void)
+{
+    open_zones(4);
+}
+
+static void open_64_zones(void)
+{
+    open_zones(64);
+}
+
 static void close_cores(void)
 {
     for (int i = 0; i < threads; i++)
@@ -138,6 +171,12 @@ static const struct allocator {
     { "bitmap", MOST_THREADS, nothing, bitmap_pairs, nothing },
     { "buddy", MOST_THREADS, buddy_open, buddy_pairs, nothing },
     { "malloc", MOST_THREADS, nothing, malloc_pairs, nothing },
+};
+
+static const struct allocator in_zones[] = {
+    { "1", MOST_THREADS, open_1_zone, core_pairs, close_cores },
+    { "4", MOST_THREADS, open_4_zones, core_pairs, close_cores },
+    { "64", MOST_THREADS, open_64_zones, core_pairs, close_cores },
 };
 
 static void *work(void *worker)
@@ -181,17 +220,20 @@ static void measure(const struct allocator *one)
 int main(int words, char **word)
 {
     static const uint8_t orders[] = { 0, 3, 9 };
-    int rounds = words == 3 ? atoi(word[2]) : 0;
+    bool zoned = words == 4 && strcmp(word[3], "zones") == 0;
+    int rounds = words == 3 || zoned ? atoi(word[2]) : 0;
+    const struct allocator *measured = zoned ? in_zones : allocators;
+    size_t count_of = zoned ? sizeof in_zones / sizeof *in_zones : sizeof allocators / sizeof *allocators;
 
-    pairs = words == 3 ? atol(word[1]) : 0;
-    want(pairs > 0 && rounds > 0, "usage: pairs COUNT ROUNDS");
+    pairs = words >= 3 ? atol(word[1]) : 0;
+    want(pairs > 0 && rounds > 0, "usage: pairs COUNT ROUNDS [zones]");
     while (rounds-- > 0)
         for (threads = 1; threads <= MOST_THREADS; threads *= 2)
             for (size_t i = 0; i < sizeof orders; i++) {
                 order = orders[i];
-                for (size_t j = 0; j < sizeof allocators / sizeof *allocators; j++)
-                    if (threads <= allocators[j].most_threads)
-                        measure(&allocators[j]);
+                for (size_t j = 0; j < count_of; j++)
+                    if (threads <= measured[j].most_threads)
+                        measure(&measured[j]);
             }
     return 0;
 }

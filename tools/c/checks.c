@@ -118,7 +118,8 @@ static void images(void)
 
     CHECK(llfree_image_words(0) == 0 && llfree_image_words(1) == 9 && llfree_image_words(FRAMES) == 9);
     CHECK(llfree_image_words(FRAMES + 1) == 18 && llfree_image_words(END) == WORDS);
-    CHECK(llfree_image_words(4096 * FRAMES) == 9 * 4096 && llfree_image_words(4096 * FRAMES + 1) == 0);
+    CHECK(llfree_image_words(4096 * FRAMES) == 9 * 4096 && llfree_image_words(4096 * FRAMES + 1) == 9 * 4097);
+    CHECK(llfree_image_words(2147483648u) == 9 * 4194304 && llfree_image_words(2147483649u) == 0);
     CHECK(llfree_image_words(UINT32_MAX) == 0);
     CHECK(llfree_plain_close_image(&h, words, WORDS) == LLFREE_CLOSED_HANDLE);
 

@@ -60,6 +60,22 @@ static const llfree_range kept[] = { { 3, 5 }, { 600, 512 } };
 
 typedef uint32_t opening(llfree_core *, size_t, uint32_t, const llfree_range *, size_t);
 
+/* The same frames as two zones. */
+static uint32_t open_zones(llfree_core *cores, size_t count, uint32_t frames, const llfree_range *ranges, size_t held)
+{
+    const llfree_range zones[2] = { { 0, 2048 }, { 2048, frames - 2048 } };
+
+    return llfree_open_zones(cores, count, zones, 2, ranges, held);
+}
+
+static uint32_t open_zones_unchecked(llfree_core *cores, size_t count, uint32_t frames, const llfree_range *ranges,
+                                     size_t held)
+{
+    const llfree_range zones[2] = { { 0, 2048 }, { 2048, frames - 2048 } };
+
+    return llfree_open_zones_unchecked(cores, count, zones, 2, ranges, held);
+}
+
 static uint32_t open_plain(llfree_plain *memory)
 {
     return llfree_plain_open(memory, FRAMES, kept, 2);
@@ -140,7 +156,7 @@ static long plain_closing(bool is_for_good)
 }
 
 /* The same of the last of several cores. */
-static long shared_closing(bool is_for_good)
+static long shared_closing(opening *open, bool is_for_good)
 {
     static uint64_t words[WORDS];
     llfree_core cores[CORES] = { LLFREE_CLOSED };
@@ -148,7 +164,7 @@ static long shared_closing(bool is_for_good)
     long call = 0, left;
 
     refuse(0, false);
-    CHECK(llfree_open(cores, CORES, FRAMES, kept, 2) == LLFREE_OK);
+    CHECK(open(cores, CORES, FRAMES, kept, 2) == LLFREE_OK);
     CHECK(llfree_take(&cores[1], 4, &frame) == LLFREE_OK);
     for (int i = 1; i < CORES; i++)
         llfree_close(&cores[i]);
@@ -252,11 +268,14 @@ int main(void)
         long shared = shared_opening(llfree_open, is_for_good), plain = plain_opening(is_for_good);
         long unchecked = shared_opening(llfree_open_unchecked, is_for_good);
         long again = reopening(true, is_for_good), plain_again = reopening(false, is_for_good);
-        long closing = plain_closing(is_for_good), last = shared_closing(is_for_good);
+        long closing = plain_closing(is_for_good), last = shared_closing(llfree_open, is_for_good);
+        long zones = shared_opening(open_zones, is_for_good), last_of_two = shared_closing(open_zones, is_for_good);
         CHECK(shared > unchecked && unchecked > 0 && plain > 0 && closing > 0 && last > 0);
-        CHECK(again > shared && plain_again > plain);
+        CHECK(again > shared && plain_again > plain && last_of_two > last);
+        CHECK(zones > shared && shared_opening(open_zones_unchecked, is_for_good) > unchecked);
         printf("calls refused, by opening: %ld, %ld, %ld; at an image: %ld, %ld; by closing: %ld, %ld\n",
                shared, unchecked, plain, again, plain_again, closing, last);
+        printf("of two zones: by opening %ld, by closing %ld\n", zones, last_of_two);
     }
     return 0;
 }

@@ -180,7 +180,8 @@ static void refused(struct memory *m, const uint64_t *words, const llfree_claim 
         uint64_t number;
     } wrong[] = { { 0, 513 }, { 0, 1024 }, { 0, 65536 }, { 0, 32768 + 513 }, { 0, UINT64_MAX },
                   { 9 * 5, 32768 }, { 9 * 5 + 2, 0 }, { 9 * 5 + 8, UINT64_MAX >> 1 } };
-    static const uint32_t sizes[] = { 0, 4096 * CHILD + 1, UINT32_MAX };
+    /* for one thread a memory is one zone */
+    const uint32_t sizes[] = { 0, m->is_shared ? 2147483649u : 4096 * CHILD + 1, UINT32_MAX };
     uint64_t other[WORDS];
     llfree_claim claims[2];
 

@@ -25,7 +25,7 @@ static void statuses(void)
     CHECK(llfree_open(h, 0, 3 * 512, NULL, 0) == LLFREE_BAD_GEOMETRY);
     CHECK(llfree_open(many, 65, 3 * 512, NULL, 0) == LLFREE_BAD_GEOMETRY);
     CHECK(llfree_open(h, 2, 0, NULL, 0) == LLFREE_BAD_GEOMETRY);
-    CHECK(llfree_open(h, 2, 4096 * 512 + 1, NULL, 0) == LLFREE_BAD_GEOMETRY);
+    CHECK(llfree_open(h, 2, 2147483649u, NULL, 0) == LLFREE_BAD_GEOMETRY);
     CHECK(llfree_open(h, 2, UINT32_MAX, NULL, 0) == LLFREE_BAD_GEOMETRY);
     CHECK(llfree_open(h + 1, 1, 512, NULL, 0) == LLFREE_OK);
     CHECK(llfree_open(h, 2, 3 * 512, NULL, 0) == LLFREE_OPEN_HANDLE);

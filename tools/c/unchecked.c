@@ -29,7 +29,7 @@ static void statuses(void)
     CHECK(llfree_split_block(&h[0], &a, &b) == LLFREE_CLOSED_HANDLE && is_empty(&a) && is_empty(&b));
     CHECK(llfree_open_unchecked(h, 0, 3 * 512, NULL, 0) == LLFREE_BAD_GEOMETRY);
     CHECK(llfree_open_unchecked(h, 2, 0, NULL, 0) == LLFREE_BAD_GEOMETRY);
-    CHECK(llfree_open_unchecked(h, 2, 4096 * 512 + 1, NULL, 0) == LLFREE_BAD_GEOMETRY);
+    CHECK(llfree_open_unchecked(h, 2, 2147483649u, NULL, 0) == LLFREE_BAD_GEOMETRY);
     CHECK(llfree_open_unchecked(h, 2, 3 * 512, &bad, 1) == LLFREE_BAD_RANGE);
     CHECK(llfree_open_unchecked(h, 2, 3 * 512, &all, 1) == LLFREE_OK);
     CHECK(llfree_take_block(&h[1], 0, &a) == LLFREE_NO_BLOCK && is_empty(&a));

@@ -22,7 +22,7 @@ use Rattle.core_frames.specs.Splits.{AreHalves}
 use Rattle.core_frames.specs.Uses.{HasGiven}
 use Rattle.core_frames.specs.declared.shared.allocator.Allocator.{Allocator}
 use Rattle.core_frames.specs.declared.shared.allocator.Core.{Core}
-use Rattle.frame_slots.specs.Calls.{laid_down}
+use Rattle.frame_slots.specs.Slots.{laid_down}
 use Rattle.frame_slots.specs.Numbers.{IsFreeIn, AreAllHeld}
 use Rattle.frame_slots.specs.Reopenings.{IsFollowing, KeepsRest, MakeUp, LendsJust, HasLaid, HasHalved, among, waiting_blocks}
 use Rattle.frame_slots.specs.declared.receipt.Receipt.{Receipt}

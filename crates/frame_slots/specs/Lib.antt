@@ -1,11 +1,5 @@
-pub mod Blocks
-pub mod Calls
 pub mod Claims
-pub mod FreeCounts
 pub mod Numbers
-pub mod Openings
 pub mod SlotLists
 pub mod Slots
-pub mod Refusals
 pub mod Reopenings
-pub mod WrongTakes

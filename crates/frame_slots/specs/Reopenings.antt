@@ -1,28 +1,18 @@
--- What the cores of a memory that is opened again share, and what they keep.
+-- What a memory that is brought into the state of an image lays down and keeps.
 use Rattle.std.specs.Prelude.{◌≡◌, ◌⊎◌, ℕ, pos, ◌+◌, ◌<◌, ◌≤◌, List, [], ◌∷◌, ◌++◌, length, map}
-use Rattle.std.specs.List.{All}
 use Rattle.frame_words.specs.declared.fault.Fault.{Fault}
 use Rattle.frame_words.specs.declared.fault.Fault.TheVariants.{Contended, NoMemory}
 use Rattle.frame_model.specs.declared.block.FrameBlock.{FrameBlock}
-use Rattle.frame_model.specs.declared.key.Key.{Key}
 use Rattle.frame_core.specs.Holding.{holders, IsFree, IsHeld}
 use Rattle.frame_table.specs.Seats.{block_in}
 use Rattle.frame_table.specs.declared.block.Block.{Block}
-use Rattle.core_frames.specs.Cores.{memory_of, lent_by, kept_by}
+use Rattle.core_frames.specs.Cores.{lent_by, kept_by}
 use Rattle.core_frames.specs.declared.shared.allocator.Allocator.{Allocator}
 use Rattle.core_frames.specs.Uses.{HasSplit}
 use Rattle.core_frames.specs.declared.shared.allocator.Core.{Core}
-use Rattle.frame_slots.specs.Calls.{laid_down}
 use Rattle.frame_slots.specs.Numbers.{IsHeldBy}
-use Rattle.frame_slots.specs.Openings.{Shares, IsUnusedState}
-use Rattle.frame_slots.specs.Slots.{FindsNothing}
-use Rattle.frame_slots.specs.declared.core_state.CoreState.{CoreState}
+use Rattle.frame_slots.specs.Slots.{FindsNothing, laid_down}
 use Rattle.frame_slots.specs.declared.receipt.Receipt.{Receipt}
-use Rattle.frame_slots.specs.declared.shared.Shared.{Shared}
-
--- just these blocks were laid down at their slots before any core was handed out
-abbrev pub HasLaidDown : List FrameBlock → Shared → Type 0
-HasLaidDown blocks shared = map laid_down shared.reclaimed.items ≡ blocks
 
 -- the core keeps just those of so many frames that the image holds and none of the blocks has, and
 -- lends one block for each of these
@@ -30,24 +20,6 @@ pub record KeepsRest (frames : ℕ) (numbers : List ℕ) (blocks : List FrameBlo
   pub all : (x : ℕ) → x < frames → IsHeldBy numbers x → IsFree blocks x → IsHeld (kept_by c) x
   pub only : (x : ℕ) → IsHeld (kept_by c) x → IsHeldBy numbers x × IsFree blocks x
   pub lent : lent_by c ≡ pos (length blocks)
-
--- the last core keeps what the image holds besides the blocks, and the others were not used yet
-pub record HasKeeper (frames : ℕ) (numbers : List ℕ) (blocks : List FrameBlock) (states : List CoreState)
-    : Type 0 where
-  pub others : List CoreState
-  pub keeper : CoreState
-  pub are : states ≡ others ++ keeper ∷ []
-  pub unused : All IsUnusedState others
-  pub keeps : KeepsRest frames numbers blocks keeper.core
-
--- these are all cores of one allocator of this memory, which has laid these blocks down; what the image
--- with these numbers holds besides is kept
-pub record AreReopened (key : Key) (numbers : List ℕ) (blocks : List FrameBlock) (states : List CoreState)
-    : Type 0 where
-  pub count : length states ≡ key.cores
-  pub one : (shared : Shared) × (memory_of shared.allocator ≡ key) × HasLaidDown blocks shared
-      × All (Shares shared) states
-  pub keeper : HasKeeper key.frames numbers blocks states
 
 -- why an image was not followed: memory was wanting, or a block that was claimed is not held by itself
 -- or some block was not found

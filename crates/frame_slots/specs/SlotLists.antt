@@ -1,8 +1,10 @@
 -- Lists of slots: where the slot of a block stands, and where none does.
-use Rattle.std.specs.Prelude.{◌≡◌, ℕ, ◌+◌, ◌-◌, ◌*◌, ◌/◌, ◌%◌, ◌^◌, ◌<◌, ◌≤◌, List, length, slice_index, slice_index_or, vec_capacity}
+use Rattle.std.specs.Prelude.{◌≡◌, ℕ, ◌+◌, ◌-◌, ◌*◌, ◌/◌, ◌%◌, ◌^◌, ◌<◌, ◌≤◌, List, length, slice_index, slice_index_or, vec_len, vec_capacity}
 use Rattle.std.specs.Int.{bit_at}
 use Rattle.frame_words.specs.Geometry.{child_frames}
+use Rattle.core_frames.specs.Cores.{IsCoreOf}
 use Rattle.core_frames.specs.declared.shared.allocator.Allocator.{Allocator}
+use Rattle.core_frames.specs.declared.shared.allocator.Core.{Core}
 use Rattle.frame_slots.specs.Slots.{IsSlotFor}
 use Rattle.frame_slots.specs.declared.slot.Slot.{Slot}
 use Rattle.frame_slots.specs.declared.slots.SlotList.{SlotList}
@@ -32,6 +34,15 @@ AreSlotsOf a slots gaps = (frame order : ℕ) (d : Slot) → order ≤ 9 → fra
 -- they are those of the list
 abbrev pub IsListOf : Allocator → SlotList → Type 0
 IsListOf a s = AreSlotsOf a s.list.items s.gaps.words.items
+
+-- the list and the core are the allocator's
+abbrev pub HasListAndCore : Allocator → SlotList → Core → Type 0
+HasListAndCore a s c = IsListOf a s × IsCoreOf a c
+
+-- the place is the next one of the list, and no block's
+pub record IsNextBetween (place : ℕ) (s : SlotList) : Type 0 where
+  pub next : place ≡ vec_len s.list
+  pub between : IsBetween place
 
 -- there is room for the slots of all blocks of so many frames
 abbrev pub HasRoomFor : ℕ → SlotList → Type 0

@@ -1,17 +1,16 @@
--- What clauses say of slots, and of takes and splits at them.
-use Rattle.std.specs.Prelude.{◌≡◌, ◌⊎◌, ℕ, pos, ◌+◌, ◌-◌, ◌%◌, ◌^◌, ◌+ℤ◌, ◌-ℤ◌, ◌<◌, ◌≤◌, Some, []}
-use Rattle.frame_words.specs.declared.fault.TakeFault.{TakeFault}
-use Rattle.frame_words.specs.declared.fault.TakeFault.TheVariants.{BadOrder, NoBlock, Contended}
+-- What clauses say of slots, and of the cores that blocks at them are taken by.
+use Rattle.std.specs.Prelude.{◌≡◌, ℕ, pos, ◌+ℤ◌, ◌-ℤ◌, Some, []}
+use Rattle.frame_model.specs.declared.block.FrameBlock.{FrameBlock}
 use Rattle.frame_core.specs.Block.{block, IsBlock}
 use Rattle.frame_core.specs.Events.{eye}
-use Rattle.frame_core.specs.Mover.{LiesInside}
 use Rattle.frame_core.specs.View.{holder}
-use Rattle.low_frames.specs.Outcomes.{HasNoBootFrame}
-use Rattle.frame_table.specs.Seats.{id_of}
-use Rattle.core_frames.specs.Cores.{memory_of, lent_by, kept_by, losses_by}
-use Rattle.core_frames.specs.Uses.{HasMovedForEach, IsRefusedFor}
+use Rattle.frame_table.specs.Seats.{block_in, id_of}
+use Rattle.frame_table.specs.declared.block.Block.{Block}
+use Rattle.core_frames.specs.Cores.{memory_of, IsCoreOf, IsOutOf, lent_by, kept_by, losses_by}
+use Rattle.core_frames.specs.Uses.{HasMovedForEach}
 use Rattle.core_frames.specs.declared.shared.allocator.Allocator.{Allocator}
 use Rattle.core_frames.specs.declared.shared.allocator.Core.{Core}
+use Rattle.frame_slots.specs.declared.receipt.Receipt.{Receipt}
 use Rattle.frame_slots.specs.declared.slot.Slot.{Slot}
 
 -- the slot is one for this block of the allocator's memory: what rests there is the right to it
@@ -21,33 +20,9 @@ pub record IsSlotFor (a : Allocator) (frame order : ℕ) (p : Slot) : Type 0 whe
   pub rests : p.perch.view ≡ eye (holder p.perch.view.view.about (block frame order)) []
   pub is_block : IsBlock (memory_of a) (block frame order)
 
--- there is such a block in the allocator's memory
-abbrev pub HasBlock : ℕ → ℕ → Allocator → Type 0
-HasBlock order frame a = IsBlock (memory_of a) (block frame order)
-
--- the allocator's memory has both halves of the block
-pub record HasHalves (order frame : ℕ) (a : Allocator) : Type 0 where
-  pub some : 0 < order
-  pub lower : HasBlock (order - 1) frame a
-  pub upper : HasBlock (order - 1) (frame + 2 ^ (order - 1)) a
-
--- there is such a block in the allocator's memory, none of whose frames its opening held back or is
--- past the end, and the core lends one block more
-pub record TakesAt (a : Allocator) (order frame : ℕ) (c d : Core) : Type 0 where
-  pub is_block : HasBlock order frame a
-  pub no_boot_frame : HasNoBootFrame (memory_of a) (block frame order)
-  pub inside : LiesInside (memory_of a) (block frame order)
-  pub lent : lent_by d ≡ lent_by c +ℤ pos 1
-
--- there is such a block in the allocator's memory, and the core lends one block less
-pub record GivesAt (a : Allocator) (order frame : ℕ) (c d : Core) : Type 0 where
-  pub block : HasBlock order frame a
-  pub lent : lent_by d ≡ lent_by c -ℤ pos 1
-
--- the allocator's memory has both halves of the block, and the core lends one block more
-pub record SplitsAt (a : Allocator) (order frame : ℕ) (c d : Core) : Type 0 where
-  pub halves : HasHalves order frame a
-  pub lent : lent_by d ≡ lent_by c +ℤ pos 1
+-- the block that a receipt says was laid down
+abbrev pub laid_down : Receipt → FrameBlock
+laid_down r = block r.frame r.order
 
 -- a move was made for each tree of the memory, for an order of blocks, no exchange was lost, and no
 -- block more is lent
@@ -56,21 +31,26 @@ pub record FindsNothing (a : Allocator) (order : ℕ) (c d : Core) : Type 0 wher
   pub unlost : losses_by d ≡ losses_by c
   pub lent : lent_by d ≡ lent_by c
 
--- a move was made for each tree of the memory, for an order of blocks, an exchange was lost to other
--- cores, and no block more is lent
-pub record LosesAt (a : Allocator) (order : ℕ) (c d : Core) : Type 0 where
-  pub looked : HasMovedForEach a order c d
-  pub lost : losses_by c < losses_by d
-  pub lent : lent_by d ≡ lent_by c
-
--- the core lends as many blocks as before
-abbrev pub LendsAsBefore : Core → Core → Type 0
-LendsAsBefore c d = lent_by d ≡ lent_by c
+-- the core lends no block and keeps none
+pub record IsUnused (c : Core) : Type 0 where
+  pub lent : lent_by c ≡ pos 0
+  pub kept : kept_by c ≡ []
 
 -- the core lends and keeps what it did before
 pub record IsUsedAsBefore (c d : Core) : Type 0 where
   pub lent : lent_by d ≡ lent_by c
   pub kept : kept_by d ≡ kept_by c
+
+-- the block is out again as it was, and the core lends and keeps what it did before
+pub record IsWholeAgain (a : Allocator) (b : Block) (c d : Core) (whole : Block) : Type 0 where
+  pub out : IsOutOf a whole
+  pub same : block_in whole ≡ block_in b
+  pub used : IsUsedAsBefore c d
+
+-- the core is the allocator's, lends no block and keeps none
+pub record IsUnusedCoreOf (a : Allocator) (c : Core) : Type 0 where
+  pub is_core : IsCoreOf a c
+  pub unused : IsUnused c
 
 -- the core lends so many blocks more, and keeps what it did before
 pub record HasTakenSoMany (n : ℕ) (c d : Core) : Type 0 where
@@ -86,26 +66,3 @@ pub record HasGivenSoMany (n : ℕ) (c d : Core) : Type 0 where
 pub record LendsForEach (count later : ℕ) (c d : Core) : Type 0 where
   pub lent : lent_by d -ℤ pos later ≡ lent_by c -ℤ pos count
   pub kept : kept_by d ≡ kept_by c
-
--- why a take of a block of the order was refused: as the allocator's is, and no block more is lent
-abbrev pub IsRefusedBlock : Allocator → ℕ → Core → Core → TakeFault → Type 0
-IsRefusedBlock a n c d fault = IsRefusedFor a n c d fault × LendsAsBefore c d
-
--- one more, of what is counted in 64 bits
-abbrev pub one_more : ℕ → ℕ
-one_more count = (count + 1) % 2 ^ 64
-
--- a block of an order that there is found no slot, and is counted; no block more is lent
-pub record FindsNoSlot (n : ℕ) (c d : Core) (count later : ℕ) : Type 0 where
-  pub order : n ≤ 9
-  pub counted : later ≡ one_more count
-  pub lent : lent_by d ≡ lent_by c
-
--- why a take of the order was refused: there are no blocks of that order; or a move was made for each
--- tree, and no exchange was lost; or one was; or the block that was taken found no slot, which alone
--- is counted
-abbrev pub IsRefusedTake : Allocator → ℕ → Core → Core → (count later : ℕ) → TakeFault → Type 0
-IsRefusedTake a n c d count later BadOrder = (9 < n) × LendsAsBefore c d × (later ≡ count)
-IsRefusedTake a n c d count later NoBlock = FindsNothing a n c d × (later ≡ count)
-IsRefusedTake a n c d count later Contended =
-    (LosesAt a n c d × (later ≡ count)) ⊎ FindsNoSlot n c d count later

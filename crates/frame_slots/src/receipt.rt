@@ -2,8 +2,7 @@
 
 ghost use Rattle.std.specs.Prelude.{◌≡◌, IfOk, IfSome, IfErr};
 ghost use Rattle.core_frames.specs.Cores.{IsOutOf};
-ghost use Rattle.frame_slots.specs.Calls.{laid_down};
-ghost use Rattle.frame_slots.specs.Slots.{IsSlotFor};
+ghost use Rattle.frame_slots.specs.Slots.{IsSlotFor, laid_down};
 
 use crate::slot::Slot;
 use atomic_table::Perch;

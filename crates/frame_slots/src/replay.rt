@@ -5,11 +5,10 @@ ghost use Rattle.std.specs.Prelude.{◌≡◌, [], ◌∷◌, ◌++◌, map, vec
 ghost use Rattle.std.specs.List.{All};
 ghost use Rattle.core_frames.specs.Cores.{memory_of, IsCoreOf, IsOutOf};
 ghost use Rattle.frame_core.specs.Block.{block as block_at};
-ghost use Rattle.frame_slots.specs.Calls.{laid_down};
 ghost use Rattle.frame_slots.specs.Numbers.{IsFreeIn, AreAllHeld};
-ghost use Rattle.frame_slots.specs.Openings.{IsUnused};
 ghost use Rattle.frame_slots.specs.Reopenings.{IsNoReplay, IsFollowing, KeepsRest, MakeUp};
-ghost use Rattle.frame_slots.specs.SlotLists.{IsListOf};
+ghost use Rattle.frame_slots.specs.SlotLists.{HasListAndCore, IsListOf};
+ghost use Rattle.frame_slots.specs.Slots.{IsUnused, IsUnusedCoreOf, laid_down};
 ghost use Rattle.frame_slots.specs.Reopenings.{HasFoundNone, HasHalved, HasLaid, LendsJust, waiting_blocks};
 
 use crate::claims::is_claimed;
@@ -50,8 +49,7 @@ impl SlotList {
     ) -> Result<Vec<Receipt>, Fault>
         requires slots { IsListOf allocator.now self.now }
         requires frames { frames ≡ (memory_of allocator.now).frames }
-        requires core { IsCoreOf allocator.now core.old }
-        requires unused { IsUnused core.old }
+        requires core { IsUnusedCoreOf allocator.now core.old }
         ensures core { IsCoreOf allocator.now core.new }
         ensures laid { IfOk result (λ receipts. map laid_down receipts.items ≡ claimed.now) }
         ensures rest { IfOk result (λ _. KeepsRest (memory_of allocator.now).frames numbers.now claimed.now core.new) }
@@ -181,8 +179,7 @@ fn settle(
     pending: &mut Vec<Block>,
     receipts: &mut Vec<Receipt>,
 ) -> Result<(), Fault>
-    requires slots { IsListOf allocator.now slots.now }
-    requires core { IsCoreOf allocator.now core.old }
+    requires both { HasListAndCore allocator.now slots.now core.old }
     requires out { IsOutOf allocator.now held
         × All (IsOutOf allocator.now) pending.old.items }
     requires follows { IsFollowing (memory_of allocator.now).frames numbers.now (held ∷ pending.old.items)

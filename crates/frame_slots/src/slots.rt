@@ -5,9 +5,8 @@ ghost use Rattle.std.specs.Prelude.{◌≡◌, ◌+◌, ◌≤◌, IfOk, IfErr, 
 ghost use Rattle.std.specs.List.{All};
 ghost use Rattle.core_frames.specs.Cores.{IsCoreOf, IsOutOf};
 ghost use Rattle.core_frames.specs.Uses.{HasGiven};
-ghost use Rattle.frame_table.specs.Seats.{block_in};
-ghost use Rattle.frame_slots.specs.SlotLists.{place_for, HasRoomFor, IsBetween, IsListOf};
-ghost use Rattle.frame_slots.specs.Slots.{IsSlotFor, IsUsedAsBefore, HasGivenSoMany};
+ghost use Rattle.frame_slots.specs.SlotLists.{place_for, HasRoomFor, HasListAndCore, IsListOf, IsNextBetween};
+ghost use Rattle.frame_slots.specs.Slots.{IsSlotFor, IsUsedAsBefore, IsWholeAgain, HasGivenSoMany};
 
 use crate::free_blocks::take_all;
 use crate::gaps::Gaps;
@@ -113,9 +112,8 @@ impl SlotList {
         core: &mut Core,
         mut blocks: Vec<Block>,
     ) -> Result<(), Fault>
-        requires slots { IsListOf allocator.now self.old }
+        requires both { HasListAndCore allocator.now self.old core.old }
         requires blocks { All (IsOutOf allocator.now) blocks.items }
-        requires core { IsCoreOf allocator.now core.old }
         ensures core { IsCoreOf allocator.now core.new }
         ensures slots { IfOk result (λ _. IsListOf allocator.now self.new) }
         ensures room { vec_capacity self.old.list ≤ vec_capacity self.new.list }
@@ -169,8 +167,7 @@ impl SlotList {
     ) -> Result<(), Fault>
         requires slots { IsListOf allocator.now self.old }
         requires held { IsOutOf allocator.now held.now }
-        requires place { place ≡ vec_len self.old.list }
-        requires between { IsBetween place }
+        requires place { IsNextBetween place self.old }
         ensures slots { IfOk result (λ _. IsListOf allocator.now self.new) }
         ensures len { IfOk result (λ _. vec_len self.new.list ≡ vec_len self.old.list + 1) }
         ensures room { vec_capacity self.old.list ≤ vec_capacity self.new.list }
@@ -203,9 +200,8 @@ impl SlotList {
     // in blocks below order 9, the first first: the core stays with the last tree, next to which no other
     // begins.
     fn add_each(&mut self, allocator: &Allocator, core: &mut Core, held: Block) -> Result<(), Fault>
-        requires slots { IsListOf allocator.now self.old }
+        requires both { HasListAndCore allocator.now self.old core.old }
         requires held { IsOutOf allocator.now held }
-        requires core { IsCoreOf allocator.now core.old }
         ensures core { IsCoreOf allocator.now core.new }
         ensures slots { IfOk result (λ _. IsListOf allocator.now self.new) }
         ensures room { vec_capacity self.old.list ≤ vec_capacity self.new.list }
@@ -222,10 +218,8 @@ impl SlotList {
 
     // The same for a block of order 9, which no halves make up again.
     fn add_huge(&mut self, allocator: &Allocator, core: &mut Core, held: Block) -> Result<(), Fault>
-        requires slots { IsListOf allocator.now self.old }
-        requires held { IsOutOf allocator.now held }
-        requires core { IsCoreOf allocator.now core.old }
-        requires huge { held.order ≡ 9 }
+        requires both { HasListAndCore allocator.now self.old core.old }
+        requires held { IsOutOf allocator.now held × (held.order ≡ 9) }
         ensures core { IsCoreOf allocator.now core.new }
         ensures slots { IfOk result (λ _. IsListOf allocator.now self.new) }
         ensures room { vec_capacity self.old.list ≤ vec_capacity self.new.list }
@@ -253,14 +247,12 @@ impl SlotList {
         core: &mut Core,
         held: Block,
     ) -> Result<Block, Fault>
-        requires slots { IsListOf allocator.now self.old }
+        requires both { HasListAndCore allocator.now self.old core.old }
         requires held { IsOutOf allocator.now held × (held.order ≤ 8) }
-        requires core { IsCoreOf allocator.now core.old }
         ensures core { IsCoreOf allocator.now core.new }
         ensures slots { IfOk result (λ _. IsListOf allocator.now self.new) }
         ensures room { vec_capacity self.old.list ≤ vec_capacity self.new.list }
-        ensures lends { IfOk result (λ _. IsUsedAsBefore core.old core.new) }
-        ensures same { IfOk result (λ b. IsOutOf allocator.now b × (block_in b ≡ block_in held)) }
+        ensures whole { IfOk result (IsWholeAgain allocator.now held core.old core.new) }
         ensures err { IfErr result (λ e. e ≡ Fault.NoMemory) }
     {
         let slot = Slot::of(allocator, &held);

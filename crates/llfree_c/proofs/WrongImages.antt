@@ -1,16 +1,15 @@
 -- No stop leaves a wrong image.
-use Rattle.std.proofs.Common.{◌≡◌, ◌↔◌, ⊎_elim, inl, inr, ℕ, ◌+◌, ◌*◌, ◌/◌, ◌%◌, ◌^◌, ◌<◌, ◌≤◌, max, List, refl, ap, sym, ◌∙◌, arith}
+use Rattle.std.proofs.Common.{◌≡◌, ◌↔◌, ⊎_elim, inl, inr, ℕ, ◌+◌, ◌*◌, ◌/◌, ◌%◌, ◌<◌, ◌≤◌, List, ap, sym, ◌∙◌, arith}
 use Rattle.std.proofs.lemmas.Bool.{cases_eq}
 use Rattle.std.specs.Prelude.{slice_index}
 use Rattle.std.specs.Int.{bit_at}
-use Rattle.std.specs.List.{sum_by, range_with_len}
 use Rattle.frame_words.specs.Words.{entry_word, free_in}
 use Rattle.frame_words.proofs.WordLemmas.{free_in-entry_word}
 use Rattle.frame_model.specs.declared.block.FrameBlock.{FrameBlock}
 use Rattle.frame_model.specs.declared.key.Key.{Key}
 use Rattle.frame_core.specs.Events.{views_of}
-use Rattle.frame_core.specs.Holding.{holders, IsHeld}
-use Rattle.frame_core.specs.Key.{frame_count, child_of}
+use Rattle.frame_core.specs.Holding.{holders}
+use Rattle.frame_core.specs.Key.{frame_count}
 use Rattle.frame_core.specs.Laws.{holding_of}
 use Rattle.frame_core.specs.Report.{held_at, held_within}
 use Rattle.frame_core.specs.Words.{free_of, huge_of, bit_of, bit_word_of, held_of, AreInRange}
@@ -18,9 +17,18 @@ use Rattle.frame_model.proofs.ReportLemmas.{held_within-child}
 use Rattle.frame_model.proofs.Sums.{range_same}
 use Rattle.frame_model.proofs.Steps.Shared.{bit-le}
 use Rattle.frame_slots.specs.Numbers.{entry_in, image_bit, IsHugeIn, IsHeldBy}
+use Rattle.core_frames.specs.Cores.{memory_of}
+use Rattle.core_frames.specs.declared.shared.allocator.Allocator.{Allocator}
+use Rattle.core_frames.specs.declared.shared.allocator.Core.{Core}
+use Rattle.frame_zones.specs.Zones.{zone_at}
+use Rattle.frame_zones.specs.declared.zones.Zones.{Zones}
+use Rattle.frame_zones.proofs.Parted.{some_of}
+use Rattle.zone_slots.specs.Calls.{zones_of}
+use Rattle.zone_slots.specs.ImageParts.{numbers_from}
 use Rattle.llfree_c.specs.CoreImages.{LeavesStop}
 use Rattle.llfree_c.specs.Images.{SaysAll}
-use Rattle.llfree_c.specs.WrongImages.{BootFrameIsClearInImage, CountersAreOff, ImageIsOfNoState, IsImageOfBlocks, held_in_child}
+use Rattle.llfree_c.specs.WrongImages.{BootFrameIsClearInImage, CountersAreOff, ImageIsOfNoState, IsImageOfBlocks, ZoneStandsAtAnothersPlace}
+use Rattle.llfree_c.specs.WrongImages.{held_in_child}
 
 module _ (key : Key) (words numbers : List ℕ) (r : AreInRange key words) (says : SaysAll key words numbers) where
   flag_said : (c : ℕ) → c < key.children → IsHugeIn numbers c ↔ (huge_of words c ≡ 1)
@@ -95,3 +103,29 @@ boot_frame_is_clear_in_image key numbers x sealed h named clear stop =
 
 pub counters_are_off : CountersAreOff
 counters_are_off key numbers off stop = off stop.words stop.says stop.exact
+
+-- numbers that read alike are left alike
+leaves_still : (key : Key) (numbers others : List ℕ)
+    → ((i : ℕ) → i < 9 * key.children → slice_index numbers i ≡ slice_index others i) → LeavesStop key numbers
+    → LeavesStop key others
+leaves_still key numbers others same stop = record {
+  state = stop.state;
+  fits = stop.fits;
+  words = stop.words;
+  rebuilt = stop.rebuilt;
+  says = λ c less. let s = stop.says c less in record {
+    entry = sym (same (9 * c) (omega (arith, less))) ∙ s.entry;
+    bits = λ w h. sym (same (9 * c + 1 + w) (omega (arith, less, h))) ∙ s.bits w h;
+  };
+  exact = stop.exact;
+  held = stop.held;
+  boot = stop.boot;
+}
+
+pub zone_stands_at_anothers_place : ZoneStandsAtAnothersPlace
+zone_stands_at_anothers_place s numbers others zone another within same none stops =
+    let zs : Zones = zones_of s in
+    let a : Allocator = some_of zs.zones.items (omega (arith, within)) in
+    let x : Core = some_of s.core.cores.items (omega (arith, within, s.is_core.parts.count)) in
+    none a (leaves_still (memory_of (zone_at zs zone a)) (numbers_from zs numbers zone) (numbers_from zs others another)
+    (same a) (stops zone within a x).stop)

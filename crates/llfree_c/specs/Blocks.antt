@@ -1,33 +1,40 @@
 -- What C carries of blocks, and what takes, gives and splits of it leave.
-use Rattle.std.specs.Prelude.{◌≡◌, ℕ, ◌+◌, ◌-◌, ◌^◌, true, Option, Some, None}
-use Rattle.frame_core.specs.Block.{block, IsBlock}
-use Rattle.frame_table.specs.Seats.{id_of}
-use Rattle.frame_table.specs.declared.block.Block.{Block}
-use Rattle.core_frames.specs.Cores.{memory_of}
-use Rattle.core_frames.specs.declared.shared.allocator.Allocator.{Allocator}
-use Rattle.frame_slots.specs.Calls.{allocator_of}
-use Rattle.frame_slots.specs.Slots.{TakesAt, SplitsAt}
-use Rattle.frame_slots.specs.declared.core_state.CoreState.{CoreState}
-use Rattle.llfree_c.specs.Rights.{memory_in}
+use Rattle.std.specs.Prelude.{◌≡◌, ℕ, ◌+◌, ◌-◌, ◌^◌, [], ◌∷◌, true, Option, Some, None}
+use Rattle.atomic_table.specs.declared.shared.Seat.{Seat}
+use Rattle.frame_model.specs.declared.view.Eye.{Eye}
+use Rattle.frame_zones.specs.declared.block.ZoneBlock.{ZoneBlock}
+use Rattle.zone_slots.specs.Blocks.{IsRightFor, frame_for}
+use Rattle.zone_slots.specs.Calls.{zones_of, SplitsFor}
+use Rattle.zone_slots.specs.Uses.{TakesByNumber}
+use Rattle.zone_slots.specs.declared.core_state.CoreState.{CoreState}
 use Rattle.llfree_c.specs.declared.block_handle.BlockHandle.{BlockHandle}
 
--- this very block is carried
-pub record Carries (h : BlockHandle) (b : Block) : Type 0 where
+-- the block of the order that begins at the frame of this number is carried, and this seat was its right
+pub record Carries (h : BlockHandle) (number n : ℕ) (seat : Seat (Unit {0}) Eye) : Type 0 where
   pub live : h.live ≡ true
-  pub frame : h.frame ≡ b.frame
-  pub order : h.order ≡ b.order
-  pub table : h.right.badge.table_id ≡ b.seat.table_id
-  pub about : memory_in h.right.badge.views ≡ b.seat.me.0.view.about
+  pub frame : h.frame ≡ number
+  pub order : h.order ≡ n
+  pub table : h.right.badge.table_id ≡ seat.table_id
+  pub views : h.right.badge.views ≡ seat.me.0 ∷ []
+  pub bare : seat.me.1 ≡ []
 
--- the block that is carried is one of the allocator's memory, and was handed out by it
-pub record IsOutOfOne (a : Allocator) (h : BlockHandle) : Type 0 where
-  pub table : h.right.badge.table_id ≡ id_of a.table
-  pub about : memory_in h.right.badge.views ≡ Some (memory_of a)
-  pub is_block : IsBlock (memory_of a) (block h.frame h.order)
+-- the block that is carried is one of the zones of the core, and was handed out there: what C carries is the right
+-- to it
+pub record IsOutOfOne (s : CoreState) (h : BlockHandle) : Type 0 where
+  pub eye : Eye
+  pub views : h.right.badge.views ≡ eye ∷ []
+  pub right : IsRightFor s h.frame h.order h.right.badge.table_id (eye, [])
 
--- what is carried, if a block is, was handed out by the core's allocator
+-- the struct carries this block of the zones of the core, by its number over all zones
+pub record IsCarriedFor (s : CoreState) (b : ZoneBlock) (h : BlockHandle) : Type 0 where
+  pub live : h.live ≡ true
+  pub frame : h.frame ≡ frame_for s b
+  pub order : h.order ≡ b.block.order
+  pub out : IsOutOfOne s h
+
+-- what is carried, if a block is, was handed out by a zone of the core
 abbrev pub IsEmptyOrOut : CoreState → BlockHandle → Type 0
-IsEmptyOrOut s h = h.live ≡ true → IsOutOfOne (allocator_of s) h
+IsEmptyOrOut s h = h.live ≡ true → IsOutOfOne s h
 
 -- the same of the core behind a handle, if one is
 abbrev pub IsOfTheAllocator : Option CoreState → BlockHandle → Type 0
@@ -38,13 +45,13 @@ IsOfTheAllocator None h = Unit
 pub record TakesHeld (n : ℕ) (h : BlockHandle) (s t : CoreState) : Type 0 where
   pub live : h.live ≡ true
   pub order : h.order ≡ n
-  pub out : IsOutOfOne (allocator_of s) h
-  pub taken : TakesAt (allocator_of s) n h.frame s.core t.core
+  pub out : IsOutOfOne s h
+  pub taken : TakesByNumber (zones_of s) n h.frame s.core t.core
 
 -- the block that was carried was split through the core, and its halves are carried
 pub record SplitsHeld (h lower upper : BlockHandle) (s t : CoreState) : Type 0 where
   pub live : (lower.live ≡ true) × (upper.live ≡ true)
   pub orders : (lower.order ≡ h.order - 1) × (upper.order ≡ h.order - 1)
   pub frames : (lower.frame ≡ h.frame) × (upper.frame ≡ h.frame + 2 ^ (h.order - 1))
-  pub out : IsOutOfOne (allocator_of s) lower × IsOutOfOne (allocator_of s) upper
-  pub split : SplitsAt (allocator_of s) h.order h.frame s.core t.core
+  pub out : IsOutOfOne s lower × IsOutOfOne s upper
+  pub split : SplitsFor h.order h.frame s t

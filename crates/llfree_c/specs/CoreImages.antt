@@ -1,10 +1,11 @@
 -- The image that the last core of an allocator leaves.
-use Rattle.std.specs.Prelude.{◌≡◌, ◌⊎◌, ℕ, ◌+◌, ◌*◌, ◌<◌, List, Option, Some, None, true, slice_index}
-use Rattle.std.specs.List.{All}
+use Rattle.std.specs.Prelude.{◌≡◌, ◌⊎◌, ℕ, ◌+◌, ◌*◌, ◌<◌, List, Option, Some, None, true, length, drop, take, slice_index, slice_index_or}
+use Rattle.std.specs.List.{All, sum_by}
 use Rattle.frame_words.specs.Words.{entry_word}
 use Rattle.frame_model.specs.declared.key.Key.{Key}
 use Rattle.frame_model.specs.declared.view.Eye.{Eye}
 use Rattle.frame_core.specs.Events.{State, views_of, Has, Fits}
+use Rattle.frame_core.specs.Image.{Contents, key_in}
 use Rattle.frame_core.specs.Laws.{holding_of}
 use Rattle.frame_core.specs.Rebuilt.{rebuilt_free, rebuilt_bits, IsRebuilt}
 use Rattle.frame_core.specs.Stops.{IsExact}
@@ -14,9 +15,14 @@ use Rattle.frame_table.specs.Seats.{view_of}
 use Rattle.frame_table.specs.Stopping.{HoldsFramesOf, HoldsBootFrames}
 use Rattle.frame_table.specs.declared.seats.CoreSeat.{CoreSeat}
 use Rattle.core_frames.specs.Cores.{memory_of, seat_of}
-use Rattle.frame_slots.specs.Calls.{allocator_of, frames_by}
-use Rattle.frame_slots.specs.declared.core_state.CoreState.{CoreState}
-use Rattle.llfree_c.specs.Images.{image_words, SaysAll}
+use Rattle.core_frames.specs.declared.shared.allocator.Allocator.{Allocator}
+use Rattle.core_frames.specs.declared.shared.allocator.Core.{Core}
+use Rattle.frame_zones.specs.Zones.{zone_count, zone_at, core_at}
+use Rattle.frame_zones.specs.declared.image.ZoneImage.{ZoneImage}
+use Rattle.zone_slots.specs.Calls.{zones_of, image_numbers_by}
+use Rattle.zone_slots.specs.ImageParts.{numbers_from}
+use Rattle.zone_slots.specs.declared.core_state.CoreState.{CoreState}
+use Rattle.llfree_c.specs.Images.{SaysAll}
 use Rattle.llfree_c.specs.Status.{closed, no_memory, no_room, cores_open}
 
 -- the numbers say of a child what these words will once they are rebuilt
@@ -28,6 +34,19 @@ pub record SaysOfRebuilt (key : Key) (words : List ℕ) (c : ℕ) (numbers : Lis
 -- the numbers say of each child what these words will once they are rebuilt
 abbrev pub SaysRebuilt : Key → List ℕ → List ℕ → Type 0
 SaysRebuilt key words numbers = (c : ℕ) → c < key.children → SaysOfRebuilt key words c numbers
+
+-- the numbers say of each child what the words of this image will once they are rebuilt
+abbrev pub SaysImage : Contents → List ℕ → Type 0
+SaysImage image numbers = SaysRebuilt (key_in image) image.words numbers
+
+-- how many numbers images have together before those of one of them: nine for each child
+abbrev pub numbers_ahead : List ZoneImage → ℕ → ℕ
+numbers_ahead images z = 9 * sum_by (λ i. i.image.geometry.children) (take z images)
+
+-- the numbers say so of each of these images, of one behind the other
+abbrev pub SaysEach : List ZoneImage → List ℕ → Type 0
+SaysEach images numbers = (z : ℕ) (i : ZoneImage) → z < length images
+    → SaysImage (slice_index_or images z i).image (drop (numbers_ahead images z) numbers)
 
 -- the numbers are those of the memory's words at a stop, rebuilt: each counter is exact, and just the
 -- frames of all blocks that were held are held, with those that nobody is ever given
@@ -51,15 +70,26 @@ pub record LeavesStopWith (key : Key) (last : CoreSeat) (numbers : List ℕ) : T
   pub seat : eye.view ≡ view_of last
   pub kept_held : All (IsHeldIn key stop.words) (view_of last).kept
 
--- these are the numbers of an image of the core's memory, at a stop with the core's own seat
+-- the numbers from those of this zone on are those of an image of it, at a stop with the core's own seat there
+abbrev pub StopsZone : CoreState → List ℕ → ℕ → Type 0
+StopsZone s numbers z = (a : Allocator) (x : Core)
+    → LeavesStopWith (memory_of (zone_at (zones_of s) z a)) (seat_of (core_at s.core z x))
+    (numbers_from (zones_of s) numbers z)
+
+-- these are the numbers of an image of the core's memory: it is so of each zone
 abbrev pub StopsCore : CoreState → List ℕ → Type 0
-StopsCore s numbers = LeavesStopWith (memory_of (allocator_of s)) (seat_of s.core) numbers
+StopsCore s numbers = (z : ℕ) → z < zone_count (zones_of s) → StopsZone s numbers z
+
+-- how many numbers an image has of the memory of the core behind a handle, or 0
+abbrev pub image_numbers_behind : Option CoreState → ℕ
+image_numbers_behind (Some s) = image_numbers_by s
+image_numbers_behind None = 0
 
 -- why a core left no image in so much room: it has more numbers, memory was wanting, or other cores
 -- were open
 abbrev pub HasNoStop : CoreState → (room status : ℕ) → Type 0
 HasNoStop s room status =
-    ((status ≡ no_room) × (room < image_words (frames_by s)))
+    ((status ≡ no_room) × (room < image_numbers_by s))
     ⊎ (status ≡ no_memory) ⊎ (status ≡ cores_open)
 
 -- the core behind a handle left an image

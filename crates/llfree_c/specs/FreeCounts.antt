@@ -5,7 +5,7 @@ use Rattle.frame_core.specs.Block.{block}
 use Rattle.frame_core.specs.Key.{frame_count}
 use Rattle.core_frames.specs.FreeCounts.{frames_together, clear_children}
 use Rattle.core_frames.specs.PlainState.{PlainState, memory_by, held_by}
-use Rattle.frame_slots.specs.declared.core_state.CoreState.{CoreState}
+use Rattle.zone_slots.specs.declared.core_state.CoreState.{CoreState}
 use Rattle.llfree_c.specs.SeenCores.{OnCore}
 use Rattle.llfree_c.specs.declared.plain.Plain.{Plain}
 

@@ -4,6 +4,9 @@ use Rattle.frame_words.specs.Geometry.{most_cores}
 use Rattle.frame_model.specs.declared.key.Key.{Key}
 use Rattle.frame_core.specs.Key.{most_ranges, AreRanges}
 use Rattle.frame_slots.specs.Numbers.{most_frames}
+use Rattle.zone_slots.specs.Cuts.{MayBeHeldBack}
+use Rattle.zone_slots.specs.Layouts.{Stretch, AreEven, AreZoneFrames}
+use Rattle.zone_slots.specs.ZoneSpans.{MayBeUsed}
 use Rattle.llfree_c.specs.Status.{no_memory, bad_geometry, bad_range}
 use Rattle.llfree_c.specs.declared.ranges.FrameRange.{FrameRange}
 
@@ -54,3 +57,38 @@ pub record IsMemoryOf (frames : ℕ) (ranges : List FrameRange) (key : Key) : Ty
   pub held_back : key.ranges ≡ pairs_of ranges
   pub sealed : key.sealed ≡ true
   pub lawful : MayLieBack frames ranges
+
+-- there are zones of so many frames without a hole, for so many cores
+pub record AreZoneSizes (frames cores : ℕ) : Type 0 where
+  pub zone_frames : AreZoneFrames frames
+  pub some_cores : 1 ≤ cores
+  pub few_cores : cores ≤ most_cores
+
+-- there are none
+abbrev pub HasNoZones : (frames cores status : ℕ) → Type 0
+HasNoZones frames cores status = (status ≡ bad_geometry) × ¬ AreZoneSizes frames cores
+
+-- the zones of so many frames without a hole may not hold the ranges back
+abbrev pub EvenZonesDoNotHold : ℕ → List Stretch → ℕ → Type 0
+EvenZonesDoNotHold frames ranges status = (status ≡ bad_range)
+    × ((zones : List Stretch) → AreEven frames zones → ¬ MayBeHeldBack zones ranges)
+
+-- why zones of so many frames were not opened: there are none for so many cores, they may not hold the ranges
+-- back, or memory was wanting
+abbrev pub IsUnopenedEven : (frames cores : ℕ) → List Stretch → ℕ → Type 0
+IsUnopenedEven frames cores ranges status =
+    HasNoZones frames cores status ⊎ EvenZonesDoNotHold frames ranges status ⊎ (status ≡ no_memory)
+
+-- zones may not lie so, or not for so many cores
+abbrev pub ZonesDoNotFit : ℕ → List Stretch → ℕ → Type 0
+ZonesDoNotFit cores zones status = (status ≡ bad_geometry) × ¬ MayBeUsed cores zones
+
+-- the zones may not hold the ranges back
+abbrev pub ZonesDoNotHold : (zones ranges : List Stretch) → ℕ → Type 0
+ZonesDoNotHold zones ranges status = (status ≡ bad_range) × ¬ MayBeHeldBack zones ranges
+
+-- why these zones were not opened: they may not lie so for so many cores, they may not hold the ranges back, or
+-- memory was wanting
+abbrev pub IsUnopenedIn : ℕ → (zones ranges : List Stretch) → ℕ → Type 0
+IsUnopenedIn cores zones ranges status =
+    ZonesDoNotFit cores zones status ⊎ ZonesDoNotHold zones ranges status ⊎ (status ≡ no_memory)

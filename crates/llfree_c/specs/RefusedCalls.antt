@@ -1,16 +1,20 @@
 -- Why takes and splits of several threads were refused, by the status that each answered.
 use Rattle.std.specs.Prelude.{◌≡◌, ◌⊎◌, ℕ, ◌<◌, true, false}
-use Rattle.frame_slots.specs.Calls.{FindsNoneFor, LosesFor, IsContendedFor, LendsNoMore, CountsNone, CountsOne, KeepsCore}
-use Rattle.frame_slots.specs.declared.core_state.CoreState.{CoreState}
+use Rattle.zone_slots.specs.Calls.{FindsNoneFor, LosesFor, IsContendedFor, CountsNone, CountsOne, KeepsCore}
+use Rattle.zone_slots.specs.declared.core_state.CoreState.{CoreState}
 use Rattle.llfree_c.specs.Status.{no_block, bad_order, not_held, not_closed, contended}
 use Rattle.llfree_c.specs.declared.block_handle.BlockHandle.{BlockHandle}
+
+-- the core found no block of the order in any zone, and lost no exchange
+pub record FindsNone (order : ℕ) (s t : CoreState) : Type 0 where
+  pub in_each : FindsNoneFor order s t
 
 -- why a take of the order by numbers was refused: there are no blocks of that order; or none was found and
 -- no exchange was lost; or one was, or the block that was taken found no slot, which alone is counted
 abbrev pub RefusesTakeAs : (order status : ℕ) → CoreState → CoreState → Type 0
 RefusesTakeAs order status s t =
-    ((status ≡ bad_order) × (9 < order) × LendsNoMore s t × CountsNone s t)
-    ⊎ ((status ≡ no_block) × FindsNoneFor order s t × CountsNone s t)
+    ((status ≡ bad_order) × (9 < order) × KeepsCore s t × CountsNone s t)
+    ⊎ ((status ≡ no_block) × FindsNone order s t × CountsNone s t)
     ⊎ ((status ≡ contended) × IsContendedFor order s t)
 
 -- why a take of a block of the order into the struct was refused: that carries one; there are no blocks of
@@ -18,8 +22,8 @@ RefusesTakeAs order status s t =
 abbrev pub RefusesBlockAs : (order : ℕ) → (held : BlockHandle) → (status : ℕ) → CoreState → CoreState → Type 0
 RefusesBlockAs order held status s t =
     ((status ≡ not_closed) × (held.live ≡ true) × KeepsCore s t)
-    ⊎ ((status ≡ bad_order) × (9 < order) × LendsNoMore s t)
-    ⊎ ((status ≡ no_block) × FindsNoneFor order s t)
+    ⊎ ((status ≡ bad_order) × (9 < order) × KeepsCore s t)
+    ⊎ ((status ≡ no_block) × FindsNone order s t)
     ⊎ ((status ≡ contended) × LosesFor order s t)
 
 -- why a split of a block of the order by numbers was refused: it has no halves; or it is not held; or a half

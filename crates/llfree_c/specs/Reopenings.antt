@@ -1,23 +1,16 @@
--- The memories that an opening at an image is asked for, and why there are none.
-use Rattle.std.specs.Prelude.{◌≡◌, ◌⊎◌, ℕ, ◌≤◌, List, [], ◌∷◌, ◌++◌, Option, Some, None, length, map}
+-- The memories for one thread that an opening at an image is asked for, and why there are none.
+use Rattle.std.specs.Prelude.{◌≡◌, ◌⊎◌, ℕ, ◌≤◌, List, [], ◌++◌, Option, Some, None, map}
 use Rattle.std.specs.List.{All}
 use Rattle.std.specs.List.Sorted.{IsPermutation}
-use Rattle.std.specs.declared.boxed.Box.{Box}
 use Rattle.frame_model.specs.declared.block.FrameBlock.{FrameBlock}
 use Rattle.frame_core.specs.Block.{block}
 use Rattle.core_frames.specs.PlainState.{PlainState, memory_by}
 use Rattle.frame_slots.specs.Claims.{Ascend, IsHeldAs, ShareNoFrame}
 use Rattle.frame_slots.specs.Numbers.{IsImageOf}
-use Rattle.frame_slots.specs.Openings.{IsUnusedState}
-use Rattle.frame_slots.specs.Reopenings.{HasKeeper, HasLaidDown, KeepsRest}
-use Rattle.frame_slots.specs.declared.core_state.CoreState.{CoreState}
-use Rattle.frame_slots.specs.declared.shared.Shared.{Shared}
-use Rattle.llfree_c.specs.OpenCores.{HasMemory, IsClosedHandle, IsCoreBehind, BoxShares, core_behind, states_in}
 use Rattle.llfree_c.specs.Openings.{HasNoSizes, IsMemoryOf}
 use Rattle.llfree_c.specs.Replays.{HoldsAllOf, HoldsOnly}
-use Rattle.llfree_c.specs.Status.{bad_image, bad_order, contended, no_memory, not_closed, not_held}
+use Rattle.llfree_c.specs.Status.{bad_image, bad_order, contended, no_memory, not_held}
 use Rattle.llfree_c.specs.declared.blocks.ClaimedBlock.{ClaimedBlock}
-use Rattle.llfree_c.specs.declared.core_handle.CoreHandle.{CoreHandle}
 use Rattle.llfree_c.specs.declared.plain.Plain.{Plain}
 
 -- the block that a claim names
@@ -84,42 +77,3 @@ pub record Reopens (frames : ℕ) (numbers : List ℕ) (claims : List ClaimedBlo
 abbrev pub ReopensBehind : ℕ → List ℕ → List ClaimedBlock → Option Plain → Type 0
 ReopensBehind frames numbers claims (Some p) = Reopens frames numbers claims p.allocator
 ReopensBehind frames numbers claims None = ⊥
-
--- an allocator of a memory that was left with these numbers, which laid down just the claimed blocks, which
--- may be claimed, before any core was handed out
-pub record IsReopened (frames : ℕ) (numbers : List ℕ) (claims : List ClaimedBlock) (shared : Shared)
-    : Type 0 where
-  pub memory : HasMemory frames [] shared
-  pub image : IsImageOf frames numbers
-  pub lawful : MayBeClaimed frames numbers claims
-  pub laid : (blocks : List FrameBlock) × HasLaidDown blocks shared
-      × All (IsHeldAs frames numbers) blocks × IsPermutation (claimed_blocks claims) blocks
-
--- the core behind the first handle keeps what the image holds and no claim names, and lends just the
--- claimed blocks; those behind the others were not used yet
-pub record HasKeeperBehind (frames : ℕ) (numbers : List ℕ) (claims : List ClaimedBlock)
-    (handles : List CoreHandle) : Type 0 where
-  pub keeper : CoreState
-  pub others : List CoreState
-  pub behind : map core_behind handles ≡ Some keeper ∷ map Some others
-  pub unused : All IsUnusedState others
-  pub keeps : KeepsRest frames numbers (claimed_blocks claims) keeper.core
-
--- one such allocator is shared by the cores behind all of the handles, of which the first keeps the rest
-abbrev pub ReopensCores : ℕ → List ℕ → List ClaimedBlock → List CoreHandle → Type 0
-ReopensCores frames numbers claims handles =
-    (shared : Shared) × IsReopened frames numbers claims shared × All (IsCoreBehind shared) handles
-    × HasKeeperBehind frames numbers claims handles
-
--- one such allocator is shared by the cores in all of the boxes, of which the last keeps the rest
-abbrev pub ShareReopened : {Z : Type 0} → ℕ → List ℕ → List ClaimedBlock → List (Box CoreState Z)
-    → Type 0
-ShareReopened frames numbers claims cores =
-    (shared : Shared) × IsReopened frames numbers claims shared × All (BoxShares shared) cores
-    × HasKeeper frames numbers (claimed_blocks claims) (states_in cores)
-
--- why no cores were opened at an image behind these handles: one was open, or as above
-abbrev pub HasNoCoresAt : ℕ → List ℕ → List ClaimedBlock → List CoreHandle → ℕ → Type 0
-HasNoCoresAt frames numbers claims handles status =
-    ((status ≡ not_closed) × ¬ All IsClosedHandle handles)
-    ⊎ IsNotReopened frames (length handles) numbers claims status

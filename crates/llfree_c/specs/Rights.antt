@@ -5,6 +5,7 @@ use Rattle.frame_core.specs.Block.{block}
 use Rattle.frame_core.specs.Events.{eye}
 use Rattle.frame_core.specs.View.{holder}
 use Rattle.frame_model.specs.contracts.view.Eye.{the_row}
+use Rattle.frame_model.specs.declared.block.FrameBlock.{FrameBlock}
 use Rattle.frame_model.specs.declared.key.Key.{Key}
 use Rattle.frame_model.specs.declared.view.Eye.{Eye}
 use Rattle.atomic_table.specs.Seated.{badge_owns}
@@ -14,11 +15,21 @@ use Rattle.atomic_table.specs.declared.badge.Badge.{Badge}
 abbrev pub right_owned : Badge Eye → Fml
 right_owned b = badge_owns the_row.coded.code b.table_id b.id b.views
 
--- the memory that a right is about
+-- the memory that a right is about, one zone's
 abbrev pub memory_in : List Eye → Option Key
 memory_in [] = None
 memory_in (e ∷ es) = e.view.about
 
--- there is a right, and it owns exactly this block
-abbrev pub IsRightTo : (frame order : ℕ) → List Eye → Type 0
-IsRightTo frame order views = views ≡ eye (holder (memory_in views) (block frame order)) [] ∷ []
+-- the first frame of the first of some blocks
+abbrev pub first_frame : List FrameBlock → ℕ
+first_frame [] = 0
+first_frame (b ∷ bs) = b.frame
+
+-- the first frame of the block that a right owns, counted from the first frame of its zone
+abbrev pub local_in : List Eye → ℕ
+local_in [] = 0
+local_in (e ∷ es) = first_frame e.view.own
+
+-- there is a right, and it owns exactly one block of the order
+abbrev pub IsRightTo : (order : ℕ) → List Eye → Type 0
+IsRightTo order views = views ≡ eye (holder (memory_in views) (block (local_in views) order)) [] ∷ []

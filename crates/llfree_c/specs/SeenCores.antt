@@ -1,7 +1,7 @@
 -- What clauses see of a core behind a handle.
 use Rattle.std.specs.Prelude.{ℕ, Option, Some, None}
-use Rattle.frame_slots.specs.Calls.{frames_by}
-use Rattle.frame_slots.specs.declared.core_state.CoreState.{CoreState}
+use Rattle.zone_slots.specs.Calls.{frames_by}
+use Rattle.zone_slots.specs.declared.core_state.CoreState.{CoreState}
 
 -- a core is behind the handle, and this is so of it
 abbrev pub OnCore : (CoreState → Type 0) → Option CoreState → Type 0

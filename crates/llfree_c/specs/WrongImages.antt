@@ -1,5 +1,5 @@
 -- Images that would be wrong: no stop leaves such numbers.
-use Rattle.std.specs.Prelude.{◌≡◌, ◌↔◌, ℕ, ◌+◌, ◌*◌, ◌<◌, List, true}
+use Rattle.std.specs.Prelude.{◌≡◌, ◌↔◌, ℕ, ◌+◌, ◌*◌, ◌<◌, List, slice_index, true}
 use Rattle.std.specs.List.{sum_by, range_with_len}
 use Rattle.frame_words.specs.Geometry.{child_frames}
 use Rattle.frame_words.specs.Words.{free_in}
@@ -10,8 +10,15 @@ use Rattle.frame_core.specs.Holding.{holders, IsHeld}
 use Rattle.frame_core.specs.Key.{frame_count, is_boot_frame}
 use Rattle.frame_core.specs.Laws.{holding_of}
 use Rattle.frame_core.specs.Stops.{IsExact}
+use Rattle.core_frames.specs.Cores.{memory_of}
+use Rattle.core_frames.specs.declared.shared.allocator.Allocator.{Allocator}
 use Rattle.frame_slots.specs.Numbers.{entry_in, IsHeldBy}
-use Rattle.llfree_c.specs.CoreImages.{LeavesStop}
+use Rattle.frame_zones.specs.Zones.{zone_count, zone_at}
+use Rattle.frame_zones.specs.declared.zones.Zones.{Zones}
+use Rattle.zone_slots.specs.Calls.{zones_of}
+use Rattle.zone_slots.specs.ImageParts.{numbers_from}
+use Rattle.zone_slots.specs.declared.core_state.CoreState.{CoreState}
+use Rattle.llfree_c.specs.CoreImages.{LeavesStop, StopsCore}
 use Rattle.llfree_c.specs.Images.{SaysAll}
 
 -- how many frames of a child lie in these blocks
@@ -39,3 +46,18 @@ BootFrameIsClearInImage = (key : Key) (numbers : List ℕ) (x : ℕ)
 abbrev pub CountersAreOff : Type 0
 CountersAreOff = (key : Key) (numbers : List ℕ)
     → ((words : List ℕ) → SaysAll key words numbers → ¬ IsExact key words) → ¬ LeavesStop key numbers
+
+-- at the place of this zone the numbers are those that others have from another zone's place on
+abbrev pub HasNumbersOf : Zones → (zone another : ℕ) → (numbers others : List ℕ) → Type 0
+HasNumbersOf zs zone another numbers others = (a : Allocator) (i : ℕ)
+    → i < 9 * (memory_of (zone_at zs zone a)).children
+    → slice_index (numbers_from zs numbers zone) i ≡ slice_index (numbers_from zs others another) i
+
+-- no image of all zones is left that has at the place of a zone the numbers of another zone, where these are none
+-- of an image of the zone
+abbrev pub ZoneStandsAtAnothersPlace : Type 0
+ZoneStandsAtAnothersPlace = (s : CoreState) (numbers others : List ℕ) (zone another : ℕ)
+    → zone < zone_count (zones_of s) → HasNumbersOf (zones_of s) zone another numbers others
+    → ((a : Allocator)
+    → ¬ LeavesStop (memory_of (zone_at (zones_of s) zone a)) (numbers_from (zones_of s) others another))
+    → ¬ StopsCore s numbers

@@ -1,7 +1,7 @@
 //! What C calls of an allocator for several threads by blocks that it carries itself.
 
 ghost use Rattle.std.specs.Prelude.{◌≡◌, ◌≢◌, ◌⊎◌, ◌≤◌, true, false};
-ghost use Rattle.frame_slots.specs.Calls.{SharesOne, GivesFor, KeepsCore};
+ghost use Rattle.zone_slots.specs.Calls.{SharesOne, GivesFor, KeepsCore};
 ghost use Rattle.llfree_c.specs.Blocks.{IsOfTheAllocator, TakesHeld, SplitsHeld};
 ghost use Rattle.llfree_c.specs.RefusedCalls.{RefusesBlockAs, RefusesHalvesAs};
 ghost use Rattle.llfree_c.specs.Status.{ok, bad_order, not_held, closed, not_closed, contended};

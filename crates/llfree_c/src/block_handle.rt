@@ -4,7 +4,8 @@ ghost use Rattle.std.specs.Prelude.{◌≡◌, true, false, IfSome, IfNone};
 ghost use Rattle.llfree_c.specs.Rights.{IsRightTo};
 
 use crate::block_right::BlockRight;
-use frame_core::HeldBlock;
+use atomic_table::Seat;
+use frame_core::{Eye, HeldBlock};
 use frame_table::Block;
 use std::mem::replace;
 
@@ -13,10 +14,11 @@ use std::mem::replace;
 #[derive(Drop)]
 pub struct BlockHandle {
     pub(crate) live: bool,
+    /// The number of its first frame over all zones.
     pub(crate) frame: u32,
     pub(crate) order: u8,
     pub(crate) right: BlockRight,
-    pub ghost tie: { live ≡ true → IsRightTo frame order right.badge.views },
+    pub ghost tie: { live ≡ true → IsRightTo order right.badge.views },
 }
 
 impl BlockHandle {
@@ -33,10 +35,10 @@ impl BlockHandle {
         }
     }
 
-    pub(crate) fn of(held: Block) -> BlockHandle
-        ensures { Carries result held }
+    /// The block of a zone, with the number of its first frame over all zones.
+    pub(crate) fn of(frame: u32, held: Block) -> BlockHandle
+        ensures { Carries result frame held.order held.seat }
     {
-        let frame = held.frame();
         let order = held.order();
         let badge = held.into_seat().into_badge();
         BlockHandle {
@@ -47,9 +49,9 @@ impl BlockHandle {
         }
     }
 
-    /// The block that was carried; none is from then on.
-    pub(crate) fn take_out(&mut self) -> Option<Block>
-        ensures some { IfSome result (Carries self.old) }
+    /// The number, the order and the right of the block that was carried; none is from then on.
+    pub(crate) fn take_out(&mut self) -> Option<(u32, u8, Seat<(), Eye>)>
+        ensures some { IfSome result (λ r. Carries self.old r.0 r.1 r.2) }
         ensures empty { self.new.live ≡ false }
         ensures none { IfNone result ((self.old.live ≡ false) × (self.new ≡ self.old)) }
     {
@@ -62,6 +64,6 @@ impl BlockHandle {
             order,
             right,
         } = replace(self, BlockHandle::empty());
-        Some(Block::of(frame, order, right.into_badge().into_seat()))
+        Some((frame, order, right.into_badge().into_seat()))
     }
 }

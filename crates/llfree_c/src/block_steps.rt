@@ -3,13 +3,15 @@
 ghost use Rattle.std.specs.Prelude.{◌≡◌, ◌≢◌, ◌⊎◌, ◌≤◌, true, false};
 ghost use Rattle.llfree_c.specs.RefusedCalls.{RefusesBlockAs, RefusesHalvesAs};
 ghost use Rattle.llfree_c.specs.Status.{ok, bad_order, not_held, not_closed, contended};
-ghost use Rattle.llfree_c.specs.Blocks.{IsEmptyOrOut, TakesHeld, SplitsHeld};
-ghost use Rattle.frame_slots.specs.Calls.{SharesOne, GivesFor, KeepsCore};
+ghost use Rattle.llfree_c.specs.Blocks.{IsEmptyOrOut, IsCarriedFor, TakesHeld, SplitsHeld};
+ghost use Rattle.zone_slots.specs.Blocks.{IsOutFor};
+ghost use Rattle.zone_slots.specs.Calls.{SharesOne, GivesFor, KeepsCore};
 
 use crate::block_handle::BlockHandle;
 use crate::statuses::{BAD_ORDER, CONTENDED, NO_BLOCK, NOT_CLOSED, NOT_HELD, OK};
-use frame_slots::CoreState;
 use frame_words::TakeFault;
+use frame_zones::ZoneBlock;
+use zone_slots::CoreState;
 
 pub(crate) fn take_block(state: &mut CoreState, order: u8, held: &mut BlockHandle) -> u32
     ensures shared { SharesOne state.old state.new }
@@ -23,8 +25,8 @@ pub(crate) fn take_block(state: &mut CoreState, order: u8, held: &mut BlockHandl
         return NOT_CLOSED;
     }
     match state.take_block(order) {
-        Ok(block) => {
-            *held = BlockHandle::of(block);
+        Ok(taken) => {
+            *held = carried(state, taken);
             OK
         }
         Err(TakeFault::BadOrder) => BAD_ORDER,
@@ -43,9 +45,10 @@ pub(crate) fn give_block(state: &mut CoreState, held: &mut BlockHandle) -> u32
     ensures stays { result ≡ not_held → held.new ≡ held.old }
     ensures known { (result ≡ ok) ⊎ (result ≡ not_held) }
 {
-    let Some(block) = held.take_out() else {
+    let Some((frame, order, seat)) = held.take_out() else {
         return NOT_HELD;
     };
+    let block = state.block_of(frame, order, seat);
     state.give_block(block);
     OK
 }
@@ -74,18 +77,30 @@ pub(crate) fn split_block(
     if held.order == 0 {
         return BAD_ORDER;
     }
-    let Some(block) = held.take_out() else {
+    let Some((frame, order, seat)) = held.take_out() else {
         return NOT_HELD;
     };
+    let block = state.block_of(frame, order, seat);
     match state.split_block(block) {
-        Ok((first, second)) => {
-            *held = BlockHandle::of(first);
-            *upper = BlockHandle::of(second);
+        Ok((lower, other)) => {
+            *held = carried(state, lower);
+            *upper = carried(state, other);
             OK
         }
-        Err(block) => {
-            *held = BlockHandle::of(block);
+        Err(whole) => {
+            *held = carried(state, whole);
             BAD_ORDER
         }
     }
+}
+
+// The struct that carries the block, by its number over all zones.
+#[tactic(auto, using(crate::proofs::CarriedBlocks::carried_out))]
+fn carried(state: &CoreState, held: ZoneBlock) -> BlockHandle
+    requires { IsOutFor state.now held }
+    ensures { IsCarriedFor state.now held result }
+{
+    let frame = state.frame_of(&held);
+    let ZoneBlock { zone: _, block } = held;
+    BlockHandle::of(frame, block)
 }

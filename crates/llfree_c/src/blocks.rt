@@ -51,7 +51,7 @@ pub(crate) fn claimed_in(
     Ok(blocks)
 }
 
-fn have_orders(claims: &[ClaimedBlock]) -> bool
+pub(crate) fn have_orders(claims: &[ClaimedBlock]) -> bool
     ensures { MatchBool result (All NamesAnOrder claims.now) (¬ All NamesAnOrder claims.now) }
 {
     for claim in claims {
@@ -62,7 +62,7 @@ fn have_orders(claims: &[ClaimedBlock]) -> bool
     true
 }
 
-fn blocks_in(heap: Global, claims: &[ClaimedBlock]) -> Result<Vec<FrameBlock>, u32>
+pub(crate) fn blocks_in(heap: Global, claims: &[ClaimedBlock]) -> Result<Vec<FrameBlock>, u32>
     ensures same { IfOk result (λ blocks. IsPermutation (claimed_blocks claims.now) blocks.items) }
     ensures ascend { IfOk result (λ blocks. Ascend blocks.items) }
     ensures err { IfErr result (λ e. e ≡ no_memory) }

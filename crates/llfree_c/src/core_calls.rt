@@ -2,9 +2,9 @@
 
 ghost use Rattle.std.specs.Prelude.{◌≡◌, ◌≢◌, ◌⊎◌, ◌≤◌, true, false, length};
 ghost use Rattle.std.specs.List.{All};
-ghost use Rattle.frame_slots.specs.Calls.{SharesOne, TakesFor, GivesFor, SplitsFor, KeepsCore};
-ghost use Rattle.llfree_c.specs.CoreImages.{LeavesCoreImage, LeavesNoCoreImage};
-ghost use Rattle.llfree_c.specs.Images.{image_words, StaysBehind};
+ghost use Rattle.zone_slots.specs.Calls.{SharesOne, TakesFor, GivesFor, SplitsFor, KeepsCore};
+ghost use Rattle.llfree_c.specs.CoreImages.{image_numbers_behind, LeavesCoreImage, LeavesNoCoreImage};
+ghost use Rattle.llfree_c.specs.Images.{StaysBehind};
 ghost use Rattle.llfree_c.specs.RefusedCalls.{RefusesTakeAs, RefusesSplitAs};
 ghost use Rattle.llfree_c.specs.Status.{ok, bad_order, not_held, closed, contended};
 ghost use Rattle.llfree_c.specs.OpenCores.{HasNoCores, IsClosedHandle, OpensCores};
@@ -12,14 +12,14 @@ ghost use Rattle.llfree_c.specs.SeenCores.{OnCores, frames_behind};
 
 use crate::core_handle::CoreHandle;
 use crate::core_images::leave_core_image;
-use crate::core_openings::{boxed_cores, hand_over};
+use crate::core_openings::open_even;
 use crate::core_steps::{give, split, take};
 use crate::ranges::FrameRange;
 use crate::statuses::{CLOSED, OK};
 use std::alloc::Global;
 
-/// Opens an allocator of so many frames, with a core behind each of these closed handles. All frames
-/// are free but those of the ranges, which are never given out.
+/// Opens a memory of so many frames, in zones of 2,097,152 frames, with a core behind each of these
+/// closed handles. All frames are free but those of the ranges, which are never given out.
 #[unsafe(no_mangle)]
 pub extern "C" fn llfree_open(
     handles: &mut [CoreHandle],
@@ -32,13 +32,7 @@ pub extern "C" fn llfree_open(
     ensures refused { result ≢ ok → handles.new ≡ handles.old }
     ensures why { result ≢ ok → HasNoCores frames ranges.now handles.old result }
 {
-    match boxed_cores(handles, heap, frames, ranges, true) {
-        Ok(cores) => {
-            hand_over(handles, cores);
-            OK
-        }
-        Err(status) => status,
-    }
+    open_even(handles, heap, frames, ranges, true)
 }
 
 /// Takes a block of the order, and writes its first frame.
@@ -130,8 +124,8 @@ pub extern "C" fn llfree_close(handle: &mut CoreHandle, heap: Global)
     let _state = handle.take_out(heap);
 }
 
-/// Writes the numbers of the memory's image, as many as `llfree_image_words` says, from the last open
-/// handle of an allocator, frees the allocator, and closes the handle.
+/// Writes the numbers of the memory's image, as many as `llfree_image_words` says of each zone, zone after
+/// zone, from the last open handle of a memory, frees the memory, and closes the handle.
 #[unsafe(no_mangle)]
 pub extern "C" fn llfree_close_image(
     handle: &mut CoreHandle,
@@ -140,7 +134,7 @@ pub extern "C" fn llfree_close_image(
 ) -> u32
     ensures left { result ≡ ok → LeavesCoreImage handle.old.state.value numbers.new }
     ensures behind { result ≡ ok
-        → StaysBehind (image_words (frames_behind handle.old.state.value)) numbers.old numbers.new }
+        → StaysBehind (image_numbers_behind handle.old.state.value) numbers.old numbers.new }
     ensures closes { result ≡ ok → handle.new.live ≡ false }
     ensures same { result ≢ ok → handle.new.state.value ≡ handle.old.state.value }
     ensures refused { result ≢ ok → (numbers.new ≡ numbers.old)

@@ -2,7 +2,7 @@
 
 ghost use Rattle.std.specs.Prelude.{◌*◌, ◌≤◌};
 ghost use Rattle.frame_words.specs.Geometry.{child_frames};
-ghost use Rattle.frame_slots.specs.FreeCounts.{CountsFrames, CountsHuge};
+ghost use Rattle.zone_slots.specs.FreeCounts.{CountsFrames, CountsHuge};
 ghost use Rattle.llfree_c.specs.FreeCounts.{CountsBehind};
 ghost use Rattle.llfree_c.specs.SeenCores.{frames_behind};
 

@@ -2,30 +2,28 @@
 
 ghost use Rattle.std.specs.Prelude.{◌≡◌, ◌≢◌, ◌⊎◌, ◌↔◌, length, IfOk, IfErr};
 ghost use Rattle.llfree_c.specs.Status.{ok, no_memory, cores_open};
-ghost use Rattle.frame_slots.specs.Calls.{frames_by};
+ghost use Rattle.zone_slots.specs.Calls.{image_numbers_by};
 ghost use Rattle.llfree_c.specs.CoreImages.{StopsCore, HasNoStop};
-ghost use Rattle.llfree_c.specs.Images.{image_words, StaysBehind};
+ghost use Rattle.llfree_c.specs.Images.{StaysBehind};
 
-use crate::images::llfree_image_words;
-use crate::rebuilt_image::write_rebuilt;
-use crate::sizes::geometry_of;
+use crate::rebuilt_image::write_images;
 use crate::statuses::{CORES_OPEN, NO_MEMORY, NO_ROOM, OK};
-use frame_slots::{CoreState, StopFault, open_cores};
 use frame_words::Fault;
 use std::alloc::Global;
 use std::mem::replace;
+use zone_slots::{CoreState, StopFault, open_cores, spans_of};
 
-/// Writes the numbers of the memory's image. A core of a fresh memory is behind it then, which stood
+/// Writes the numbers of the memory's image, zone after zone. A core of a fresh memory is behind it then, which stood
 /// in its place so that a refusal can put it back.
 pub(crate) fn leave_core_image(state: &mut CoreState, heap: Global, numbers: &mut [u64]) -> u32
     ensures left { result ≡ ok → StopsCore state.old numbers.new }
     ensures behind { result ≡ ok
-        → StaysBehind (image_words (frames_by state.old)) numbers.old numbers.new }
+        → StaysBehind (image_numbers_by state.old) numbers.old numbers.new }
     ensures same { result ≢ ok → state.new ≡ state.old }
     ensures refused { result ≢ ok → (numbers.new ≡ numbers.old)
         × HasNoStop state.old (length numbers.old) result }
 {
-    if numbers.len() < llfree_image_words(state.frames()) {
+    if numbers.len() < state.image_numbers() {
         return NO_ROOM;
     }
     let other = match spare_core(heap) {
@@ -33,8 +31,8 @@ pub(crate) fn leave_core_image(state: &mut CoreState, heap: Global, numbers: &mu
         Err(status) => return status,
     };
     match replace(state, other).stop(heap) {
-        Ok(image) => {
-            write_rebuilt(image.geometry(), image.words(), numbers);
+        Ok(images) => {
+            write_images(&images, numbers);
             OK
         }
         Err(StopFault { fault, core }) => {
@@ -56,13 +54,14 @@ fn stop_status(fault: Fault) -> u32
     }
 }
 
+// Of a memory with one frame.
 fn spare_core(heap: Global) -> Result<CoreState, u32>
     ensures { IfErr result (λ e. e ≡ no_memory) }
 {
-    let Ok(geometry) = geometry_of(1, 1) else {
+    let Ok(spans) = spans_of(heap, 1, &[(0, 1)], &[]) else {
         return Err(NO_MEMORY);
     };
-    let Ok(mut cores) = open_cores(heap, geometry, &[]) else {
+    let Ok(mut cores) = open_cores(heap, 1, &spans) else {
         return Err(NO_MEMORY);
     };
     match cores.pop() {

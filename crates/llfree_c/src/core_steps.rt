@@ -3,11 +3,11 @@
 ghost use Rattle.std.specs.Prelude.{◌≡◌, ◌≢◌, ◌⊎◌, ◌≤◌};
 ghost use Rattle.llfree_c.specs.RefusedCalls.{RefusesTakeAs, RefusesSplitAs};
 ghost use Rattle.llfree_c.specs.Status.{ok, bad_order, not_held, contended};
-ghost use Rattle.frame_slots.specs.Calls.{SharesOne, TakesFor, GivesFor, SplitsFor, KeepsCore};
+ghost use Rattle.zone_slots.specs.Calls.{SharesOne, TakesFor, GivesFor, SplitsFor, KeepsCore};
 
 use crate::statuses::{BAD_ORDER, CONTENDED, NO_BLOCK, NOT_HELD, OK};
-use frame_slots::{CoreState, Refusal};
 use frame_words::TakeFault;
+use zone_slots::{CoreState, Refusal};
 
 pub(crate) fn take(state: &mut CoreState, order: u8, frame: &mut u32) -> u32
     ensures shared { SharesOne state.old state.new }

@@ -1,21 +1,28 @@
 //! The numbers of an image, as C keeps them: nine for each child, its entry and its bit words.
 
-ghost use Rattle.std.specs.Prelude.{◌≡◌, ℕ, ◌⊎◌, ◌+◌, ◌*◌, ◌<◌, ◌≤◌, length, slice_index};
+ghost use Rattle.std.specs.Prelude.{◌≡◌, ℕ, ◌+◌, ◌*◌, ◌<◌, ◌≤◌, List, length, slice_index};
 ghost use Rattle.frame_core.specs.Image.{key_in};
 ghost use Rattle.llfree_c.specs.Images.{image_words, SaysOfChild, SaysAll, StaysBehind};
 ghost use Rattle.frame_slots.specs.Numbers.{most_frames};
+ghost use Rattle.frame_zones.specs.Spans.{most_zones};
+ghost use Rattle.zone_slots.specs.ImageParts.{numbers_of};
+ghost use Rattle.zone_slots.specs.Layouts.{Stretch, AreEven, MayBeLaidOut};
 
 use frame_core::Image;
 use frame_slots::CHILD_NUMBERS;
 use frame_words::{CHILD_FRAMES, CHILD_WORDS, MOST_FRAMES, entry};
+use zone_slots::MOST_ZONES;
 
-/// How many numbers the image of so many frames has; none where there is no such memory.
+/// How many numbers the image of so many frames has, in one zone or in even ones; none where there is no
+/// such memory.
 #[unsafe(no_mangle)]
 pub extern "C" fn llfree_image_words(frames: u32) -> usize
-    ensures some { frames ≤ most_frames → result ≡ image_words frames }
-    ensures none { most_frames < frames → result ≡ 0 }
+    ensures some { frames ≤ most_frames * most_zones → result ≡ image_words frames }
+    ensures none { most_frames * most_zones < frames → result ≡ 0 }
+    ensures zones { (zones : List Stretch) → AreEven frames zones → MayBeLaidOut zones
+        → result ≡ numbers_of zones }
 {
-    if frames > MOST_FRAMES {
+    if frames > MOST_FRAMES * MOST_ZONES as u32 {
         return 0;
     }
     CHILD_NUMBERS * frames.div_ceil(CHILD_FRAMES) as usize

@@ -1,12 +1,15 @@
 //! What would be wrong, and is not left: laws, proved as contracts of a function that does nothing.
 
 ghost use Rattle.llfree_c.specs.WrongImages.{BootFrameIsClearInImage, CountersAreOff, ImageIsOfNoState};
+ghost use Rattle.llfree_c.specs.WrongImages.{ZoneStandsAtAnothersPlace};
 
 /// No stop leaves a wrong image, neither of an allocator nor of words alone: none with a frame held that is in
 /// no block of the views at the stop, or clear that is in one; none with a frame clear that nobody is ever
-/// given; none with a counter that is off.
+/// given; none with a counter that is off. Nor is one of all zones left with the numbers of another zone at the
+/// place of one whose image they are not.
 pub fn wrong_images_are_not_left()
     ensures state { ImageIsOfNoState }
     ensures boot_frame { BootFrameIsClearInImage }
     ensures counters { CountersAreOff }
+    ensures zones { ZoneStandsAtAnothersPlace }
 {}

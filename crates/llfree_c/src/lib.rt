@@ -32,5 +32,9 @@ mod statuses;
 mod steps;
 mod stopped_words;
 mod unchecked_openings;
+mod zone_claims;
+mod zone_cores;
+mod zone_openings;
+mod zone_reopenings;
 
 pub use laws::wrong_images_are_not_left;

@@ -1,7 +1,8 @@
-//! Ranges of frames, as C passes them.
+//! Ranges of frames, and zones, as C passes them.
 
 ghost use Rattle.std.specs.Prelude.{◌≡◌, IfOk, IfErr};
 ghost use Rattle.llfree_c.specs.Openings.{pairs_of, HasNoPairs};
+ghost use Rattle.llfree_c.specs.Status.{no_memory};
 
 use crate::statuses::{BAD_RANGE, NO_MEMORY};
 use core_frames::MOST_RANGES;
@@ -23,6 +24,14 @@ pub(crate) fn pairs_in(heap: Global, ranges: &[FrameRange]) -> Result<Vec<(u32, 
     if ranges.len() > MOST_RANGES {
         return Err(BAD_RANGE);
     }
+    as_pairs(heap, ranges)
+}
+
+/// Each of them as a pair, however many there are.
+pub(crate) fn as_pairs(heap: Global, ranges: &[FrameRange]) -> Result<Vec<(u32, u32)>, u32>
+    ensures pairs { IfOk result (λ pairs. pairs.items ≡ pairs_of ranges.now) }
+    ensures err { IfErr result (λ e. e ≡ no_memory) }
+{
     let Ok(mut pairs) = Vec::with_capacity(heap, ranges.len()) else {
         return Err(NO_MEMORY);
     };

@@ -1,16 +1,44 @@
-//! The numbers of an image that is rebuilt as it is written.
+//! The numbers of images that are rebuilt as they are written.
 
-ghost use Rattle.std.specs.Prelude.{◌≡◌, ℕ, ◌+◌, ◌*◌, ◌<◌, ◌≤◌, length, slice_index};
+ghost use Rattle.std.specs.Prelude.{◌≡◌, ℕ, ◌+◌, ◌*◌, ◌<◌, ◌≤◌, drop, length, slice_index};
 ghost use Rattle.frame_words.specs.Words.{flag, entry_word};
 ghost use Rattle.frame_core.specs.Key.{key_of};
 ghost use Rattle.frame_core.specs.Rebuilt.{rebuilt_free, rebuilt_bits};
 ghost use Rattle.frame_core.specs.Words.{huge_of, set_of, bit_word_of, word_count};
-ghost use Rattle.llfree_c.specs.CoreImages.{SaysOfRebuilt, SaysRebuilt};
+ghost use Rattle.llfree_c.specs.CoreImages.{numbers_ahead, SaysEach, SaysImage, SaysOfRebuilt, SaysRebuilt};
 ghost use Rattle.llfree_c.specs.Images.{StaysBehind};
 
+use frame_core::Image;
 use frame_core::layout::{bits_place, entry_place};
 use frame_slots::CHILD_NUMBERS;
 use frame_words::{CHILD_FRAMES, CHILD_WORDS, Geometry, entry, entry_huge, lane};
+use frame_zones::ZoneImage;
+
+/// Writes the numbers of each image, rebuilt, of one behind the other. What lies behind them all stays.
+pub(crate) fn write_images(images: &[ZoneImage], numbers: &mut [u64])
+    requires room { numbers_ahead images.now (length images.now) ≤ length numbers.old }
+    ensures written { SaysEach images.now numbers.new }
+    ensures behind { StaysBehind (numbers_ahead images.now (length images.now)) numbers.old numbers.new }
+{
+    let mut from = 0;
+    for zone in images {
+        from = write_image(&zone.image, from, numbers);
+    }
+}
+
+// Writes those of one image from a place on, and answers the place behind them.
+fn write_image(image: &Image, from: usize, numbers: &mut [u64]) -> usize
+    requires room { from + 9 * image.now.geometry.children ≤ length numbers.old }
+    ensures written { SaysImage image.now (drop from numbers.new) }
+    ensures below { (i : ℕ) → i < from → slice_index numbers.new i ≡ slice_index numbers.old i }
+    ensures behind { StaysBehind (from + 9 * image.now.geometry.children) numbers.old numbers.new }
+    ensures end { result ≡ from + 9 * image.now.geometry.children }
+{
+    let geometry = image.geometry();
+    let (_front, rest) = numbers.split_at_mut(from);
+    write_rebuilt(geometry, image.words(), rest);
+    from + CHILD_NUMBERS * geometry.children as usize
+}
 
 /// Writes the numbers of the image that the words are rebuilt to: each counter exact, from their bits
 /// and huge flags alone. What lies behind these numbers stays.

@@ -3,8 +3,9 @@
 ghost use Rattle.std.specs.Prelude.{◌≡◌, ◌≢◌, ◌⊎◌, true, false};
 ghost use Rattle.std.specs.List.{All};
 ghost use Rattle.llfree_c.specs.OpenCores.{IsClosedHandle};
-ghost use Rattle.llfree_c.specs.Reopenings.{HasNoCoresAt, IsNotReopened, ReopensBehind, ReopensCores};
+ghost use Rattle.llfree_c.specs.Reopenings.{IsNotReopened, ReopensBehind};
 ghost use Rattle.llfree_c.specs.Status.{ok, not_closed};
+ghost use Rattle.llfree_c.specs.ZoneReopenings.{HasNoCoresAt, ReopensCores};
 
 use crate::blocks::ClaimedBlock;
 use crate::core_handle::CoreHandle;
@@ -48,7 +49,8 @@ pub extern "C" fn llfree_plain_reopen(
     OK
 }
 
-/// The same, with a core behind each of these closed handles. Any core gives the claimed blocks.
+/// The same of the zones of so many frames without a hole, with a core behind each of these closed
+/// handles. Any core gives the claimed blocks.
 #[unsafe(no_mangle)]
 pub extern "C" fn llfree_reopen(
     handles: &mut [CoreHandle],

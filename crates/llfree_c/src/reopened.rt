@@ -1,9 +1,18 @@
 //! Memories that were in use before.
 
-ghost use Rattle.std.specs.Prelude.{◌≡◌, IfOk, IfErr, length, vec_len};
+ghost use Rattle.std.specs.Prelude.{◌≡◌, ℕ, ◌<◌, IfOk, IfErr, length, slice_index_or, vec_len};
 ghost use Rattle.std.specs.List.{All};
+ghost use Rattle.std.specs.declared.alloc.Global.{Global};
+ghost use Rattle.std.specs.declared.vec.Vec.{Vec};
+ghost use Rattle.frame_model.specs.declared.block.FrameBlock.{FrameBlock};
+ghost use Rattle.frame_slots.specs.Claims.{Ascend};
+ghost use Rattle.zone_slots.specs.Layouts.{stretch_at, MayBeLaidOut};
+ghost use Rattle.zone_slots.specs.ZoneClaims.{blocks_within};
 ghost use Rattle.llfree_c.specs.OpenCores.{IsClosedHandle};
-ghost use Rattle.llfree_c.specs.Reopenings.{HasNoCoresAt, IsNotReopened, Reopens, ShareReopened};
+ghost use Rattle.llfree_c.specs.Reopenings.{IsNotReopened, Reopens};
+ghost use Rattle.llfree_c.specs.Replays.{EndsReplay};
+ghost use Rattle.llfree_c.specs.Status.{no_memory};
+ghost use Rattle.llfree_c.specs.ZoneReopenings.{HasNoCoresAt, IsNotReopenedIn, ReopenEven, ReopenStates, ShareReopened};
 
 use crate::blocks::{ClaimedBlock, claimed_in};
 use crate::core_handle::CoreHandle;
@@ -11,11 +20,14 @@ use crate::core_openings::boxed;
 use crate::plain::Plain;
 use crate::replay::replay;
 use crate::sizes::geometry_of;
-use crate::statuses::{BAD_GEOMETRY, CONTENDED, NO_MEMORY, NOT_CLOSED};
+use crate::statuses::{BAD_GEOMETRY, CONTENDED, NO_MEMORY};
+use crate::zone_claims::claimed_in_zones;
+use crate::zone_cores::{are_zone_frames, cores_for};
 use core_frames::PlainAllocator;
-use frame_slots::{CoreState, reopen_cores};
-use frame_words::{Fault, MOST_CORES};
+use frame_core::FrameBlock;
+use frame_words::Fault;
 use std::alloc::Global;
+use zone_slots::{CoreState, blocks_in, even_zones, reopen_cores, spans_of};
 
 impl Plain {
     /// Just the claimed blocks are out, and what the image holds besides is held for good.
@@ -38,6 +50,8 @@ impl Plain {
     }
 }
 
+/// The cores of the zones of so many frames without a hole, a box each, of which the last keeps what the
+/// image holds and no claim names.
 pub(crate) fn reopened_cores(
     handles: &[CoreHandle],
     heap: Global,
@@ -47,29 +61,84 @@ pub(crate) fn reopened_cores(
 ) -> Result<Vec<Box<CoreState, Global>>, u32>
     ensures count { IfOk result (λ cores. vec_len cores ≡ length handles.now) }
     ensures closed { IfOk result (λ _. All IsClosedHandle handles.now) }
-    ensures cores { IfOk result (λ cores. ShareReopened frames numbers.now claims.now cores.items) }
+    ensures cores { IfOk result (λ cores.
+        ReopenEven (length handles.now) frames numbers.now claims.now cores.items) }
     ensures err { IfErr result (HasNoCoresAt frames numbers.now claims.now handles.now) }
 {
-    for handle in handles {
-        if handle.live {
-            return Err(NOT_CLOSED);
-        }
-    }
-    let count = handles.len();
-    if count > MOST_CORES as usize {
+    let count = cores_for(handles)?;
+    if count == 0 || !are_zone_frames(frames) {
         return Err(BAD_GEOMETRY);
     }
-    let geometry = geometry_of(frames, count as u32)?;
-    let claimed = claimed_in(heap, frames, numbers, claims)?;
-    let states = match reopen_cores(heap, geometry, numbers, &claimed) {
-        Ok(states) => states,
-        Err(Fault::Contended) => return Err(CONTENDED),
-        Err(_) => return Err(NO_MEMORY),
+    let Ok(zones) = even_zones(heap, frames) else {
+        return Err(NO_MEMORY);
     };
-    let cores = boxed(heap, states)?;
-    if cores.len() == count {
-        Ok(cores)
-    } else {
-        Err(NO_MEMORY)
+    let states = reopened_states(heap, count, &zones, numbers, claims)?;
+    boxed(heap, states)
+}
+
+/// The cores of zones, of which the last keeps what the image holds and no claim names.
+pub(crate) fn reopened_states(
+    heap: Global,
+    cores: u32,
+    zones: &[(u32, u32)],
+    numbers: &[u64],
+    claims: &[ClaimedBlock],
+) -> Result<Vec<CoreState>, u32>
+    requires { MayBeLaidOut zones.now }
+    ensures states { IfOk result (λ states.
+        ReopenStates cores zones.now numbers.now claims.now states.items) }
+    ensures err { IfErr result (IsNotReopenedIn zones.now numbers.now claims.now) }
+{
+    let blocks = claimed_in_zones(heap, zones, numbers, claims)?;
+    states_with(heap, cores, zones, numbers, &blocks)
+}
+
+// The same of blocks that may be claimed.
+fn states_with(
+    heap: Global,
+    cores: u32,
+    zones: &[(u32, u32)],
+    numbers: &[u64],
+    blocks: &[FrameBlock],
+) -> Result<Vec<CoreState>, u32>
+    requires zones { MayBeLaidOut zones.now }
+    requires ascend { Ascend blocks.now }
+    ensures states { IfOk result (λ states.
+        ShareReopened cores zones.now numbers.now blocks.now states.items) }
+    ensures err { IfErr result EndsReplay }
+{
+    let lists = lists_by_zone(heap, zones, blocks)?;
+    let Ok(spans) = spans_of(heap, cores, zones, &[]) else {
+        return Err(NO_MEMORY);
+    };
+    match reopen_cores(heap, cores, &spans, numbers, &lists) {
+        Ok(states) => Ok(states),
+        Err(Fault::Contended) => Err(CONTENDED),
+        Err(_) => Err(NO_MEMORY),
     }
+}
+
+// The blocks that begin in each zone, counted from its first frame.
+fn lists_by_zone(
+    heap: Global,
+    zones: &[(u32, u32)],
+    blocks: &[FrameBlock],
+) -> Result<Vec<Vec<FrameBlock>>, u32>
+    requires zones { MayBeLaidOut zones.now }
+    requires ascend { Ascend blocks.now }
+    ensures count { IfOk result (λ lists. vec_len lists ≡ length zones.now) }
+    ensures each { IfOk result (λ lists. (z : ℕ) (v : Vec FrameBlock Global) → z < length zones.now
+        → (slice_index_or lists.items z v).items ≡ blocks_within (stretch_at zones.now z) blocks.now) }
+    ensures err { IfErr result (λ e. e ≡ no_memory) }
+{
+    let Ok(mut lists) = Vec::with_capacity(heap, zones.len()) else {
+        return Err(NO_MEMORY);
+    };
+    for &(first, frames) in zones {
+        let Ok(list) = blocks_in(heap, first, frames, blocks) else {
+            return Err(NO_MEMORY);
+        };
+        lists.push_reserved(list);
+    }
+    Ok(lists)
 }

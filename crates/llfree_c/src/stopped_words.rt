@@ -1,4 +1,4 @@
-//! The numbers of the image at which an allocator that was stopped goes on, from its words.
+//! The numbers of the image at which a zone that was stopped goes on, from its words.
 
 ghost use Rattle.std.specs.Prelude.{◌≡◌, ◌≢◌, length};
 ghost use Rattle.frame_core.specs.Words.{word_count};
@@ -14,7 +14,7 @@ use crate::sizes::geometry_of;
 use crate::statuses::{BAD_IMAGE, NO_ROOM, OK};
 use frame_core::layout::word_count;
 
-/// How many words an allocator of so many frames and cores has; none where there is no such memory.
+/// How many words a zone of so many frames and cores has; none where there is no such zone.
 #[unsafe(no_mangle)]
 pub extern "C" fn llfree_words(frames: u32, cores: u32) -> usize
     ensures some { AreMemorySizes frames cores → (key : Key) → HasFramesAndCores frames cores key
@@ -27,7 +27,7 @@ pub extern "C" fn llfree_words(frames: u32, cores: u32) -> usize
     }
 }
 
-/// Writes the numbers of the image that these words are rebuilt to, whatever their counters say.
+/// Writes the numbers of the image that these words of one zone are rebuilt to, whatever their counters say.
 #[unsafe(no_mangle)]
 pub extern "C" fn llfree_image_of_words(
     frames: u32,

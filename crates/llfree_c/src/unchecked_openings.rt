@@ -1,4 +1,4 @@
-//! The opening of an allocator that keeps no list of the blocks that are out.
+//! The opening of a memory that keeps no list of the blocks that are out.
 
 ghost use Rattle.std.specs.Prelude.{◌≡◌, ◌≢◌, false};
 ghost use Rattle.std.specs.List.{All};
@@ -6,9 +6,8 @@ ghost use Rattle.llfree_c.specs.Status.{ok};
 ghost use Rattle.llfree_c.specs.OpenCores.{HasNoCores, IsClosedHandle, OpensCores};
 
 use crate::core_handle::CoreHandle;
-use crate::core_openings::{boxed_cores, hand_over};
+use crate::core_openings::open_even;
 use crate::ranges::FrameRange;
-use crate::statuses::OK;
 use std::alloc::Global;
 
 /// As `llfree_open`, but only blocks that C carries can be taken, given and split.
@@ -24,11 +23,5 @@ pub extern "C" fn llfree_open_unchecked(
     ensures refused { result ≢ ok → handles.new ≡ handles.old }
     ensures why { result ≢ ok → HasNoCores frames ranges.now handles.old result }
 {
-    match boxed_cores(handles, heap, frames, ranges, false) {
-        Ok(cores) => {
-            hand_over(handles, cores);
-            OK
-        }
-        Err(status) => status,
-    }
+    open_even(handles, heap, frames, ranges, false)
 }

@@ -15,7 +15,6 @@ use Rattle.frame_words.specs.declared.fault.TakeFault.TheVariants.{BadOrder, NoB
 use Rattle.frame_core.specs.Block.{block, IsBlock}
 use Rattle.frame_core.specs.Mover.{LiesInside}
 use Rattle.low_frames.specs.Outcomes.{HasNoBootFrame}
-use Rattle.frame_slots.specs.Slots.{one_more}
 use Rattle.frame_zones.proofs.Rounds.{some_zone, some_core}
 use Rattle.frame_zones.specs.Splits.{HasSplitIn, SplitsIn}
 use Rattle.frame_zones.specs.Uses.{OthersStay, GivesIn, HasTakenIn, TakesAmong}
@@ -25,8 +24,9 @@ use Rattle.frame_zones.specs.declared.zones.ZoneCore.{ZoneCore}
 use Rattle.frame_zones.specs.declared.block.ZoneBlock.{ZoneBlock}
 use Rattle.zone_slots.specs.Blocks.{HasTakenBlock, HasSplitBlock}
 use Rattle.zone_slots.specs.Calls.{zones_of, laid_down, SharesOne, TakesFor}
-use Rattle.zone_slots.specs.Memories.{frame_numbers, number_for, AreNumbered}
-use Rattle.zone_slots.specs.Uses.{TakesInZone, GivesInZone, SplitsInZone, GivesByNumber, SplitsByNumber}
+use Rattle.zone_slots.specs.Layouts.{most_numbers}
+use Rattle.zone_slots.specs.Memories.{number_for, AreNumbered}
+use Rattle.zone_slots.specs.Uses.{TakesInZone, GivesInZone, SplitsInZone, GivesByNumber, SplitsByNumber, one_more}
 use Rattle.zone_slots.specs.Uses.{LendAsMany, FindsNoSlot, IsReceiptOf, HasTakenFor, IsRefusedBlock, IsRefusedTake}
 use Rattle.zone_slots.specs.declared.core_state.CoreState.{CoreState}
 use Rattle.zone_slots.specs.declared.memory.Memory.{Memory}
@@ -156,7 +156,7 @@ found_no_slot zs n b c d e count later are taken gives counted = record {
 
 -- the number of a block that was taken is one of all numbers
 pub number_fits : (zs : Zones) (n : ℕ) (c d : ZoneCore) (r : ZoneReceipt) → AreNumbered zs → AreCoresOf zs c
-    → HasTakenFor zs n c d r → number_for zs r < frame_numbers
+    → HasTakenFor zs n c d r → number_for zs r < most_numbers
 number_fits zs n c d r numbered are taken =
     let a : Allocator = some_zone zs r.zone taken.zone in
     let x : Core = some_core c r.zone (subst (λ k. r.zone < k) (sym are.parts.count) taken.zone) in

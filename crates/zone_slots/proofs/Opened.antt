@@ -9,9 +9,8 @@ use Rattle.frame_model.specs.declared.key.Key.{Key}
 use Rattle.core_frames.specs.declared.shared.allocator.Allocator.{Allocator}
 use Rattle.core_frames.specs.declared.shared.allocator.Core.{Core}
 use Rattle.core_frames.specs.Cores.{memory_of, IsCoreOf, IsNewCore}
-use Rattle.frame_slots.specs.Openings.{IsUnused}
 use Rattle.frame_slots.specs.SlotLists.{IsListOf}
-use Rattle.frame_slots.specs.Slots.{IsUsedAsBefore}
+use Rattle.frame_slots.specs.Slots.{IsUnused, IsUsedAsBefore}
 use Rattle.frame_slots.specs.declared.slots.SlotList.{SlotList}
 use Rattle.frame_zones.specs.Openings.{AreOpened, IsNewIn, IsAt, AreUnopenedFor}
 use Rattle.frame_zones.specs.Spans.{Place, place_of}

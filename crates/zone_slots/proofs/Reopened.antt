@@ -10,16 +10,16 @@ use Rattle.frame_table.specs.Ties.{table_sizes}
 use Rattle.core_frames.specs.declared.shared.allocator.Allocator.{Allocator}
 use Rattle.core_frames.specs.declared.shared.allocator.Core.{Core}
 use Rattle.core_frames.specs.Cores.{memory_of}
-use Rattle.frame_slots.specs.Calls.{laid_down}
-use Rattle.frame_slots.specs.Openings.{IsUnused}
 use Rattle.frame_slots.specs.Reopenings.{KeepsRest}
+use Rattle.frame_slots.specs.Slots.{IsUnused, laid_down}
 use Rattle.frame_slots.specs.declared.receipt.Receipt.{Receipt}
 use Rattle.frame_zones.specs.Uses.{OthersStay}
 use Rattle.frame_zones.specs.Zones.{zone_count, zone_at, core_at, AreCoresOf}
 use Rattle.frame_zones.specs.declared.zones.Zones.{Zones}
 use Rattle.frame_zones.specs.declared.zones.ZoneCore.{ZoneCore}
 use Rattle.frame_zones.proofs.Placing.{at_any_zone}
-use Rattle.zone_slots.specs.Reopenings.{numbers_before, numbers_from, claimed_in, KeepsRestIn, HasLaidIn}
+use Rattle.zone_slots.specs.ImageParts.{numbers_before, numbers_from}
+use Rattle.zone_slots.specs.Reopenings.{claimed_in, KeepsRestIn, HasLaidIn}
 
 -- what the written core keeps, at each default
 pub rest_here : (zs : Zones) (c d : ZoneCore) (z : ℕ) (b : Allocator) (w y : Core) (numbers : List ℕ) (blocks : List FrameBlock)

@@ -17,7 +17,8 @@ use Rattle.frame_zones.specs.Zones.{zone_count, zone_at, first_frame_of, first_f
 use Rattle.frame_zones.specs.declared.block.ZoneBlock.{ZoneBlock}
 use Rattle.frame_zones.specs.declared.zones.Zones.{Zones}
 use Rattle.zone_slots.specs.Blocks.{IsRightAt, IsRightIn}
-use Rattle.zone_slots.specs.Memories.{frame_numbers, AreNumbered}
+use Rattle.zone_slots.specs.Layouts.{most_numbers}
+use Rattle.zone_slots.specs.Memories.{AreNumbered}
 
 -- the block lies within the children of its zone
 within_children : (zs : Zones) (frame order : ℕ) (id : TableId) (me : Me (Unit {0}) Eye)
@@ -61,7 +62,7 @@ right_found zs frame order z id me right last =
     (subst (λ k. IsRightAt zs order id me right.zone k) local right.holds)
 
 -- the number of a block that is out is one of all numbers
-pub out_fits : (zs : Zones) (b : ZoneBlock) → AreNumbered zs → IsOutIn zs b → first_frame_in zs b < frame_numbers
+pub out_fits : (zs : Zones) (b : ZoneBlock) → AreNumbered zs → IsOutIn zs b → first_frame_in zs b < most_numbers
 out_fits zs b numbered out =
     let a : Allocator = some_zone zs b.zone out.zone in
     omega (arith, numbered b.zone a out.zone, (out.is_out a).is_block.inside, one-le-pow b.block.order 2 (omega arith))

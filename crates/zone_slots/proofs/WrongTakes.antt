@@ -9,12 +9,12 @@ use Rattle.frame_table.specs.Ties.{table_sizes}
 use Rattle.core_frames.specs.Cores.{memory_of}
 use Rattle.core_frames.specs.declared.shared.allocator.Allocator.{Allocator}
 use Rattle.core_frames.specs.declared.shared.allocator.Core.{Core}
-use Rattle.frame_slots.specs.Slots.{TakesAt}
 use Rattle.frame_zones.proofs.Rounds.{some_zone, some_core}
 use Rattle.frame_zones.specs.Frames.{IsFrameIn}
 use Rattle.frame_zones.specs.Zones.{zone_count, zone_at, core_at, first_frame_of}
 use Rattle.frame_zones.specs.declared.zones.Zones.{Zones}
 use Rattle.zone_slots.specs.Calls.{zones_of, TakesFor}
+use Rattle.zone_slots.specs.Uses.{TakesAt}
 use Rattle.zone_slots.specs.WrongTakes.{LiesFrom, TakenFromBoot, TakenFromAHole, TakenOfTwoZones}
 use Rattle.zone_slots.specs.WrongTakes.{NoneIsUnsought, ContendedForNothing, OrderIsAnother}
 use Rattle.zone_slots.specs.declared.core_state.CoreState.{CoreState}

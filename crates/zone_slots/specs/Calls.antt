@@ -4,11 +4,12 @@ use Rattle.std.specs.Arc.{arc_value}
 use Rattle.frame_words.specs.declared.fault.TakeFault.{TakeFault}
 use Rattle.frame_core.specs.Block.{block}
 use Rattle.frame_model.specs.declared.block.FrameBlock.{FrameBlock}
-use Rattle.frame_slots.specs.Slots.{one_more}
 use Rattle.frame_zones.specs.FreeCounts.{frames_among}
+use Rattle.frame_zones.specs.Zones.{zone_count}
 use Rattle.frame_zones.specs.declared.zones.Zones.{Zones}
+use Rattle.zone_slots.specs.ImageParts.{numbers_before}
 use Rattle.zone_slots.specs.Memories.{number_for}
-use Rattle.zone_slots.specs.Uses.{TakesByNumber, GivesByNumber, SplitsByNumber, LendAsMany, FindNothing, LoseSome, FindsNoSlot, IsRefusedBlock, IsRefusedTake}
+use Rattle.zone_slots.specs.Uses.{TakesByNumber, GivesByNumber, SplitsByNumber, LendAsMany, FindNothing, LoseSome, FindsNoSlot, IsRefusedBlock, IsRefusedTake, one_more}
 use Rattle.zone_slots.specs.declared.core_state.CoreState.{CoreState}
 use Rattle.zone_slots.specs.declared.zone_receipt.ZoneReceipt.{ZoneReceipt}
 
@@ -23,6 +24,10 @@ SharesOne s t = t.shared ≡ s.shared
 -- the frames of the core's memory, of all zones
 abbrev pub frames_by : CoreState → ℕ
 frames_by s = frames_among (zones_of s)
+
+-- how many numbers an image of the core's zones has
+abbrev pub image_numbers_by : CoreState → ℕ
+image_numbers_by s = numbers_before (zones_of s) (zone_count (zones_of s))
 
 -- the block that a receipt says was laid down, by its number among the frames of all zones
 abbrev pub laid_down : Zones → ZoneReceipt → FrameBlock

@@ -1,5 +1,5 @@
 -- The zones of a memory: the slots of their blocks, and the numbers of their frames.
-use Rattle.std.specs.Prelude.{◌≡◌, ℕ, ◌+◌, ◌^◌, ◌<◌, ◌≤◌, List, length, slice_index_or}
+use Rattle.std.specs.Prelude.{◌≡◌, ℕ, ◌+◌, ◌<◌, ◌≤◌, List, length, slice_index_or}
 use Rattle.core_frames.specs.declared.shared.allocator.Allocator.{Allocator}
 use Rattle.core_frames.specs.Cores.{IsOutOf}
 use Rattle.frame_table.specs.declared.block.Block.{Block}
@@ -8,6 +8,7 @@ use Rattle.frame_slots.specs.declared.slots.SlotList.{SlotList}
 use Rattle.frame_zones.specs.Sizes.{end_from}
 use Rattle.frame_zones.specs.Zones.{zone_count, zone_at, first_frame_of}
 use Rattle.frame_zones.specs.declared.zones.Zones.{Zones}
+use Rattle.zone_slots.specs.Layouts.{most_numbers}
 use Rattle.zone_slots.specs.declared.zone_receipt.ZoneReceipt.{ZoneReceipt}
 
 -- there is a list of slots for each zone, of that zone's own blocks
@@ -16,14 +17,10 @@ pub record AreSlotted (zs : Zones) (lists : List SlotList) : Type 0 where
   pub each : (z : ℕ) (a : Allocator) (s : SlotList) → z < zone_count zs
       → IsListOf (zone_at zs z a) (slice_index_or lists z s)
 
--- the frame past the last one that has a number
-abbrev pub frame_numbers : ℕ
-frame_numbers = 2 ^ 32
-
--- each zone ends there or before
+-- each zone ends where frames have numbers
 abbrev pub AreNumbered : Zones → Type 0
 AreNumbered zs = (z : ℕ) (a : Allocator) → z < zone_count zs
-    → end_from (first_frame_of zs z) (zone_at zs z a) ≤ frame_numbers
+    → end_from (first_frame_of zs z) (zone_at zs z a) ≤ most_numbers
 
 -- the number among those of all zones of the first frame of a block that was laid down
 abbrev pub number_for : Zones → ZoneReceipt → ℕ

@@ -6,9 +6,8 @@ use Rattle.frame_words.specs.declared.fault.Fault.{Fault}
 use Rattle.frame_words.specs.declared.fault.Fault.TheVariants.{BadRange, NoMemory}
 use Rattle.core_frames.specs.declared.shared.allocator.Allocator.{Allocator}
 use Rattle.core_frames.specs.Cores.{memory_of}
-use Rattle.frame_slots.specs.Openings.{IsUnused}
 use Rattle.frame_slots.specs.SlotLists.{HasRoomFor, IsListOf}
-use Rattle.frame_slots.specs.Slots.{IsUsedAsBefore}
+use Rattle.frame_slots.specs.Slots.{IsUnused, IsUsedAsBefore}
 use Rattle.frame_slots.specs.declared.slots.SlotList.{SlotList}
 use Rattle.frame_zones.specs.Openings.{AreAt}
 use Rattle.frame_zones.specs.Spans.{Place, place_of, end_of, MayBeZones, HoldsLawful}
@@ -16,7 +15,7 @@ use Rattle.frame_zones.specs.Zones.{zone_count, zone_at, InEach, AreCoresOf}
 use Rattle.frame_zones.specs.declared.spans.Span.{Span}
 use Rattle.frame_zones.specs.declared.zones.Zones.{Zones}
 use Rattle.frame_zones.specs.declared.zones.ZoneCore.{ZoneCore}
-use Rattle.zone_slots.specs.Memories.{frame_numbers}
+use Rattle.zone_slots.specs.Layouts.{most_numbers}
 use Rattle.zone_slots.specs.declared.core_state.CoreState.{CoreState}
 use Rattle.zone_slots.specs.declared.memory.Memory.{Memory}
 
@@ -61,7 +60,7 @@ IsUnusedState s = IsUnusedCore s.core
 
 -- the span ends where frames have numbers
 abbrev pub HasNumbers : Span → Type 0
-HasNumbers s = end_of (place_of s) ≤ frame_numbers
+HasNumbers s = end_of (place_of s) ≤ most_numbers
 
 -- zones may be opened like this: they may lie so, with a number for each frame, and may hold back
 -- what each of them is to

@@ -1,6 +1,6 @@
 -- What the cores of zones that are opened again share, and what they keep.
-use Rattle.std.specs.Prelude.{◌≡◌, ◌⊎◌, ℕ, ◌*◌, ◌<◌, List, [], ◌∷◌, ◌++◌, length, map, drop, take, slice_index_or}
-use Rattle.std.specs.List.{All, sum_by}
+use Rattle.std.specs.Prelude.{◌≡◌, ◌⊎◌, ℕ, ◌<◌, List, [], ◌∷◌, ◌++◌, length, map, slice_index_or}
+use Rattle.std.specs.List.{All}
 use Rattle.std.specs.declared.alloc.Global.{Global}
 use Rattle.std.specs.declared.vec.Vec.{Vec}
 use Rattle.frame_words.specs.declared.fault.Fault.{Fault}
@@ -8,25 +8,18 @@ use Rattle.frame_model.specs.declared.block.FrameBlock.{FrameBlock}
 use Rattle.core_frames.specs.declared.shared.allocator.Allocator.{Allocator}
 use Rattle.core_frames.specs.declared.shared.allocator.Core.{Core}
 use Rattle.core_frames.specs.Cores.{memory_of}
-use Rattle.frame_slots.specs.Calls.{laid_down}
 use Rattle.frame_slots.specs.Reopenings.{KeepsRest, IsNoReplay}
+use Rattle.frame_slots.specs.Slots.{laid_down}
 use Rattle.frame_slots.specs.declared.receipt.Receipt.{Receipt}
 use Rattle.frame_zones.specs.Spans.{Place}
 use Rattle.frame_zones.specs.Zones.{zone_count, zone_at, core_at}
 use Rattle.frame_zones.specs.declared.spans.Span.{Span}
 use Rattle.frame_zones.specs.declared.zones.Zones.{Zones}
 use Rattle.frame_zones.specs.declared.zones.ZoneCore.{ZoneCore}
+use Rattle.zone_slots.specs.ImageParts.{numbers_from}
 use Rattle.zone_slots.specs.Openings.{LieAt, Shares, IsUnusedState, IsNoOpening}
 use Rattle.zone_slots.specs.declared.core_state.CoreState.{CoreState}
 use Rattle.zone_slots.specs.declared.memory.Memory.{Memory}
-
--- how many numbers an image of all zones has before those of a zone: nine for each child
-abbrev pub numbers_before : Zones → ℕ → ℕ
-numbers_before zs z = 9 * sum_by (λ a. (memory_of a).children) (take z zs.zones.items)
-
--- the numbers from those of a zone on
-abbrev pub numbers_from : Zones → List ℕ → ℕ → List ℕ
-numbers_from zs numbers z = drop (numbers_before zs z) numbers
 
 -- the blocks of a zone that an opening is told to hold, counted from the zone's first frame
 abbrev pub claimed_in : List (Vec FrameBlock Global) → ℕ → Vec FrameBlock Global → List FrameBlock

@@ -1,12 +1,15 @@
 -- What takes, gives and splits of blocks of zones leave.
-use Rattle.std.specs.Prelude.{◌≡◌, ◌⊎◌, ℕ, ◌<◌, ◌≤◌}
+use Rattle.std.specs.Prelude.{◌≡◌, ◌⊎◌, ℕ, pos, ◌+◌, ◌-◌, ◌%◌, ◌^◌, ◌+ℤ◌, ◌-ℤ◌, ◌<◌, ◌≤◌}
 use Rattle.frame_words.specs.declared.fault.TakeFault.{TakeFault}
 use Rattle.frame_words.specs.declared.fault.TakeFault.TheVariants.{BadOrder, NoBlock, Contended}
+use Rattle.frame_core.specs.Block.{block, IsBlock}
+use Rattle.frame_core.specs.Mover.{LiesInside}
+use Rattle.low_frames.specs.Outcomes.{HasNoBootFrame}
 use Rattle.core_frames.specs.declared.shared.allocator.Allocator.{Allocator}
 use Rattle.core_frames.specs.declared.shared.allocator.Core.{Core}
-use Rattle.core_frames.specs.Cores.{lent_by}
+use Rattle.core_frames.specs.Cores.{memory_of, lent_by}
 use Rattle.core_frames.specs.Uses.{HasMovedForEach}
-use Rattle.frame_slots.specs.Slots.{TakesAt, GivesAt, SplitsAt, FindsNothing, one_more}
+use Rattle.frame_slots.specs.Slots.{FindsNothing}
 use Rattle.frame_zones.specs.Uses.{OthersStay, LendsAsMany, LosesIn, AreRefusedFor}
 use Rattle.frame_zones.specs.Zones.{zone_count, zone_at, core_at, InEach}
 use Rattle.frame_zones.specs.declared.zones.Zones.{Zones}
@@ -14,6 +17,34 @@ use Rattle.frame_zones.specs.declared.zones.ZoneCore.{ZoneCore}
 use Rattle.frame_zones.specs.declared.block.ZoneBlock.{ZoneBlock}
 use Rattle.zone_slots.specs.Memories.{IsInZone}
 use Rattle.zone_slots.specs.declared.zone_receipt.ZoneReceipt.{ZoneReceipt}
+
+-- there is such a block in the allocator's memory
+abbrev pub HasBlock : ℕ → ℕ → Allocator → Type 0
+HasBlock order frame a = IsBlock (memory_of a) (block frame order)
+
+-- the allocator's memory has both halves of the block
+pub record HasHalves (order frame : ℕ) (a : Allocator) : Type 0 where
+  pub some : 0 < order
+  pub lower : HasBlock (order - 1) frame a
+  pub upper : HasBlock (order - 1) (frame + 2 ^ (order - 1)) a
+
+-- there is such a block in the allocator's memory, none of whose frames its opening held back or is
+-- past the end, and the core lends one block more
+pub record TakesAt (a : Allocator) (order frame : ℕ) (c d : Core) : Type 0 where
+  pub is_block : HasBlock order frame a
+  pub no_boot_frame : HasNoBootFrame (memory_of a) (block frame order)
+  pub inside : LiesInside (memory_of a) (block frame order)
+  pub lent : lent_by d ≡ lent_by c +ℤ pos 1
+
+-- there is such a block in the allocator's memory, and the core lends one block less
+pub record GivesAt (a : Allocator) (order frame : ℕ) (c d : Core) : Type 0 where
+  pub block : HasBlock order frame a
+  pub lent : lent_by d ≡ lent_by c -ℤ pos 1
+
+-- the allocator's memory has both halves of the block, and the core lends one block more
+pub record SplitsAt (a : Allocator) (order frame : ℕ) (c d : Core) : Type 0 where
+  pub halves : HasHalves order frame a
+  pub lent : lent_by d ≡ lent_by c +ℤ pos 1
 
 -- every other zone lends as many blocks as before
 abbrev pub OthersLendAsMany : Zones → ℕ → ZoneCore → ZoneCore → Type 0
@@ -78,6 +109,10 @@ pub record LoseSome (zs : Zones) (n : ℕ) (c d : ZoneCore) : Type 0 where
   pub looked : InEach zs (λ a. HasMovedForEach a n) c d
   pub lost : (z : ℕ) × (z < zone_count zs) × LosesIn c d z
   pub lent : LendAsMany zs c d
+
+-- one more, of what is counted in 64 bits
+abbrev pub one_more : ℕ → ℕ
+one_more count = (count + 1) % 2 ^ 64
 
 -- a block of an order that there is found no slot, and is counted; no zone lends a block more
 pub record FindsNoSlot (zs : Zones) (n : ℕ) (c d : ZoneCore) (count later : ℕ) : Type 0 where

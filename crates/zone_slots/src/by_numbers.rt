@@ -1,14 +1,14 @@
 //! Takes, gives and splits of blocks whose rights rest at their slots.
 
 ghost use Rattle.std.specs.Prelude.{◌≡◌, ◌≢◌, IfOk, IfErr, IfSome, IfNone};
-ghost use Rattle.frame_slots.specs.Refusals.{IsRefusedSplit};
 ghost use Rattle.frame_zones.specs.Uses.{GivesIn};
 ghost use Rattle.frame_zones.specs.Zones.{AreCoresOf, IsOutIn};
+ghost use Rattle.zone_slots.specs.Refusals.{IsRefusedSplit};
 ghost use Rattle.zone_slots.specs.Uses.{HasTakenFor, IsReceiptOf, GivesByNumber, SplitsByNumber, IsRefusedTake};
 
 use crate::memory::Memory;
+use crate::refusal::Refusal;
 use crate::zone_receipt::ZoneReceipt;
-use frame_slots::Refusal;
 use frame_words::TakeFault;
 use frame_zones::{ZoneBlock, ZoneCore};
 

@@ -5,7 +5,7 @@ ghost use Rattle.zone_slots.specs.Calls.{frames_by, SharesOne, TakesFor, GivesFo
 ghost use Rattle.zone_slots.specs.Refusals.{RefusesSplit};
 
 use crate::core_state::CoreState;
-use frame_slots::Refusal;
+use crate::refusal::Refusal;
 use frame_words::TakeFault;
 
 impl CoreState {

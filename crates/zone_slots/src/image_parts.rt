@@ -3,8 +3,12 @@
 ghost use Rattle.std.specs.Prelude.{◌≡◌, ◌*◌, IfOk, IfErr};
 ghost use Rattle.zone_slots.specs.Layouts.{MayBeLaidOut};
 ghost use Rattle.frame_slots.specs.Numbers.{child_count_of};
-ghost use Rattle.zone_slots.specs.ImageParts.{numbers_of, AreStarts};
+ghost use Rattle.frame_zones.specs.Zones.{zone_count};
+ghost use Rattle.zone_slots.specs.Calls.{image_numbers_by};
+ghost use Rattle.zone_slots.specs.ImageParts.{numbers_of, numbers_before, AreStarts};
 
+use crate::core_state::CoreState;
+use crate::memory::Memory;
 use frame_words::{CHILD_FRAMES, CHILD_WORDS, Fault};
 use std::alloc::Global;
 
@@ -35,6 +39,27 @@ pub fn image_starts(alloc: Global, zones: &[(u32, u32)]) -> Result<Vec<usize>, F
         start += numbers_for(frames);
     }
     Ok(starts)
+}
+
+impl CoreState {
+    /// How many numbers an image of the core's zones has.
+    pub fn image_numbers(&self) -> usize
+        ensures { result ≡ image_numbers_by self.now }
+    {
+        self.shared.image_numbers()
+    }
+}
+
+impl Memory {
+    fn image_numbers(&self) -> usize
+        ensures { result ≡ numbers_before self.now.zones (zone_count self.now.zones) }
+    {
+        let mut sum = 0;
+        for frames in &self.zones.frames {
+            sum += numbers_for(*frames);
+        }
+        sum
+    }
 }
 
 // The numbers of so many frames.

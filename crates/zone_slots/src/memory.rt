@@ -3,7 +3,8 @@
 ghost use Rattle.std.specs.Prelude.{◌≡◌, ◌+◌, ◌<◌, IfOk, IfErr, IfSome};
 ghost use Rattle.frame_zones.specs.FreeCounts.{frames_among};
 ghost use Rattle.frame_zones.specs.Zones.{zone_count, first_frame_of, first_frame_in, IsOutIn};
-ghost use Rattle.zone_slots.specs.Memories.{frame_numbers, number_for, AreSlotted, AreNumbered, IsOutOfZone};
+ghost use Rattle.zone_slots.specs.Layouts.{most_numbers};
+ghost use Rattle.zone_slots.specs.Memories.{number_for, AreSlotted, AreNumbered, IsOutOfZone};
 ghost use Rattle.zone_slots.specs.Uses.{IsReceiptOf};
 
 use crate::zone_receipt::ZoneReceipt;
@@ -49,7 +50,7 @@ impl Memory {
     #[inline]
     pub(crate) fn number_of(&self, receipt: &ZoneReceipt) -> u32
         requires zone { receipt.now.zone < zone_count self.now.zones }
-        requires fits { number_for self.now.zones receipt.now < frame_numbers }
+        requires fits { number_for self.now.zones receipt.now < most_numbers }
         ensures { result ≡ number_for self.now.zones receipt.now }
     {
         self.number_at(receipt.zone, receipt.receipt.frame())
@@ -59,7 +60,7 @@ impl Memory {
     #[inline]
     pub(crate) fn number_at(&self, zone: u32, frame: u32) -> u32
         requires zone { zone < zone_count self.now.zones }
-        requires fits { first_frame_of self.now.zones zone + frame < frame_numbers }
+        requires fits { first_frame_of self.now.zones zone + frame < most_numbers }
         ensures { result ≡ first_frame_of self.now.zones zone + frame }
     {
         self.zones.firsts[zone as usize] as u32 + frame

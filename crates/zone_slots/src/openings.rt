@@ -11,15 +11,13 @@ ghost use Rattle.zone_slots.specs.Openings.{LieAt, Shares, IsListIn, AreListsIn,
 ghost use Rattle.zone_slots.specs.Openings.{HasNumbers, MayBeOpened, IsNoOpening, AreUnusedIn, AreAllCoresOf};
 
 use crate::core_state::CoreState;
+use crate::layouts::MOST_NUMBERS;
 use crate::memory::Memory;
 use frame_slots::SlotList;
 use frame_words::Fault;
 use frame_zones::{Span, ZoneCore, Zones};
 use std::alloc::Global;
 use std::sync::Arc;
-
-// The frame past the last one that has a number.
-const FRAME_NUMBERS: u64 = 4294967296;
 
 const CHILD_FRAMES: u64 = 512;
 
@@ -92,8 +90,8 @@ fn have_numbers(spans: &[Span]) -> bool
 fn has_numbers(span: &Span) -> bool
     ensures { MatchBool result (HasNumbers span.now) (¬ HasNumbers span.now) }
 {
-    span.first <= FRAME_NUMBERS
-        && CHILD_FRAMES * u64::from(span.geometry.children) <= FRAME_NUMBERS - span.first
+    span.first <= MOST_NUMBERS
+        && CHILD_FRAMES * u64::from(span.geometry.children) <= MOST_NUMBERS - span.first
 }
 
 // The slots of each zone's blocks, found through the last core.

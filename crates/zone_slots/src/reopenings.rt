@@ -4,9 +4,8 @@ ghost use Rattle.std.specs.Prelude.{◌≡◌, ℕ, ◌+◌, ◌<◌, IfOk, IfEr
 ghost use Rattle.core_frames.specs.declared.shared.allocator.Allocator.{Allocator};
 ghost use Rattle.core_frames.specs.declared.shared.allocator.Core.{Core};
 ghost use Rattle.core_frames.specs.Cores.{memory_of};
-ghost use Rattle.frame_slots.specs.Calls.{laid_down};
-ghost use Rattle.frame_slots.specs.Openings.{IsUnused};
 ghost use Rattle.frame_slots.specs.Reopenings.{KeepsRest, IsNoReplay};
+ghost use Rattle.frame_slots.specs.Slots.{IsUnused, laid_down};
 ghost use Rattle.frame_zones.specs.Spans.{place_of};
 ghost use Rattle.frame_zones.specs.Uses.{OthersStay};
 ghost use Rattle.frame_zones.specs.Zones.{zone_count, zone_at, core_at, AreCoresOf};

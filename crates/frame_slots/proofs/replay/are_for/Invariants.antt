@@ -1,5 +1,5 @@
 use Rattle.std.proofs.Common.{◌≡◌, map, take}
-use Rattle.frame_slots.specs.Calls.{laid_down}
+use Rattle.frame_slots.specs.Slots.{laid_down}
 use Rattle.frame_slots.proofs.replay.are_for.Given as goal
 
 abbrev pub invariant-loop-i : goal.invariant-loop-i

@@ -1,7 +1,5 @@
-use Rattle.std.proofs.Common.{List, [], ◌∷◌, ap, ◌∙◌, rules}
+use Rattle.std.proofs.Common.{[], ◌∷◌, ap, ◌∙◌, rules}
 use Rattle.std.proofs.lemmas.List.{map-append}
-use Rattle.std.specs.declared.boxed.Box.{Box}
-use Rattle.frame_slots.specs.declared.core_state.CoreState.{CoreState}
 use Rattle.llfree_c.specs.OpenCores.{states_in}
 use Rattle.llfree_c.proofs.core_openings.set_next.Goals as goal
 

@@ -11,4 +11,4 @@ returns-clause-slots c =
     let next : c.args.place ≡ length old = search rules in
     subst (λ (slots : List Slot). AreSlotsOf c.args.allocator.now slots gaps) (sym c.in-Ok.ensures.items)
     (spared c.args.allocator.now old c.of.result gaps c.requires.slots
-    (subst (λ (n : ℕ). IsBetween n) next c.requires.between))
+    (subst (λ (n : ℕ). IsBetween n) next c.requires.place.between))

@@ -1,6 +1,7 @@
 use Rattle.std.proofs.Common.{rules, ◌<◌, sym, ◌∙◌, subst}
 use Rattle.frame_zones.specs.Zones.{AreCoresOf}
-use Rattle.zone_slots.specs.Memories.{frame_numbers, number_for}
+use Rattle.zone_slots.specs.Layouts.{most_numbers}
+use Rattle.zone_slots.specs.Memories.{number_for}
 use Rattle.zone_slots.specs.Uses.{IsRefusedTake}
 use Rattle.zone_slots.specs.declared.memory.Memory.{Memory}
 use Rattle.zone_slots.proofs.Lifted.{number_fits}
@@ -16,7 +17,7 @@ returns-in_err-receipt-clause-refused c =
 
 pub number_of-frame-requires-clause-fits : goal.number_of-frame-requires-clause-fits
 number_of-frame-requires-clause-fits c =
-    subst (λ (m : Memory). number_for m.zones c.in_ok-receipt.receipt < frame_numbers)
+    subst (λ (m : Memory). number_for m.zones c.in_ok-receipt.receipt < most_numbers)
     (c.deref.ensures ∙ sym c.deref-2.ensures)
     (number_fits c.deref.result.now.zones c.args.order c.args.self.now.core c.take_at_slot.new.core c.in_ok-receipt.receipt
     c.deref.result.now.numbered

@@ -12,7 +12,8 @@ use Rattle.frame_zones.specs.Zones.{zone_count, zone_at, core_at}
 use Rattle.frame_zones.specs.declared.zones.Zones.{Zones}
 use Rattle.frame_zones.specs.declared.zones.ZoneCore.{ZoneCore}
 use Rattle.frame_zones.proofs.Parted.{some_of}
-use Rattle.zone_slots.specs.Reopenings.{numbers_from, claimed_in, KeepsRestIn, HasLaidIn}
+use Rattle.zone_slots.specs.ImageParts.{numbers_from}
+use Rattle.zone_slots.specs.Reopenings.{claimed_in, KeepsRestIn, HasLaidIn}
 use Rattle.zone_slots.proofs.Reopened.{rest_more, unused_more, laid_more, children_of, before_more}
 use Rattle.zone_slots.proofs.memory.Memory.replay.Goals as goal
 

@@ -1,8 +1,9 @@
 use Rattle.std.proofs.Common.{◌≡◌, ◌*◌, ◌<◌, ◌≤◌, ℕ, length, vec_capacity}
 use Rattle.core_frames.specs.declared.shared.allocator.Core.{Core}
-use Rattle.frame_slots.specs.Openings.{IsUnused}
+use Rattle.frame_slots.specs.Slots.{IsUnused}
 use Rattle.frame_zones.specs.Zones.{zone_count, core_at, AreCoresOf}
-use Rattle.zone_slots.specs.Reopenings.{numbers_before, KeepsRestIn, HasLaidIn}
+use Rattle.zone_slots.specs.ImageParts.{numbers_before}
+use Rattle.zone_slots.specs.Reopenings.{KeepsRestIn, HasLaidIn}
 use Rattle.zone_slots.proofs.memory.Memory.replay.Given as goal
 
 abbrev pub invariant-loop-zone : goal.invariant-loop-zone

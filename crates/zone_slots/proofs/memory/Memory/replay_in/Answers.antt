@@ -1,4 +1,4 @@
-use Rattle.std.proofs.Common.{refl}
+use Rattle.std.proofs.Common.{refl, rules}
 use Rattle.frame_zones.proofs.Placing.{core_read}
 use Rattle.zone_slots.proofs.Opened.{cores_still}
 use Rattle.zone_slots.proofs.Slotted.{list_read}
@@ -10,9 +10,11 @@ replay-requires-clause-slots c =
     c.index-2.ensures c.index.ensures
 
 pub replay-requires-clause-core : goal.replay-requires-clause-core
-replay-requires-clause-core c =
-    core_read c.args.self.now.zones c.args.core.now c.args.zone _ _ c.requires.core c.requires.zone c.index-2.ensures
-    c.index_mut.ensures.value
+replay-requires-clause-core c = record {
+  is_core = core_read c.args.self.now.zones c.args.core.now c.args.zone _ _ c.requires.core c.requires.zone c.index-2.ensures
+      c.index_mut.ensures.value;
+  unused = search rules;
+}
 
 pub returns-clause-core : goal.returns-clause-core
 returns-clause-core c =
