@@ -26,9 +26,9 @@ impl Zones {
             return Err(Fault::BadRange);
         }
         let mut all = begun(alloc, cores, spans.len() as u32)?;
-        let mut zones = Vec::with_capacity(alloc, spans.len())?;
-        let mut firsts = Vec::with_capacity(alloc, spans.len())?;
-        let mut frames = Vec::with_capacity(alloc, spans.len())?;
+        let mut zones = Vec::with_capacity(alloc, spans.len() + ZONES_APART)?;
+        let mut firsts = Vec::with_capacity(alloc, spans.len() + FIRSTS_APART)?;
+        let mut frames = Vec::with_capacity(alloc, spans.len() + FRAMES_APART)?;
         for span in spans {
             let (zone, parts) = open_zone(alloc, span)?;
             deal(&mut all, parts)?;
@@ -57,6 +57,16 @@ fn open_zone(alloc: Global, span: &Span) -> Result<(Allocator, Vec<Core>), Fault
     Allocator::open_with(alloc, span.geometry, &span.ranges)
 }
 
+// A list of what all cores read, and a core's parts, which it writes, have room for so many items more, at
+// least a cache line: so no line has some of two such lists, however the heap lays them.
+pub(crate) const ZONES_APART: usize = 1;
+
+pub(crate) const FIRSTS_APART: usize = 16;
+
+pub(crate) const FRAMES_APART: usize = 32;
+
+const PARTS_APART: usize = 8;
+
 /// So many cores with no part yet, whose homes lie evenly among so many zones.
 pub(crate) fn begun(alloc: Global, cores: u32, zones: u32) -> Result<Vec<ZoneCore>, Fault>
     requires { 0 < zones }
@@ -68,9 +78,7 @@ pub(crate) fn begun(alloc: Global, cores: u32, zones: u32) -> Result<Vec<ZoneCor
         return Err(Fault::NoMemory);
     };
     for number in 0..cores {
-        // Room for one part more than it gets keeps the parts of two cores apart: no cache line has
-        // some of both, however the heap lays their lists.
-        let Ok(room) = Vec::with_capacity(alloc, zones as usize + 1) else {
+        let Ok(room) = Vec::with_capacity(alloc, zones as usize + PARTS_APART) else {
             return Err(Fault::NoMemory);
         };
         all.push_reserved(ZoneCore {

@@ -6,7 +6,7 @@ ghost use Rattle.zone_slots.specs.Openings.{AreListsIn, MayBeOpened, IsNoOpening
 
 use crate::core_state::CoreState;
 use crate::memory::Memory;
-use crate::openings::{cores_over, open_zones};
+use crate::openings::{LISTS_APART, cores_over, open_zones};
 use frame_slots::SlotList;
 use frame_words::Fault;
 use frame_zones::{Span, Zones};
@@ -35,7 +35,7 @@ fn no_lists(alloc: Global, zones: &Zones) -> Result<Vec<SlotList>, Fault>
     ensures lists { IfOk result (λ lists. AreListsIn false zones.now lists.items) }
     ensures err { IfErr result (λ e. e ≡ Fault.NoMemory) }
 {
-    let Ok(mut lists) = Vec::with_capacity(alloc, zones.count()) else {
+    let Ok(mut lists) = Vec::with_capacity(alloc, zones.count() + LISTS_APART) else {
         return Err(Fault::NoMemory);
     };
     for zone in &zones.zones {

@@ -24,6 +24,8 @@ pub struct Memory {
     pub(crate) frames: u32,
     // Of the blocks that were laid down before any core was handed out, a list for each zone.
     pub(crate) reclaimed: Vec<Vec<Receipt>>,
+    // What is read at each call shares no cache line with what comes behind it in the heap.
+    pub(crate) apart: [u64; 8],
     pub(crate) ghost slotted: { AreSlotted zones slots.items },
     pub(crate) ghost numbered: { AreNumbered zones },
     pub(crate) ghost sized: { frames ≡ frames_among zones },
@@ -43,6 +45,7 @@ impl Memory {
             slots,
             frames,
             reclaimed: Vec::new(alloc),
+            apart: [0; 8],
         }
     }
 

@@ -21,6 +21,9 @@ use std::sync::Arc;
 
 const CHILD_FRAMES: u64 = 512;
 
+// Room for so many lists more, above a cache line: behind what all cores read lies nothing that one writes.
+pub(crate) const LISTS_APART: usize = 2;
+
 /// The cores of a memory with a zone for each span, whose opening holds back just the frames past the
 /// end of each zone and those of its ranges, which are never given out. Refused as `BadRange`, else for
 /// want of memory.
@@ -123,7 +126,7 @@ fn lists_of(alloc: Global, zones: &Zones, core: &mut ZoneCore) -> Result<Vec<Slo
     ensures lists { IfOk result (λ lists. AreListsIn true zones.now lists.items) }
     ensures err { IfErr result (λ e. e ≡ Fault.NoMemory) }
 {
-    let Ok(mut lists) = Vec::with_capacity(alloc, zones.count()) else {
+    let Ok(mut lists) = Vec::with_capacity(alloc, zones.count() + LISTS_APART) else {
         return Err(Fault::NoMemory);
     };
     for zone in 0..zones.count() {
