@@ -10,14 +10,13 @@ use Rattle.frame_words.specs.Words.{entry_word, free_in, flag_in, rest_in, local
 use Rattle.frame_words.proofs.WordLemmas.{rest_in-local_none, rest_in-zero}
 use Rattle.frame_model.specs.declared.key.Key.{Key}
 use Rattle.frame_model.specs.declared.view.View.{View}
-use Rattle.frame_core.specs.Key.{tree_count}
-use Rattle.frame_core.specs.Words.{tree_place, local_place, word_count, tree_word_of, tree_free_of, reserved_of, rest_of, AreInRange}
-use Rattle.frame_core.specs.Steps.{Kind, place, reserve, unreserve, swap_local}
+use Rattle.frame_model.specs.Key.{tree_count}
+use Rattle.frame_model.specs.Words.{tree_place, local_place, word_count, tree_word_of, tree_free_of, reserved_of, rest_of, AreInRange}
+use Rattle.frame_model.specs.Steps.{Kind, place, reserve, unreserve, swap_local, words_after}
 use Rattle.frame_core.specs.Moves.{Changes, Exchanges}
-use Rattle.frame_core.specs.View.{IsIdle}
+use Rattle.frame_model.specs.View.{IsIdle}
 use Rattle.frame_model.proofs.Words.{tree-lt-local}
 use Rattle.frame_model.proofs.Steps.Shared.{free_is, flag_is, tree_free_is, reserved_is, rest_of_is}
-use Rattle.frame_model.specs.Steps.{words_after}
 use Rattle.low_frames.specs.Alone.{Turns, FindsOf, HasNoneOfTree}
 use Rattle.low_frames.proofs.AloneLemmas.{if_known, at_known, IsFirstTry, IsSeen, exchange_made, made_first, then_found}
 use Rattle.low_frames.proofs.RoomLemmas.{FitsAlone, range_alone}

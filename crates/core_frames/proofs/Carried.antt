@@ -10,13 +10,13 @@ use Rattle.frame_model.specs.declared.block.FrameBlock.{FrameBlock}
 use Rattle.frame_model.specs.declared.key.Key.{Key}
 use Rattle.frame_model.specs.declared.view.Amount.{Amount}
 use Rattle.frame_model.specs.declared.view.View.{View}
-use Rattle.frame_core.specs.Key.{tree_count, tree_of}
-use Rattle.frame_core.specs.Block.{IsBlock}
-use Rattle.frame_core.specs.View.{counted, count_in, paid_on, NoneBut, IsIdle}
-use Rattle.frame_core.specs.Steps.{effect, reserve, collect, local_pay, local_refund, tree_refund, swap_local, unreserve, after_load}
-use Rattle.frame_core.specs.Steps.Amounts.{more, less, rest_amount, rest_tree, more_of, less_of}
-use Rattle.frame_core.specs.Steps.Conditions.{CanReserve, CanCollect, CanLocalPay, CanLocalRefund, CanTreeRefund, CanSwapLocal}
-use Rattle.frame_core.specs.Steps.Conditions.{CanUnreserve}
+use Rattle.frame_model.specs.Key.{tree_count, tree_of}
+use Rattle.frame_model.specs.Block.{IsBlock}
+use Rattle.frame_model.specs.View.{counted, count_in, paid_on, NoneBut, IsIdle}
+use Rattle.frame_model.specs.Steps.{effect, reserve, collect, local_pay, local_refund, tree_refund, swap_local, unreserve, after_load}
+use Rattle.frame_model.specs.Steps.Amounts.{more, less, rest_amount, rest_tree, more_of, less_of}
+use Rattle.frame_model.specs.Steps.Conditions.{CanReserve, CanCollect, CanLocalPay, CanLocalRefund, CanTreeRefund, CanSwapLocal}
+use Rattle.frame_model.specs.Steps.Conditions.{CanUnreserve}
 use Rattle.frame_core.specs.Moves.{after}
 use Rattle.frame_model.proofs.Amounts.{count_none, count_here, count_else}
 use Rattle.low_frames.specs.Takes.{IsAsBefore, HasHandedOut}

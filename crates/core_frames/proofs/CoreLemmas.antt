@@ -4,7 +4,7 @@ use Rattle.std.specs.List.{All}
 use Rattle.std.proofs.lemmas.List.{get_or-map, length-map}
 use Rattle.frame_model.specs.declared.key.Key.{Key}
 use Rattle.frame_model.specs.declared.view.View.{View}
-use Rattle.frame_core.specs.View.{IsIdle}
+use Rattle.frame_model.specs.View.{IsIdle}
 use Rattle.frame_table.specs.Seats.{view_of}
 use Rattle.frame_table.specs.Openings.{IsNew, IsOpenedAt}
 use Rattle.frame_table.specs.declared.seats.CoreSeat.{CoreSeat}

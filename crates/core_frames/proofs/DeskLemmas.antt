@@ -3,14 +3,14 @@ use Rattle.std.proofs.Common.{◌≡◌, ◌<◌, ◌≤◌, ◌∙◌, ℕ, Lis
 use Rattle.std.specs.List.{All, sum_by}
 use Rattle.std.proofs.lemmas.List.Elements.{All-nil}
 use Rattle.std.proofs.lemmas.List.Sums.{sum_by-append, sum_by-cons}
-use Rattle.frame_core.specs.Block.{IsBlock, block, covers}
-use Rattle.frame_core.specs.Holding.{IsFreeBlock, IsHolding, holders}
-use Rattle.frame_core.specs.Without.{less_one}
+use Rattle.frame_model.specs.Block.{IsBlock, block, covers}
+use Rattle.frame_model.specs.Holding.{IsFreeBlock, IsHolding, holders}
+use Rattle.frame_model.specs.Without.{less_one}
 use Rattle.frame_model.specs.declared.block.FrameBlock.{FrameBlock}
 use Rattle.frame_model.specs.declared.key.Key.{Key}
 use Rattle.frame_model.specs.declared.view.View.{View}
 use Rattle.frame_core.specs.Mover.{IsApart}
-use Rattle.frame_core.specs.View.{IsViewOf}
+use Rattle.frame_model.specs.View.{IsViewOf}
 use Rattle.frame_model.proofs.Steps.SeatViews.{blocks_are}
 use Rattle.frame_words.specs.declared.fault.Fault.{Fault}
 use Rattle.frame_words.specs.declared.fault.Fault.TheVariants as fault

@@ -9,10 +9,10 @@ use Rattle.frame_model.specs.declared.key.Key.{Key}
 use Rattle.frame_model.specs.declared.place.Place.TheVariants.{Entry}
 use Rattle.frame_model.specs.declared.view.View.{View}
 use Rattle.frame_core.specs.Mover.{Mover, Keeps, Loads}
-use Rattle.frame_core.specs.Report.{held_within, clear_at, clear_within, free_frames, clear_blocks}
-use Rattle.frame_core.specs.Steps.{next}
-use Rattle.frame_core.specs.View.{charged_in, count_in, IsIdle}
-use Rattle.frame_core.specs.Words.{entry_place, entry_word_count, entry_of, free_of, huge_of, held_of}
+use Rattle.frame_model.specs.Report.{held_within, clear_at, clear_within, free_frames, clear_blocks}
+use Rattle.frame_model.specs.Steps.{next}
+use Rattle.frame_model.specs.View.{charged_in, count_in, IsIdle}
+use Rattle.frame_model.specs.Words.{entry_place, entry_word_count, entry_of, free_of, huge_of, held_of}
 use Rattle.frame_model.proofs.Amounts.{count_none}
 use Rattle.frame_model.proofs.ReportLemmas.{held_within-child, held_frames-all}
 use Rattle.frame_model.proofs.Steps.Shared.{free_is, flag_is}

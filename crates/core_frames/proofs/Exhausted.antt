@@ -11,10 +11,10 @@ use Rattle.std.proofs.lemmas.List.Elements.{All-head, All-tail}
 use Rattle.frame_model.specs.declared.block.FrameBlock.{FrameBlock}
 use Rattle.frame_model.specs.declared.key.Key.{Key}
 use Rattle.frame_model.specs.declared.view.View.{View}
-use Rattle.frame_core.specs.Key.{tree_count, tree_of, child_of, children_in, size_of}
-use Rattle.frame_core.specs.Words.{held_of, held_in_tree, tree_free_of, reserved_of, rest_of, resting_on, cores_on, count_on, is_on}
-use Rattle.frame_core.specs.View.{count_in, paid_on, reserves, is_at, fixed_ground, ground_with, boot_blocks, spent, IsViewOf, IsIdle}
-use Rattle.frame_core.specs.Fit.{total}
+use Rattle.frame_model.specs.Key.{tree_count, tree_of, child_of, children_in, size_of}
+use Rattle.frame_model.specs.Words.{held_of, held_in_tree, tree_free_of, reserved_of, rest_of, resting_on, cores_on, count_on, is_on}
+use Rattle.frame_model.specs.View.{count_in, paid_on, reserves, is_at, fixed_ground, ground_with, boot_blocks, spent, IsViewOf, IsIdle}
+use Rattle.frame_model.specs.Fit.{total}
 use Rattle.frame_core.specs.Moves.{IsAtRest}
 use Rattle.frame_model.proofs.Amounts.{count_none, count_on_none, is_on_none}
 use Rattle.low_frames.specs.Alone.{IsFreeIn}

@@ -2,7 +2,7 @@
 use Rattle.std.proofs.Common.{◌≡◌, ℕ, ◌+◌, ◌<◌, ◌≤◌, refl, ap, sym, subst, ◌∙◌, arith}
 use Rattle.std.specs.Prelude.{Bool, true, false, ◌||◌, nat_lt, MatchBool, pos, ◌+ℤ◌, Result, Ok, Err, IfOk, IfErr}
 use Rattle.std.proofs.lemmas.Bool.Decides.{nat_tests}
-use Rattle.frame_core.specs.Holding.{IsFreeBlock}
+use Rattle.frame_model.specs.Holding.{IsFreeBlock}
 use Rattle.frame_table.specs.Seats.{block_in}
 use Rattle.core_frames.specs.Cores.{memory_of, kept_by, lent_by, losses_by}
 use Rattle.core_frames.specs.Found.{HasFound, HasLooked, FindsThrough}

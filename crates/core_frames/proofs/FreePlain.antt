@@ -6,13 +6,13 @@ use Rattle.std.proofs.lemmas.List.Elements.{All-head, All-tail}
 use Rattle.std.proofs.lemmas.List.Sums.{sum_by-cons}
 use Rattle.frame_model.specs.declared.block.FrameBlock.{FrameBlock}
 use Rattle.frame_model.specs.declared.key.Key.{Key}
-use Rattle.frame_core.specs.Block.{IsBlock, covers}
-use Rattle.frame_core.specs.Holding.{holders, IsHolding}
-use Rattle.frame_core.specs.Key.{frame_count}
+use Rattle.frame_model.specs.Block.{IsBlock, covers}
+use Rattle.frame_model.specs.Holding.{holders, IsHolding}
+use Rattle.frame_model.specs.Key.{frame_count}
 use Rattle.frame_core.specs.Mover.{Mover}
-use Rattle.frame_core.specs.Report.{held_at, held_within, clear_at, clear_within, free_frames, clear_blocks}
-use Rattle.frame_core.specs.Stops.{unsealed}
-use Rattle.frame_core.specs.Words.{entry_word_count}
+use Rattle.frame_model.specs.Report.{held_at, held_within, clear_at, clear_within, free_frames, clear_blocks}
+use Rattle.frame_model.specs.Stops.{unsealed}
+use Rattle.frame_model.specs.Words.{entry_word_count}
 use Rattle.plain_moves.specs.declared.plain.party.Company.{Company}
 use Rattle.low_frames.specs.Takes.{IsAsBefore}
 use Rattle.low_frames.proofs.AloneLemmas.{at_known}

@@ -13,13 +13,13 @@ use Rattle.frame_model.proofs.Amounts.{count_none}
 use Rattle.frame_model.proofs.Blocks.{smalls_none, wholes_none, smalls_cons, wholes_cons, not_whole, halves, within_child}
 use Rattle.frame_model.proofs.Blocks.{small_elsewhere, whole_elsewhere}
 use Rattle.frame_model.proofs.Without.{without_leaves, leaves_nothing}
-use Rattle.frame_core.specs.Block.{block, IsBlock, covers, small_at, smalls, wholes}
-use Rattle.frame_core.specs.View.{count_in, holder, LiesIn}
-use Rattle.frame_core.specs.Steps.Amounts.{Leaves}
-use Rattle.frame_core.specs.Seats.{hand_in, CanHandOut, joined_by, left_by}
+use Rattle.frame_model.specs.Block.{block, IsBlock, covers, small_at, smalls, wholes}
+use Rattle.frame_model.specs.View.{count_in, holder, LiesIn}
+use Rattle.frame_model.specs.Steps.Amounts.{Leaves}
+use Rattle.frame_model.specs.Seats.{hand_in, CanHandOut, joined_by, left_by}
 use Rattle.frame_core.specs.Moves.{hand_out_block}
 use Rattle.frame_core.specs.Mover.{Mover, Keeps, KeepsOthers}
-use Rattle.frame_core.specs.Without.{without}
+use Rattle.frame_model.specs.Without.{without}
 use Rattle.core_frames.specs.Joins.{AreBuddies, KeepsAllBut}
 use Rattle.core_frames.specs.Search.{HasTakenOne}
 use Rattle.core_frames.specs.Splits.{AreHalves, Bears}

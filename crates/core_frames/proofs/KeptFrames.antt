@@ -5,14 +5,13 @@ use Rattle.std.specs.Prelude.{IfSome, IfNone, Bool, true, false, slice_index}
 use Rattle.std.proofs.lemmas.List.{get_or-set_other}
 use Rattle.frame_model.specs.declared.block.FrameBlock.{FrameBlock}
 use Rattle.frame_model.specs.declared.key.Key.{Key}
-use Rattle.frame_core.specs.Key.{frame_count, tree_count, child_of}
-use Rattle.frame_core.specs.Block.{IsBlock, covers}
-use Rattle.frame_core.specs.Words.{entry_place, tree_place, local_place, bits_place, entry_of, huge_of, bit_word_of, bit_of}
-use Rattle.frame_core.specs.Report.{held_at}
-use Rattle.frame_core.specs.Steps.{Kind, place}
+use Rattle.frame_model.specs.Key.{frame_count, tree_count, child_of}
+use Rattle.frame_model.specs.Block.{IsBlock, covers}
+use Rattle.frame_model.specs.Words.{entry_place, tree_place, local_place, bits_place, entry_of, huge_of, bit_word_of, bit_of}
+use Rattle.frame_model.specs.Report.{held_at}
+use Rattle.frame_model.specs.Steps.{Kind, place, words_after}
 use Rattle.frame_core.specs.Moves.{Changes, Exchanges}
 use Rattle.frame_model.proofs.Words.{entry-lt-tree, entry-lt-local, tree-lt-bits, local-lt-bits, child-has-lane}
-use Rattle.frame_model.specs.Steps.{words_after}
 use Rattle.low_frames.specs.Alone.{Turns, FindsOf, HoldsMore, WordsTake, WordsGive}
 use Rattle.low_frames.proofs.AloneLemmas.{at_known}
 use Rattle.low_frames.proofs.RoomLemmas.{covered_from}

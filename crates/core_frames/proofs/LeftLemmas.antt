@@ -12,14 +12,14 @@ use Rattle.frame_words.specs.Words.{flag}
 use Rattle.frame_words.specs.declared.geometry.Geometry.{Geometry}
 use Rattle.frame_model.specs.declared.block.FrameBlock.{FrameBlock}
 use Rattle.frame_model.specs.declared.key.Key.{Key}
-use Rattle.frame_core.specs.Key.{key_of, child_of, AreSizes}
-use Rattle.frame_core.specs.Words.{bits_place, bit_word_of, bit_of}
-use Rattle.frame_core.specs.Rebuilt.{IsRebuilt}
-use Rattle.frame_core.specs.Openings.{held_blocks}
+use Rattle.frame_model.specs.Key.{key_of, child_of, AreSizes}
+use Rattle.frame_model.specs.Words.{bits_place, bit_word_of, bit_of}
+use Rattle.frame_model.specs.Rebuilt.{IsRebuilt}
+use Rattle.frame_model.specs.Openings.{held_blocks}
 use Rattle.frame_model.proofs.Opening.{held_are_blocks, held_smalls, held_wholes}
-use Rattle.frame_core.specs.Block.{covers, small_at, whole_at}
-use Rattle.frame_core.specs.Steps.Amounts.{Leaves}
-use Rattle.frame_core.specs.Without.{without}
+use Rattle.frame_model.specs.Block.{covers, small_at, whole_at}
+use Rattle.frame_model.specs.Steps.Amounts.{Leaves}
+use Rattle.frame_model.specs.Without.{without}
 use Rattle.frame_model.proofs.Blocks.{not_small, not_whole}
 use Rattle.frame_model.proofs.Without.{without_leaves}
 use Rattle.frame_table.specs.Openings.{unsealed_key, IsLeft}

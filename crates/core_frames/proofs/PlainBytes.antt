@@ -12,8 +12,8 @@ use Rattle.std.proofs.lemmas.List.Sorted.{IsPermutation-append_right, IsPermutat
 use Rattle.std.proofs.lemmas.List.Elements.{Contains-append_cases, Contains-append_left, Contains-append_right}
 use Rattle.std.proofs.lemmas.List.Sums.{sum_by-append, sum_by-cons}
 use Rattle.frame_model.specs.declared.block.FrameBlock.{FrameBlock}
-use Rattle.frame_core.specs.Block.{block, covers}
-use Rattle.frame_core.specs.Holding.{holders}
+use Rattle.frame_model.specs.Block.{block, covers}
+use Rattle.frame_model.specs.Holding.{holders}
 use Rattle.core_frames.specs.PlainBytes.{gathered, begun, first_out, first_kept, out_of, kept_of}
 use Rattle.core_frames.proofs.PlainSums.{covers_in}
 

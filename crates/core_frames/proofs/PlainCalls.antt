@@ -22,15 +22,15 @@ use Rattle.frame_words.specs.declared.geometry.Geometry.{Geometry}
 use Rattle.frame_model.specs.declared.block.FrameBlock.{FrameBlock}
 use Rattle.frame_model.specs.declared.key.Key.{Key}
 use Rattle.frame_model.specs.declared.view.View.{View}
-use Rattle.frame_core.specs.Key.{sealed_key, frame_count, child_of, is_boot_frame}
-use Rattle.frame_core.specs.Block.{block, IsBlock, covers}
-use Rattle.frame_core.specs.Holding.{holders, IsHolding}
+use Rattle.frame_model.specs.Key.{sealed_key, frame_count, child_of, is_boot_frame}
+use Rattle.frame_model.specs.Block.{block, IsBlock, covers}
+use Rattle.frame_model.specs.Holding.{holders, IsHolding}
 use Rattle.frame_core.specs.Mover.{Mover, Keeps, KeepsOthers}
-use Rattle.frame_core.specs.QuietTake.{TakesBlock, FindsNone, QuietTake}
-use Rattle.frame_core.specs.Stops.{unsealed}
-use Rattle.frame_core.specs.View.{boot_blocks, fixed_ground, ground_with, spent, IsIdle}
-use Rattle.frame_core.specs.Openings.{IsSealedOpening}
-use Rattle.frame_core.specs.Laws.{AddsUp}
+use Rattle.frame_model.specs.QuietTake.{TakesBlock, FindsNone, QuietTake}
+use Rattle.frame_model.specs.Stops.{unsealed}
+use Rattle.frame_model.specs.View.{boot_blocks, fixed_ground, ground_with, spent, IsIdle}
+use Rattle.frame_model.specs.Openings.{IsSealedOpening}
+use Rattle.frame_model.specs.Laws.{AddsUp}
 use Rattle.frame_model.proofs.Closing.{adds_up}
 use Rattle.frame_model.proofs.Keeps.{total_is}
 use Rattle.frame_model.proofs.Opening.{boot_smalls, boot_wholes}

@@ -9,12 +9,12 @@ use Rattle.std.proofs.lemmas.List.Sorted.{All-permutation, sum_by-IsPermutation}
 use Rattle.std.proofs.lemmas.List.Sums.{sum_by-cons}
 use Rattle.frame_model.specs.declared.block.FrameBlock.{FrameBlock}
 use Rattle.frame_model.specs.declared.key.Key.{Key}
-use Rattle.frame_core.specs.Key.{frame_count, child_of}
-use Rattle.frame_core.specs.Block.{block, IsBlock, covers, small_at, whole_at, smalls, wholes}
-use Rattle.frame_core.specs.Holding.{holders, IsHolding, IsFreeBlock}
-use Rattle.frame_core.specs.QuietTake.{TakesBlock, FindsNone}
-use Rattle.frame_core.specs.Report.{held_at}
-use Rattle.frame_core.specs.Words.{bit_of, huge_of}
+use Rattle.frame_model.specs.Key.{frame_count, child_of}
+use Rattle.frame_model.specs.Block.{block, IsBlock, covers, small_at, whole_at, smalls, wholes}
+use Rattle.frame_model.specs.Holding.{holders, IsHolding, IsFreeBlock}
+use Rattle.frame_model.specs.QuietTake.{TakesBlock, FindsNone}
+use Rattle.frame_model.specs.Report.{held_at}
+use Rattle.frame_model.specs.Words.{bit_of, huge_of}
 use Rattle.frame_model.proofs.Blocks.{smalls_cons, wholes_cons, not_whole}
 use Rattle.frame_model.proofs.Safe.{holders_are}
 use Rattle.frame_model.proofs.Without.{covers-le}

@@ -2,13 +2,13 @@
 use Rattle.std.proofs.Common.{◌≡◌, ℕ, List, refl, sym, ◌∙◌, arith}
 use Rattle.frame_model.specs.declared.block.FrameBlock.{FrameBlock}
 use Rattle.frame_model.specs.declared.key.Key.{Key}
-use Rattle.frame_core.specs.Block.{IsBlock}
-use Rattle.frame_core.specs.Laws.{AddsUp}
-use Rattle.frame_core.specs.Rebuilt.{rebuilt_free, rebuilt_in_tree, rebuilt_bits, IsRebuilt}
-use Rattle.frame_core.specs.Report.{held_at}
-use Rattle.frame_core.specs.Stops.{unsealed}
-use Rattle.frame_core.specs.Words.{word_count, tree_place, local_place, bits_place, tree_word_of, tree_free_of, reserved_of, local_word_of}
-use Rattle.frame_core.specs.Words.{rest_of, bit_word_of, bit_of, set_of, held_of, held_in_tree, resting_on, cores_on}
+use Rattle.frame_model.specs.Block.{IsBlock}
+use Rattle.frame_model.specs.Laws.{AddsUp}
+use Rattle.frame_model.specs.Rebuilt.{rebuilt_free, rebuilt_in_tree, rebuilt_bits, IsRebuilt}
+use Rattle.frame_model.specs.Report.{held_at}
+use Rattle.frame_model.specs.Stops.{unsealed}
+use Rattle.frame_model.specs.Words.{word_count, tree_place, local_place, bits_place, tree_word_of, tree_free_of, reserved_of, local_word_of}
+use Rattle.frame_model.specs.Words.{rest_of, bit_word_of, bit_of, set_of, held_of, held_in_tree, resting_on, cores_on}
 use Rattle.frame_model.proofs.HeldBack.{in_range_unsealed}
 use Rattle.low_frames.specs.Alone.{HoldsMore}
 use Rattle.core_frames.specs.Search.{IsBlockOf}

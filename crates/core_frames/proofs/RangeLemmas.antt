@@ -7,7 +7,7 @@ use Rattle.std.proofs.Math.Seq.{drop-cons}
 use Rattle.frame_words.specs.declared.geometry.Geometry.{Geometry}
 use Rattle.frame_words.specs.declared.fault.Fault.{Fault}
 use Rattle.frame_words.specs.declared.fault.Fault.TheVariants.{NoMemory}
-use Rattle.frame_core.specs.Key.{AreRanges}
+use Rattle.frame_model.specs.Key.{AreRanges}
 use Rattle.core_frames.specs.Ranges.{MayHoldBack, MayFollow, IsUnopenedFor}
 
 cons_at : (rs : List (ℕ × ℕ)) (i : ℕ) (d : ℕ × ℕ) → i < length rs

@@ -5,13 +5,13 @@ use Rattle.frame_model.specs.declared.block.FrameBlock.{FrameBlock}
 use Rattle.frame_model.specs.declared.key.Key.{Key}
 use Rattle.frame_model.specs.declared.place.Place.{Place}
 use Rattle.frame_model.specs.declared.view.View.{View}
-use Rattle.frame_core.specs.Key.{tree_count}
-use Rattle.frame_core.specs.View.{counted, IsIdle}
-use Rattle.frame_core.specs.Block.{IsBlock}
-use Rattle.frame_core.specs.Holding.{IsFreeBlock}
+use Rattle.frame_model.specs.Key.{tree_count}
+use Rattle.frame_model.specs.View.{counted, IsIdle}
+use Rattle.frame_model.specs.Block.{IsBlock}
+use Rattle.frame_model.specs.Holding.{IsFreeBlock}
 use Rattle.frame_words.specs.Words.{rest_in}
-use Rattle.frame_core.specs.Words.{local_place}
-use Rattle.frame_core.specs.Steps.{Kind, place, swap_local}
+use Rattle.frame_model.specs.Words.{local_place}
+use Rattle.frame_model.specs.Steps.{Kind, place, swap_local}
 use Rattle.frame_core.specs.Moves.{place_of, Changes}
 use Rattle.frame_core.specs.Mover.{Mover, LiesInside, Keeps, Ticks, Loads, Tries, Makes, Swaps}
 use Rattle.low_frames.specs.Bounds.{attempt}

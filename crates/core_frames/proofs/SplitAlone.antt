@@ -15,13 +15,13 @@ use Rattle.frame_words.specs.Words.{lane_in, lane_put, lane_shift}
 use Rattle.frame_model.specs.declared.block.FrameBlock.{FrameBlock}
 use Rattle.frame_model.specs.declared.key.Key.{Key}
 use Rattle.frame_model.specs.declared.view.View.{View}
-use Rattle.frame_core.specs.Key.{frame_count}
-use Rattle.frame_core.specs.Block.{block, IsBlock, small_at, whole_at, wholes}
-use Rattle.frame_core.specs.Words.{entry_place, bits_place, entry_of, huge_of, bit_of, with_entry, with_bits, AreInRange}
-use Rattle.frame_core.specs.View.{names, marks, small_in, spent, ground_with, boot_blocks, fixed_ground, IsIdle, IsViewOf}
-use Rattle.frame_core.specs.Fit.{Fit}
-use Rattle.frame_core.specs.Report.{held_at}
-use Rattle.frame_core.specs.Steps.{fill_word}
+use Rattle.frame_model.specs.Key.{frame_count}
+use Rattle.frame_model.specs.Block.{block, IsBlock, small_at, whole_at, wholes}
+use Rattle.frame_model.specs.Words.{entry_place, bits_place, entry_of, huge_of, bit_of, with_entry, with_bits, AreInRange}
+use Rattle.frame_model.specs.View.{names, marks, small_in, spent, ground_with, boot_blocks, fixed_ground, IsIdle, IsViewOf}
+use Rattle.frame_model.specs.Fit.{Fit}
+use Rattle.frame_model.specs.Report.{held_at}
+use Rattle.frame_model.specs.Steps.{fill_word, words_after}
 use Rattle.frame_core.specs.Moves.{Changes, drop_whole, IsAtRest}
 use Rattle.frame_model.proofs.Blocks.{not_whole, whole_here, whole_else, halves, halves_here, halves_else}
 use Rattle.frame_model.proofs.Amounts.{names_none}
@@ -30,7 +30,6 @@ use Rattle.frame_model.proofs.Steps.Joining.{idle_unfilled}
 use Rattle.frame_model.proofs.Lanes.{lane_taken}
 use Rattle.frame_model.proofs.Words.{BitsWritten, bits_written, EntryWritten, entry_written, child-has-lane}
 use Rattle.frame_model.proofs.Steps.Shared.{bit-le, as_bits, as_entry, entry_of_is, huge_of_is, flag_is, bit_filled}
-use Rattle.frame_model.specs.Steps.{words_after}
 use Rattle.low_frames.proofs.AloneLemmas.{at_known}
 use Rattle.low_frames.proofs.RoomLemmas.{FitsAlone, range_alone}
 use Rattle.low_frames.proofs.FlightLemmas.{whole_entry}

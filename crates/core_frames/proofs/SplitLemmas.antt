@@ -9,14 +9,14 @@ use Rattle.std.proofs.lemmas.List.Elements.{All-cons, All-nil}
 use Rattle.frame_model.specs.declared.block.FrameBlock.{FrameBlock}
 use Rattle.frame_model.specs.declared.key.Key.{Key}
 use Rattle.frame_model.specs.declared.view.View.{View}
-use Rattle.frame_core.specs.Block.{block, IsBlock, covers, small_at, smalls, wholes}
-use Rattle.frame_core.specs.View.{names, holder}
-use Rattle.frame_core.specs.Steps.{fill_word}
-use Rattle.frame_core.specs.Steps.Amounts.{Leaves, put_in}
-use Rattle.frame_core.specs.Steps.Conditions.{CanFillWord, CanDropFlag}
-use Rattle.frame_core.specs.Seats.{hand_in, CanHandOut, joined_by, left_by}
+use Rattle.frame_model.specs.Block.{block, IsBlock, covers, small_at, smalls, wholes}
+use Rattle.frame_model.specs.View.{names, holder}
+use Rattle.frame_model.specs.Steps.{fill_word}
+use Rattle.frame_model.specs.Steps.Amounts.{Leaves, put_in}
+use Rattle.frame_model.specs.Steps.Conditions.{CanFillWord, CanDropFlag}
+use Rattle.frame_model.specs.Seats.{hand_in, CanHandOut, joined_by, left_by}
 use Rattle.frame_core.specs.Moves.{after, drop_whole, hand_out_block}
-use Rattle.frame_core.specs.Without.{without, HasFrames}
+use Rattle.frame_model.specs.Without.{without, HasFrames}
 use Rattle.frame_model.proofs.Amounts.{names_put, names_here, names_else}
 use Rattle.frame_model.proofs.Blocks.{smalls_none, wholes_none, smalls_cons, wholes_cons, not_whole, halves, child_is_block, half_is_block}
 use Rattle.frame_model.proofs.Blocks.{other_half_is_block, whole_here}

@@ -3,8 +3,7 @@ use Rattle.std.proofs.Common.{◌≡◌, ℕ, Option, Some, refl, ap, sym, subst
 use Rattle.std.specs.Prelude.{Bool, true, false}
 use Rattle.frame_model.specs.declared.key.Key.{Key}
 use Rattle.frame_model.specs.declared.place.Place.{Place}
-use Rattle.frame_model.specs.Steps.{words_after}
-use Rattle.frame_core.specs.Steps.{Kind, place, swap_local}
+use Rattle.frame_model.specs.Steps.{words_after, Kind, place, swap_local}
 use Rattle.frame_core.specs.Moves.{place_of}
 use Rattle.frame_core.specs.Mover.{Mover, Loads, Tries, Swaps}
 use Rattle.low_frames.specs.Takes.{IsSure, StaysSure}

@@ -2,10 +2,9 @@
 use Rattle.std.specs.Prelude.{◌≡◌, ◌≢◌, ◌⊎◌, ℕ, ◌^◌, ◌<◌, ◌≤◌, List, Option, None}
 use Rattle.frame_words.specs.Geometry.{tree_frames}
 use Rattle.frame_model.specs.declared.key.Key.{Key}
-use Rattle.frame_model.specs.Steps.{words_after}
-use Rattle.frame_core.specs.Key.{frame_count}
-use Rattle.frame_core.specs.Words.{tree_word_of, tree_free_of, reserved_of, rest_of, bit_of, huge_of}
-use Rattle.frame_core.specs.Steps.{reserve}
+use Rattle.frame_model.specs.Steps.{words_after, reserve}
+use Rattle.frame_model.specs.Key.{frame_count}
+use Rattle.frame_model.specs.Words.{tree_word_of, tree_free_of, reserved_of, rest_of, bit_of, huge_of}
 use Rattle.low_frames.specs.Alone.{Turns, NoneIsFree, HasNoneOfTree}
 use Rattle.core_frames.specs.Search.{IsBlockOf}
 

@@ -2,7 +2,7 @@
 use Rattle.std.specs.Prelude.{ℕ, ◌+◌, ◌*◌}
 use Rattle.frame_words.specs.Runs.{child_words}
 use Rattle.frame_model.specs.declared.key.Key.{Key}
-use Rattle.frame_core.specs.Key.{tree_count}
+use Rattle.frame_model.specs.Key.{tree_count}
 use Rattle.low_frames.specs.Bounds.{attempt, most_in_tree, most_to_give_back}
 
 -- a tree becomes the core's: the local word is swapped, and the tree that it had is unreserved

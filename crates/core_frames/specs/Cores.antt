@@ -4,7 +4,7 @@ use Rattle.std.specs.List.{All}
 use Rattle.frame_model.specs.declared.block.FrameBlock.{FrameBlock}
 use Rattle.frame_model.specs.declared.key.Key.{Key}
 use Rattle.frame_model.specs.declared.view.View.{View}
-use Rattle.frame_core.specs.Key.{IsKey}
+use Rattle.frame_model.specs.Key.{IsKey}
 use Rattle.frame_table.specs.Seats.{key_at, view_of, IsIdleSeat, IsOut}
 use Rattle.frame_table.specs.declared.block.Block.{Block}
 use Rattle.frame_table.specs.declared.seats.CoreSeat.{CoreSeat}

@@ -1,9 +1,9 @@
 -- What a search through a core leaves, whose answer is a block without its order.
 use Rattle.std.specs.Prelude.{◌≡◌, ℕ, ◌+◌, ◌<◌, ◌≤◌, [], Result, IfOk, IfErr, Bool, nat_lt}
 use Rattle.frame_words.specs.declared.fault.TakeFault.TheVariants.{NoBlock, Contended}
-use Rattle.frame_core.specs.Block.{block}
-use Rattle.frame_core.specs.Events.{eye}
-use Rattle.frame_core.specs.View.{holder}
+use Rattle.frame_model.specs.Block.{block}
+use Rattle.frame_model.specs.Events.{eye}
+use Rattle.frame_model.specs.View.{holder}
 use Rattle.frame_table.specs.declared.block.Block.{Block}
 use Rattle.core_frames.specs.declared.shared.allocator.Allocator.{Allocator}
 use Rattle.core_frames.specs.declared.shared.allocator.Core.{Core}

@@ -6,11 +6,11 @@ use Rattle.frame_words.specs.Words.{free_in, lane_in}
 use Rattle.frame_model.specs.declared.block.FrameBlock.{FrameBlock}
 use Rattle.frame_model.specs.declared.key.Key.{Key}
 use Rattle.frame_model.specs.declared.view.View.{View}
-use Rattle.frame_core.specs.Holding.{holders}
+use Rattle.frame_model.specs.Holding.{holders}
 use Rattle.frame_core.specs.Mover.{Mover, Keeps}
-use Rattle.frame_core.specs.Report.{free_frames, clear_blocks}
-use Rattle.frame_core.specs.Steps.{after_load}
-use Rattle.frame_core.specs.Words.{entry_place, entry_word_count}
+use Rattle.frame_model.specs.Report.{free_frames, clear_blocks}
+use Rattle.frame_model.specs.Steps.{after_load}
+use Rattle.frame_model.specs.Words.{entry_place, entry_word_count}
 use Rattle.low_frames.specs.Alone.{FindsOf}
 use Rattle.frame_table.specs.Seats.{reads_of}
 use Rattle.core_frames.specs.declared.shared.allocator.Allocator.{Allocator}

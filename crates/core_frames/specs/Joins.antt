@@ -2,7 +2,7 @@
 use Rattle.std.specs.Prelude.{◌≡◌, ◌≢◌, ℕ, ◌+◌, ◌%◌, ◌^◌, ◌<◌, Result, IfOk, IfErr}
 use Rattle.frame_words.specs.Runs.{four_order}
 use Rattle.frame_model.specs.declared.block.FrameBlock.{FrameBlock}
-use Rattle.frame_core.specs.View.{IsIdle}
+use Rattle.frame_model.specs.View.{IsIdle}
 use Rattle.frame_core.specs.Mover.{Mover}
 use Rattle.low_frames.specs.Takes.{Counts}
 use Rattle.low_frames.specs.Alone.{Turns}

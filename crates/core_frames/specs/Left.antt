@@ -5,7 +5,7 @@ use Rattle.frame_words.specs.declared.fault.Fault.{Fault}
 use Rattle.frame_words.specs.declared.fault.Fault.TheVariants.{BadOrder, NotHeld}
 use Rattle.frame_model.specs.declared.block.FrameBlock.{FrameBlock}
 use Rattle.frame_core.specs.Moves.{HasSizes}
-use Rattle.frame_core.specs.Without.{without}
+use Rattle.frame_model.specs.Without.{without}
 use Rattle.frame_table.specs.Openings.{ground_view, IsGround, IsLeft}
 use Rattle.frame_table.specs.Seats.{block_in}
 use Rattle.frame_table.specs.declared.block.Block.{Block}

@@ -7,9 +7,9 @@ use Rattle.frame_words.specs.Runs.{word_bits, child_words}
 use Rattle.frame_words.specs.Words.{flag}
 use Rattle.frame_model.specs.declared.block.FrameBlock.{FrameBlock}
 use Rattle.frame_model.specs.declared.key.Key.{Key}
-use Rattle.frame_core.specs.Key.{frame_count, child_of}
-use Rattle.frame_core.specs.Block.{IsBlock, small_at, whole_at, smalls, wholes}
-use Rattle.frame_core.specs.Words.{bit_word_of, huge_of}
+use Rattle.frame_model.specs.Key.{frame_count, child_of}
+use Rattle.frame_model.specs.Block.{IsBlock, small_at, whole_at, smalls, wholes}
+use Rattle.frame_model.specs.Words.{bit_word_of, huge_of}
 
 -- the bit of a frame in a list of bit words
 abbrev pub bit_in : List ℕ → ℕ → ℕ

@@ -4,11 +4,11 @@ use Rattle.std.specs.Prelude.{◌≡◌, ℕ, ◌<◌, ◌≤◌, List, [], ◌+
 use Rattle.std.specs.List.{Contains}
 use Rattle.frame_model.specs.declared.block.FrameBlock.{FrameBlock}
 use Rattle.frame_model.specs.declared.key.Key.{Key}
-use Rattle.frame_core.specs.Key.{frame_count}
-use Rattle.frame_core.specs.Holding.{IsHolding}
+use Rattle.frame_model.specs.Key.{frame_count}
+use Rattle.frame_model.specs.Holding.{IsHolding}
 use Rattle.frame_core.specs.Mover.{Mover}
-use Rattle.frame_core.specs.Stops.{unsealed}
-use Rattle.frame_core.specs.View.{boot_blocks, IsIdle}
+use Rattle.frame_model.specs.Stops.{unsealed}
+use Rattle.frame_model.specs.View.{boot_blocks, IsIdle}
 use Rattle.plain_moves.specs.declared.plain.party.Company.{Company}
 use Rattle.core_frames.specs.declared.search.habit.Habit.{Habit}
 use Rattle.core_frames.specs.Alone.{HasNoneOf}

@@ -4,12 +4,12 @@ use Rattle.std.specs.List.Sorted.{IsPermutation}
 use Rattle.frame_words.specs.declared.geometry.Geometry.{Geometry}
 use Rattle.frame_model.specs.declared.block.FrameBlock.{FrameBlock}
 use Rattle.frame_model.specs.declared.key.Key.{Key}
-use Rattle.frame_core.specs.Key.{sealed_key, frame_count}
-use Rattle.frame_core.specs.View.{boot_blocks}
-use Rattle.frame_core.specs.Block.{smalls, wholes}
-use Rattle.frame_core.specs.Holding.{holders}
-use Rattle.frame_core.specs.Report.{held_at}
-use Rattle.frame_core.specs.Words.{bit_of, huge_of}
+use Rattle.frame_model.specs.Key.{sealed_key, frame_count}
+use Rattle.frame_model.specs.View.{boot_blocks}
+use Rattle.frame_model.specs.Block.{smalls, wholes}
+use Rattle.frame_model.specs.Holding.{holders}
+use Rattle.frame_model.specs.Report.{held_at}
+use Rattle.frame_model.specs.Words.{bit_of, huge_of}
 use Rattle.core_frames.specs.Splits.{AreHalves}
 
 -- the memory and the ranges that its opening held back, the blocks that were taken and neither given

@@ -3,7 +3,7 @@ use Rattle.std.specs.Prelude.{◌≡◌, ◌⊎◌, ℕ, ◌+◌, ◌≤◌, Lis
 use Rattle.frame_words.specs.declared.fault.Fault.{Fault}
 use Rattle.frame_words.specs.declared.fault.Fault.TheVariants.{BadRange, NoMemory}
 use Rattle.frame_words.specs.declared.geometry.Geometry.{Geometry}
-use Rattle.frame_core.specs.Key.{most_ranges, AreRanges}
+use Rattle.frame_model.specs.Key.{most_ranges, AreRanges}
 
 -- there are few enough ranges, none is empty, they ascend and do not overlap, and end inside memory
 pub record MayHoldBack (geometry : Geometry) (ranges : List (ℕ × ℕ)) : Type 0 where

@@ -5,7 +5,7 @@ use Rattle.frame_words.specs.declared.fault.Fault.TheVariants as fault
 use Rattle.frame_words.specs.declared.geometry.Geometry.{Geometry}
 use Rattle.frame_words.specs.declared.fault.TakeFault.TheVariants.{BadOrder, NoBlock, Contended}
 use Rattle.frame_model.specs.declared.block.FrameBlock.{FrameBlock}
-use Rattle.frame_core.specs.Key.{tree_count}
+use Rattle.frame_model.specs.Key.{tree_count}
 use Rattle.frame_table.specs.Closing.{IsUnclosedFor}
 use Rattle.frame_table.specs.Openings.{IsLeft}
 use Rattle.core_frames.specs.declared.shared.allocator.Allocator.{Allocator}

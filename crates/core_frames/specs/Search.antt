@@ -4,9 +4,9 @@ use Rattle.frame_words.specs.Geometry.{tree_frames}
 use Rattle.frame_model.specs.declared.block.FrameBlock.{FrameBlock}
 use Rattle.frame_model.specs.declared.key.Key.{Key}
 use Rattle.frame_model.specs.declared.view.View.{View}
-use Rattle.frame_core.specs.Key.{tree_count}
-use Rattle.frame_core.specs.Block.{IsBlock}
-use Rattle.frame_core.specs.View.{counted}
+use Rattle.frame_model.specs.Key.{tree_count}
+use Rattle.frame_model.specs.Block.{IsBlock}
+use Rattle.frame_model.specs.View.{counted}
 use Rattle.low_frames.specs.Takes.{IsAsBefore}
 
 -- the view is as before, but for its counts, and n frames of the tree, all that are, are paid

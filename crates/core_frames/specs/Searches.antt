@@ -7,9 +7,9 @@ use Rattle.frame_words.specs.declared.fault.TakeFault.TheVariants.{BadOrder, NoB
 use Rattle.frame_words.specs.Words.{rest_in}
 use Rattle.frame_model.specs.declared.block.FrameBlock.{FrameBlock}
 use Rattle.frame_model.specs.declared.view.View.{View}
-use Rattle.frame_core.specs.Key.{tree_count}
-use Rattle.frame_core.specs.Words.{local_place, IsRest}
-use Rattle.frame_core.specs.View.{counted, IsIdle}
+use Rattle.frame_model.specs.Key.{tree_count}
+use Rattle.frame_model.specs.Words.{local_place, IsRest}
+use Rattle.frame_model.specs.View.{counted, IsIdle}
 use Rattle.frame_core.specs.Mover.{Mover, Keeps, KeepsOthers}
 use Rattle.low_frames.specs.Bounds.{attempt}
 use Rattle.low_frames.specs.Takes.{Counts, IsAsBefore, IsSure, StaysSure}

@@ -6,12 +6,12 @@ use Rattle.frame_words.specs.Runs.{four_order}
 use Rattle.frame_model.specs.declared.block.FrameBlock.{FrameBlock}
 use Rattle.frame_model.specs.declared.key.Key.{Key}
 use Rattle.frame_model.specs.declared.view.View.{View}
-use Rattle.frame_core.specs.Key.{frame_count}
-use Rattle.frame_core.specs.Block.{block, IsBlock, small_at, whole_at, smalls, wholes}
-use Rattle.frame_core.specs.Words.{bit_of, huge_of}
-use Rattle.frame_core.specs.View.{IsIdle}
+use Rattle.frame_model.specs.Key.{frame_count}
+use Rattle.frame_model.specs.Block.{block, IsBlock, small_at, whole_at, smalls, wholes}
+use Rattle.frame_model.specs.Words.{bit_of, huge_of}
+use Rattle.frame_model.specs.View.{IsIdle}
 use Rattle.frame_core.specs.Mover.{Mover, KeepsOthers}
-use Rattle.frame_core.specs.Report.{held_at}
+use Rattle.frame_model.specs.Report.{held_at}
 use Rattle.low_frames.specs.Takes.{Counts}
 use Rattle.low_frames.specs.Alone.{Turns}
 use Rattle.core_frames.specs.Bounds.{most_to_bring_in, most_in_split}

@@ -6,8 +6,8 @@ use Rattle.frame_words.specs.declared.fault.Fault.TheVariants as fault
 use Rattle.frame_words.specs.declared.fault.TakeFault.{TakeFault}
 use Rattle.frame_words.specs.declared.fault.TakeFault.TheVariants.{BadOrder, NoBlock, Contended}
 use Rattle.frame_model.specs.declared.view.View.{View}
-use Rattle.frame_core.specs.Key.{tree_count}
-use Rattle.frame_core.specs.Holding.{IsFreeBlock}
+use Rattle.frame_model.specs.Key.{tree_count}
+use Rattle.frame_model.specs.Holding.{IsFreeBlock}
 use Rattle.frame_core.specs.Mover.{LiesInside}
 use Rattle.low_frames.specs.Outcomes.{HasNoBootFrame}
 use Rattle.frame_table.specs.Seats.{block_in}

@@ -3,11 +3,11 @@ use Rattle.std.specs.Prelude.{◌≡◌, ◌≢◌, ℕ, ◌+◌, ◌^◌, ◌<�
 use Rattle.frame_model.specs.declared.block.FrameBlock.{FrameBlock}
 use Rattle.frame_model.specs.declared.key.Key.{Key}
 use Rattle.frame_model.specs.declared.view.Eye.{Eye}
-use Rattle.frame_core.specs.Block.{covers}
-use Rattle.frame_core.specs.Events.{State, Has, Fits}
-use Rattle.frame_core.specs.Holding.{holders}
+use Rattle.frame_model.specs.Block.{covers}
+use Rattle.frame_model.specs.Events.{State, Has, Fits}
+use Rattle.frame_model.specs.Holding.{holders}
 use Rattle.frame_core.specs.Image.{Contents}
-use Rattle.frame_core.specs.Report.{held_at}
+use Rattle.frame_model.specs.Report.{held_at}
 use Rattle.frame_table.specs.Closing.{kept_through, IsClosingOf}
 use Rattle.frame_table.specs.Seats.{block_in, view_of}
 use Rattle.frame_table.specs.Stopping.{IsImageAtStop}

@@ -3,8 +3,8 @@
 ghost use Rattle.std.specs.Prelude.{◌≡◌, ◌+◌, ◌-◌, ◌*◌, ◌/◌, ◌^◌, ◌≤◌, min};
 ghost use Rattle.std.specs.List.{sum_by, range_with_len};
 ghost use Rattle.frame_words.specs.Geometry.{child_frames, most_children};
-ghost use Rattle.frame_core.specs.View.{IsIdle};
-ghost use Rattle.frame_core.specs.Words.{entry_word_count};
+ghost use Rattle.frame_model.specs.View.{IsIdle};
+ghost use Rattle.frame_model.specs.Words.{entry_word_count};
 ghost use Rattle.frame_table.specs.Seats.{reads_of};
 ghost use Rattle.core_frames.specs.Cores.{memory_of, seat_of, view_in, IsCoreOf, StaysCoreOf};
 ghost use Rattle.core_frames.specs.FreeCounts.{free_at, is_whole, shows_whole, frames_read, huge_read};

@@ -1,7 +1,7 @@
 //! Joins of blocks over any moves.
 
 ghost use Rattle.std.specs.Prelude.{◌≡◌, ◌+◌, ◌^◌, ◌<◌, ◌≤◌, MatchBool, OnErr};
-ghost use Rattle.frame_core.specs.Block.{block};
+ghost use Rattle.frame_model.specs.Block.{block};
 ghost use Rattle.core_frames.specs.Bounds.{most_in_join};
 ghost use Rattle.core_frames.specs.Joins.{AreBuddies, MayJoinBlocks, JoinsBy};
 

@@ -4,13 +4,13 @@
 ghost use Rattle.std.specs.Prelude.{◌≡◌, ◌+◌, ◌⊎◌, ◌↔◌, ◌<◌, [], ◌∷◌, OnOk, OnErr, IfOk, IfErr, IfSome, IfNone};
 ghost use Rattle.std.specs.List.{Contains};
 ghost use Rattle.std.specs.List.Sorted.{IsPermutation};
-ghost use Rattle.frame_core.specs.Block.{block as block_at};
-ghost use Rattle.frame_core.specs.Holding.{IsHolding};
-ghost use Rattle.frame_core.specs.Key.{AreRanges, sealed_key, frame_count};
-ghost use Rattle.frame_core.specs.Laws.{AddsUp};
-ghost use Rattle.frame_core.specs.Openings.{IsSealedOpening};
-ghost use Rattle.frame_core.specs.QuietTake.{QuietTake};
-ghost use Rattle.frame_core.specs.Stops.{unsealed};
+ghost use Rattle.frame_model.specs.Block.{block as block_at};
+ghost use Rattle.frame_model.specs.Holding.{IsHolding};
+ghost use Rattle.frame_model.specs.Key.{AreRanges, sealed_key, frame_count};
+ghost use Rattle.frame_model.specs.Laws.{AddsUp};
+ghost use Rattle.frame_model.specs.Openings.{IsSealedOpening};
+ghost use Rattle.frame_model.specs.QuietTake.{QuietTake};
+ghost use Rattle.frame_model.specs.Stops.{unsealed};
 ghost use Rattle.plain_moves.specs.Plain.{Begins};
 ghost use Rattle.plain_moves.specs.PlainState.{words_by, IsByItself};
 ghost use Rattle.core_frames.specs.FreeCounts.{frames_together, clear_children};
@@ -55,7 +55,7 @@ impl Model for PlainAllocator {
     ghost use Rattle.core_frames.specs.PlainBytes.{out_of, kept_of};
     ghost use Rattle.core_frames.specs.PlainAgree.{AgreeWith};
     ghost use Rattle.core_frames.specs.PlainState.{PlainState};
-    ghost use Rattle.frame_core.specs.Key.{sealed_key};
+    ghost use Rattle.frame_model.specs.Key.{sealed_key};
 
     ghost Value = { PlainState };
 

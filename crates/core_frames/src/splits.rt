@@ -2,7 +2,7 @@
 
 ghost use Rattle.std.specs.Prelude.{◌≡◌, ◌+◌, ◌*◌, ◌≤◌, OnErr};
 ghost use Rattle.frame_words.specs.Geometry.{child_frames, huge_order};
-ghost use Rattle.frame_core.specs.Block.{block};
+ghost use Rattle.frame_model.specs.Block.{block};
 ghost use Rattle.core_frames.specs.Bounds.{most_to_break_up, most_in_split};
 ghost use Rattle.core_frames.specs.Searches.{Brings};
 ghost use Rattle.core_frames.specs.Splits.{

@@ -14,13 +14,13 @@ use Rattle.std.proofs.lemmas.List.FromFn.{get_or-map-range_with_len, length-map-
 use Rattle.std.proofs.lemmas.List.Sums.{sum_by-cons}
 use Rattle.std.proofs.Math.Nat.{one-le-pow, mul-div_cancel_left, mul-add-div, div-le_self}
 use Rattle.frame_model.specs.declared.key.Key.{Key}
-use Rattle.frame_core.specs.Key.{child_of, size_of, tree_count, frame_count}
+use Rattle.frame_model.specs.Key.{child_of, size_of, tree_count, frame_count}
 use Rattle.frame_model.proofs.Zeros.{get_or-zeros}
-use Rattle.frame_core.specs.Block.{block}
+use Rattle.frame_model.specs.Block.{block}
 use Rattle.frame_words.specs.Words.{flag_in}
 use Rattle.frame_words.proofs.LaneLemmas.{lane_in-lt}
-use Rattle.frame_core.specs.Words.{entry_place, entry_of, huge_of, bit_of, bit_word_of}
-use Rattle.frame_core.specs.Report.{held_at, held_within, clear_at, clear_within}
+use Rattle.frame_model.specs.Words.{entry_place, entry_of, huge_of, bit_of, bit_word_of}
+use Rattle.frame_model.specs.Report.{held_at, held_within, clear_at, clear_within}
 use Rattle.frame_model.proofs.Sums.{range_same}
 use Rattle.frame_model.proofs.ReportLemmas.{range_split, range_from, range_le, range_ones}
 use Rattle.frame_image.specs.ImageText.{child_bits}

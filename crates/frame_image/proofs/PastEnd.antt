@@ -7,7 +7,7 @@ use Rattle.std.proofs.lemmas.Bool.Decides.{nat_tests}
 use Rattle.std.proofs.lemmas.Nat.Bits.{bit_at-lt}
 use Rattle.std.proofs.lemmas.List.FromFn.{get_or-map-range_with_len}
 use Rattle.frame_model.specs.declared.key.Key.{Key}
-use Rattle.frame_core.specs.Words.{bit_word_of, bit_of, huge_of}
+use Rattle.frame_model.specs.Words.{bit_word_of, bit_of, huge_of}
 use Rattle.frame_core.specs.Image.{IsImage, SetsPastEnd}
 use Rattle.frame_image.specs.ImageText.{frames_in, keeps_end, all_set_from, child_bits}
 use Rattle.frame_image.proofs.Ranges.{clear_from}

@@ -8,10 +8,10 @@ use Rattle.std.proofs.lemmas.List.FromFn.{get_or-map-range_with_len, length-map-
 use Rattle.frame_words.specs.Words.{entry_word, free_in, flag_in}
 use Rattle.frame_words.proofs.WordLemmas.{free_in-entry_word, flag_in-entry_word, entry_word-lt}
 use Rattle.frame_model.specs.declared.key.Key.{Key}
-use Rattle.frame_core.specs.Key.{tree_count, children_in, children_of, size_of}
-use Rattle.frame_core.specs.Words.{free_of, huge_of, tree_free_of, bit_word_of, set_of, with_tree, AreInRange}
+use Rattle.frame_model.specs.Key.{tree_count, children_in, children_of, size_of}
+use Rattle.frame_model.specs.Words.{free_of, huge_of, tree_free_of, bit_word_of, set_of, with_tree, AreInRange}
 use Rattle.frame_core.specs.Image.{Contents, IsImage, SetsPastEnd, blank_words, with_child}
-use Rattle.frame_core.specs.Rebuilt.{rebuilt_free, rebuilt_in_tree, rebuilt_bits, IsRebuilt}
+use Rattle.frame_model.specs.Rebuilt.{rebuilt_free, rebuilt_in_tree, rebuilt_bits, IsRebuilt}
 use Rattle.frame_model.proofs.Sums.{range_same}
 use Rattle.frame_model.proofs.RebuiltLemmas.{rebuilt_free-set, rebuilt_free-huge, rebuilt_bits-set, rebuilt_bits-huge, IsRebuilt-again}
 use Rattle.frame_core.proofs.Blank.{blank_image, blank_uncounted}

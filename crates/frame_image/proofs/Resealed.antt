@@ -2,8 +2,8 @@
 use Rattle.std.proofs.Common.{false, List, [], ℕ, subst}
 use Rattle.frame_words.specs.declared.geometry.Geometry.{Geometry}
 use Rattle.frame_model.specs.declared.key.Key.{Key}
-use Rattle.frame_core.specs.Key.{key_of}
-use Rattle.frame_core.specs.Rebuilt.{IsRebuilt}
+use Rattle.frame_model.specs.Key.{key_of}
+use Rattle.frame_model.specs.Rebuilt.{IsRebuilt}
 use Rattle.frame_model.proofs.HeldBack.{rebuilt_held_back}
 use Rattle.plain_moves.specs.Plain.{plain_key}
 use Rattle.frame_image.specs.Rebuilding.{RebuildsAny}

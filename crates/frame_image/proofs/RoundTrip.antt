@@ -12,8 +12,8 @@ use Rattle.std.proofs.lemmas.List.FromFn.{get_or-map-range_with_len, length-map-
 use Rattle.std.proofs.lemmas.Fmt.{decimal_nonempty}
 use Rattle.frame_words.specs.Words.{entry_word, local_word}
 use Rattle.frame_model.specs.declared.key.Key.{Key}
-use Rattle.frame_core.specs.Key.{tree_count, size_of, AreSizes}
-use Rattle.frame_core.specs.Words.{free_of, huge_of, tree_free_of, reserved_of, rest_of, bit_word_of, bit_of, with_tree, with_local}
+use Rattle.frame_model.specs.Key.{tree_count, size_of, AreSizes}
+use Rattle.frame_model.specs.Words.{free_of, huge_of, tree_free_of, reserved_of, rest_of, bit_word_of, bit_of, with_tree, with_local}
 use Rattle.frame_core.specs.Image.{IsImage, FitsTree, with_child}
 use Rattle.frame_image.specs.Hex.{words_in, hex_text}
 use Rattle.frame_image.specs.ImageText.{frames_in, keeps_end, all_set_from, child_said, child_bits}

@@ -6,8 +6,8 @@ use Rattle.std.proofs.lemmas.List.FromFn.{get_or-map-range_with_len, length-map-
 use Rattle.frame_words.specs.Words.{entry_word, free_in, flag_in, rest_in, local_word}
 use Rattle.frame_words.proofs.WordLemmas.{free_in-entry_word, flag_in-entry_word, entry_word-lt}
 use Rattle.frame_model.specs.declared.key.Key.{Key}
-use Rattle.frame_core.specs.Key.{tree_count}
-use Rattle.frame_core.specs.Words.{free_of, huge_of, tree_free_of, reserved_of, rest_of, local_word_of, bit_word_of, with_tree, with_local}
+use Rattle.frame_model.specs.Key.{tree_count}
+use Rattle.frame_model.specs.Words.{free_of, huge_of, tree_free_of, reserved_of, rest_of, local_word_of, bit_word_of, with_tree, with_local}
 use Rattle.frame_core.specs.Image.{IsImage, FitsTree, with_child}
 use Rattle.frame_model.proofs.Words.{tree_written, local_written}
 use Rattle.frame_model.proofs.OtherWords.{bit_word_of-with_tree, bit_word_of-with_local}

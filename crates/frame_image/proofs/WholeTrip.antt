@@ -11,8 +11,8 @@ use Rattle.csv.specs.Reading.{default_config, records, strip_bom}
 use Rattle.csv.specs.Writing.{read_back}
 use Rattle.frame_words.specs.declared.geometry.Geometry.{Geometry}
 use Rattle.frame_model.specs.declared.key.Key.{Key}
-use Rattle.frame_core.specs.Key.{key_of, tree_count, frame_count, AreSizes}
-use Rattle.frame_core.specs.Words.{rest_of}
+use Rattle.frame_model.specs.Key.{key_of, tree_count, frame_count, AreSizes}
+use Rattle.frame_model.specs.Words.{rest_of}
 use Rattle.frame_core.specs.Image.{Contents, IsImage, key_in, blank_words}
 use Rattle.frame_core.proofs.Blank.{blank_image}
 use Rattle.frame_image.specs.Records.{records_of}

@@ -11,7 +11,7 @@ use Rattle.std.proofs.lemmas.List.FromFn.{map-range_with_len_more}
 use Rattle.std.proofs.lemmas.Nat.{and_mask, shr-shr}
 use Rattle.csv.specs.Writing.{default_writer, row_text}
 use Rattle.frame_model.specs.declared.key.Key.{Key}
-use Rattle.frame_core.specs.Words.{rest_of}
+use Rattle.frame_model.specs.Words.{rest_of}
 use Rattle.frame_image.specs.Hex.{hex_digits, hex_text}
 use Rattle.frame_image.specs.ImageText.{text_of, core_row, rest_row}
 use Rattle.frame_image.specs.Tally.{number_row, number_rows}

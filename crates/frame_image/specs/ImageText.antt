@@ -10,9 +10,9 @@ use Rattle.frame_words.specs.Words.{flag, entry_word, local_word}
 use Rattle.frame_words.specs.declared.fault.Fault.{Fault}
 use Rattle.frame_words.specs.declared.fault.Fault.TheVariants as fault
 use Rattle.frame_model.specs.declared.key.Key.{Key}
-use Rattle.frame_core.specs.Key.{tree_count, size_of, frame_count}
-use Rattle.frame_core.specs.Words.{bit_word_of, free_of, huge_of, tree_free_of, reserved_of, rest_of}
-use Rattle.frame_core.specs.Words.{with_tree, with_local}
+use Rattle.frame_model.specs.Key.{tree_count, size_of, frame_count}
+use Rattle.frame_model.specs.Words.{bit_word_of, free_of, huge_of, tree_free_of, reserved_of, rest_of}
+use Rattle.frame_model.specs.Words.{with_tree, with_local}
 use Rattle.frame_core.specs.Image.{Contents, key_in, with_child, blank_words}
 use Rattle.frame_image.specs.Numbers.{is_number, decimal_value, number_below}
 use Rattle.frame_image.specs.Records.{after_record, records_of}

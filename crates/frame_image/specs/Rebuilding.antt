@@ -3,11 +3,11 @@ use Rattle.std.specs.Prelude.{◌≡◌, ℕ, ◌*◌, ◌<◌, List, None, map}
 use Rattle.std.specs.List.{range_with_len}
 use Rattle.frame_words.specs.declared.geometry.Geometry.{Geometry}
 use Rattle.frame_model.specs.declared.key.Key.{Key}
-use Rattle.frame_core.specs.Key.{tree_count}
-use Rattle.frame_core.specs.Words.{free_of, huge_of, tree_free_of, reserved_of, rest_of, bit_word_of}
+use Rattle.frame_model.specs.Key.{tree_count}
+use Rattle.frame_model.specs.Words.{free_of, huge_of, tree_free_of, reserved_of, rest_of, bit_word_of}
 use Rattle.frame_core.specs.Image.{IsImage}
 use Rattle.frame_core.specs.Moves.{HasSizes}
-use Rattle.frame_core.specs.Rebuilt.{rebuilt_free, rebuilt_in_tree, rebuilt_bits, IsRebuilt}
+use Rattle.frame_model.specs.Rebuilt.{rebuilt_free, rebuilt_in_tree, rebuilt_bits, IsRebuilt}
 
 -- the new words are the old ones rebuilt, and no others are
 pub record RebuildsJust (key : Key) (old new : List ℕ) : Type 0 where

@@ -2,8 +2,8 @@
 use Rattle.std.specs.Prelude.{◌≡◌, ℕ, List}
 use Rattle.frame_model.specs.declared.block.FrameBlock.{FrameBlock}
 use Rattle.frame_core.specs.Image.{Contents, key_in}
-use Rattle.frame_core.specs.Openings.{held_blocks}
-use Rattle.frame_core.specs.Rebuilt.{IsRebuilt}
+use Rattle.frame_model.specs.Openings.{held_blocks}
+use Rattle.frame_model.specs.Rebuilt.{IsRebuilt}
 use Rattle.frame_table.specs.Openings.{unsealed_key}
 
 -- the blocks are those that the image holds once it is rebuilt

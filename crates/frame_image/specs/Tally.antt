@@ -3,9 +3,9 @@ use Rattle.std.specs.Prelude.{ℕ, zero, suc, ◌+◌, ◌-◌, List, [], ◌∷
 use Rattle.std.specs.List.{range_with_len, flat_map}
 use Rattle.csv.specs.Writing.{default_writer, row_text}
 use Rattle.frame_model.specs.declared.key.Key.{Key}
-use Rattle.frame_core.specs.Key.{tree_count}
-use Rattle.frame_core.specs.Report.{held_within, clear_within, held_frames_of, free_frames_of}
-use Rattle.frame_core.specs.Report.{clear_blocks_of, held_frames, free_frames, clear_blocks}
+use Rattle.frame_model.specs.Key.{tree_count}
+use Rattle.frame_model.specs.Report.{held_within, clear_within, held_frames_of, free_frames_of}
+use Rattle.frame_model.specs.Report.{clear_blocks_of, held_frames, free_frames, clear_blocks}
 
 -- a report: the numbers of each tree, and those of all memory
 pub record Tally : Type 0 where

@@ -5,9 +5,9 @@ ghost use Rattle.std.specs.Int.{bit_at};
 ghost use Rattle.std.specs.List.{sum_by, range_with_len};
 ghost use Rattle.frame_words.specs.Geometry.{child_frames, word_frames};
 ghost use Rattle.frame_words.specs.Words.{flag};
-ghost use Rattle.frame_core.specs.Block.{block};
+ghost use Rattle.frame_model.specs.Block.{block};
 ghost use Rattle.frame_core.specs.Image.{key_in};
-ghost use Rattle.frame_core.specs.Report.{clear_at, clear_within};
+ghost use Rattle.frame_model.specs.Report.{clear_at, clear_within};
 ghost use Rattle.frame_image.specs.Tally.{numbers_of};
 
 use crate::recovery::child_bits;

@@ -1,7 +1,7 @@
 //! Counting a report: child by child, tree by tree.
 
 ghost use Rattle.std.specs.Prelude.{◌≡◌, ◌^◌, ◌+◌, ◌<◌, ℕ, get_or, IfErr, IfOk};
-ghost use Rattle.frame_core.specs.Key.{tree_count};
+ghost use Rattle.frame_model.specs.Key.{tree_count};
 ghost use Rattle.frame_core.specs.Image.{key_in};
 ghost use Rattle.frame_image.specs.Tally.{tally_of, tree_numbers};
 

@@ -3,9 +3,9 @@
 ghost use Rattle.std.specs.Prelude.{◌≡◌, ◌<◌, ◌≤◌};
 ghost use Rattle.frame_words.specs.Geometry.{child_frames};
 ghost use Rattle.frame_core.specs.Image.{key_in};
-ghost use Rattle.frame_core.specs.Key.{frame_count};
-ghost use Rattle.frame_core.specs.Report.{held_frames as the_held_frames};
-ghost use Rattle.frame_core.specs.Words.{held_of};
+ghost use Rattle.frame_model.specs.Key.{frame_count};
+ghost use Rattle.frame_model.specs.Report.{held_frames as the_held_frames};
+ghost use Rattle.frame_model.specs.Words.{held_of};
 
 use frame_core::Image;
 use frame_words::CHILD_FRAMES;

@@ -3,7 +3,7 @@
 ghost use Rattle.std.specs.Prelude.{◌≡◌, ◌*◌, ◌≤◌, ◌<◌, IfSome, option_map, codes};
 ghost use Rattle.csv.specs.Records.{fields_of};
 ghost use Rattle.frame_words.specs.Geometry.{most_children, most_cores};
-ghost use Rattle.frame_core.specs.Key.{key_of};
+ghost use Rattle.frame_model.specs.Key.{key_of};
 ghost use Rattle.frame_image.specs.ImageText as Spec;
 
 use crate::fields::five_fields;

@@ -2,7 +2,7 @@
 
 ghost use Rattle.std.specs.Prelude.{◌≡◌, ◌<◌, ◌≤◌, ◌∷◌, [], codes, true, IsTrue};
 ghost use Rattle.csv.specs.Records.{field_at, fields_of};
-ghost use Rattle.frame_core.specs.Key.{key_of, tree_count, size_of};
+ghost use Rattle.frame_model.specs.Key.{key_of, tree_count, size_of};
 ghost use Rattle.frame_core.specs.Image.{key_in, FitsTree};
 ghost use Rattle.frame_image.specs.ImageText as Spec;
 ghost use Rattle.frame_image.specs.Numbers.{number_below as the_number_below};

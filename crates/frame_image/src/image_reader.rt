@@ -5,7 +5,7 @@ ghost use Rattle.std.specs.Prelude.{IfErr, IfOk, IfSome, IsErrOf, OnOk};
 ghost use Rattle.std.specs.Bool.{OnTrue, OnFalse};
 ghost use Rattle.csv.specs.Records.{fields_of};
 ghost use Rattle.frame_core.specs.Image.{key_in};
-ghost use Rattle.frame_core.specs.Key.{key_of};
+ghost use Rattle.frame_model.specs.Key.{key_of};
 ghost use Rattle.frame_image.specs.ImageText as Spec;
 ghost use Rattle.frame_image.specs.ImageText.{drawn, Explains, ExplainsParts, IsReadingFault};
 ghost use Rattle.frame_image.specs.Devices.{device_of, has_failed};

@@ -7,7 +7,7 @@ ghost use Rattle.frame_image.specs.Devices.{device_of, has_failed, WritesFront};
 ghost use Rattle.std.specs.List.{range_with_len};
 ghost use Rattle.csv.specs.Writing.{default_writer, row_text};
 ghost use Rattle.frame_words.specs.Words.{flag};
-ghost use Rattle.frame_core.specs.Key.{key_of, tree_count};
+ghost use Rattle.frame_model.specs.Key.{key_of, tree_count};
 ghost use Rattle.frame_core.specs.Image.{key_in};
 ghost use Rattle.frame_image.specs.Hex.{hex_text};
 ghost use Rattle.frame_image.specs.ImageText.{drawn, image_of, picture_of, text_of};

@@ -12,8 +12,8 @@ use Rattle.std.proofs.lemmas.List.Sorted.{length_permutation, sum_by-IsPermutati
 use Rattle.std.proofs.lemmas.List.Sums.{sum_by-cons}
 use Rattle.frame_model.specs.declared.block.FrameBlock.{FrameBlock}
 use Rattle.frame_model.specs.declared.view.View.{View}
-use Rattle.frame_core.specs.Block.{block, covers}
-use Rattle.frame_core.specs.Holding.{holders}
+use Rattle.frame_model.specs.Block.{block, covers}
+use Rattle.frame_model.specs.Holding.{holders}
 use Rattle.frame_table.specs.Keeping.{HasKept}
 use Rattle.frame_table.specs.Seats.{block_in}
 use Rattle.frame_table.specs.declared.block.Block.{Block}

@@ -2,7 +2,7 @@
 use Rattle.std.specs.Prelude.{◌≡◌, ℕ, ◌+◌, ◌/◌, ◌%◌, ◌^◌, ◌<◌, ◌≤◌, List}
 use Rattle.std.specs.List.Sorted.{IsNonDecreasingBy}
 use Rattle.frame_model.specs.declared.block.FrameBlock.{FrameBlock}
-use Rattle.frame_core.specs.Holding.{holders}
+use Rattle.frame_model.specs.Holding.{holders}
 use Rattle.frame_slots.specs.Numbers.{image_bit, IsHugeIn}
 
 -- an image of so many frames holds the block in its own form: a huge frame by its flag, a smaller one

@@ -3,7 +3,7 @@ use Rattle.std.specs.Prelude.{◌≡◌, ◌⊎◌, ℕ, pos, ◌+◌, ◌<◌, 
 use Rattle.frame_words.specs.declared.fault.Fault.{Fault}
 use Rattle.frame_words.specs.declared.fault.Fault.TheVariants.{Contended, NoMemory}
 use Rattle.frame_model.specs.declared.block.FrameBlock.{FrameBlock}
-use Rattle.frame_core.specs.Holding.{holders, IsFree, IsHeld}
+use Rattle.frame_model.specs.Holding.{holders, IsFree, IsHeld}
 use Rattle.frame_table.specs.Seats.{block_in}
 use Rattle.frame_table.specs.declared.block.Block.{Block}
 use Rattle.core_frames.specs.Cores.{lent_by, kept_by}

@@ -1,9 +1,9 @@
 -- What clauses say of slots, and of the cores that blocks at them are taken by.
 use Rattle.std.specs.Prelude.{◌≡◌, ℕ, pos, ◌+ℤ◌, ◌-ℤ◌, Some, []}
 use Rattle.frame_model.specs.declared.block.FrameBlock.{FrameBlock}
-use Rattle.frame_core.specs.Block.{block, IsBlock}
-use Rattle.frame_core.specs.Events.{eye}
-use Rattle.frame_core.specs.View.{holder}
+use Rattle.frame_model.specs.Block.{block, IsBlock}
+use Rattle.frame_model.specs.Events.{eye}
+use Rattle.frame_model.specs.View.{holder}
 use Rattle.frame_table.specs.Seats.{block_in, id_of}
 use Rattle.frame_table.specs.declared.block.Block.{Block}
 use Rattle.core_frames.specs.Cores.{memory_of, IsCoreOf, IsOutOf, lent_by, kept_by, losses_by}

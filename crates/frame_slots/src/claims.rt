@@ -3,7 +3,7 @@
 ghost use Rattle.std.specs.Prelude.{◌≡◌, ℕ, ◌+◌, ◌*◌, ◌/◌, ◌^◌, ◌<◌, ◌≤◌, ◌↔◌, MatchBool, IsTrue, false};
 ghost use Rattle.std.specs.List.{All, Contains};
 ghost use Rattle.frame_slots.specs.Claims.{Ascend, ShareNoFrame, IsOrderedBlock, IsHeldAs};
-ghost use Rattle.frame_core.specs.Block.{block as block_at};
+ghost use Rattle.frame_model.specs.Block.{block as block_at};
 
 use crate::numbers::{are_set, is_huge};
 use frame_core::FrameBlock;

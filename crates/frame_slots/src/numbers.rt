@@ -1,7 +1,7 @@
 //! The numbers of an image that was left: nine for each child, its entry and its eight bit words.
 
 ghost use Rattle.std.specs.Prelude.{◌≡◌, ℕ, ◌+◌, ◌*◌, ◌/◌, ◌^◌, ◌<◌, ◌≤◌, ◌↔◌, MatchBool, IsTrue, slice_index};
-ghost use Rattle.frame_core.specs.Block.{block as block_at};
+ghost use Rattle.frame_model.specs.Block.{block as block_at};
 ghost use Rattle.frame_slots.specs.Numbers.{image_bit, most_frames, IsEntry, IsChildOf, IsFreeIn, IsHeldBy, AreAllHeld, IsHugeIn, IsImageOf};
 
 use frame_words::{CHILD_FRAMES, CHILD_WORDS, FLAG, HUGE_ORDER, WORD_FRAMES, child_of, frames_of};

@@ -4,7 +4,7 @@
 ghost use Rattle.std.specs.Prelude.{◌≡◌, [], ◌∷◌, ◌++◌, map, vec_len, IfOk, IfErr, IsTrue};
 ghost use Rattle.std.specs.List.{All};
 ghost use Rattle.core_frames.specs.Cores.{memory_of, IsCoreOf, IsOutOf};
-ghost use Rattle.frame_core.specs.Block.{block as block_at};
+ghost use Rattle.frame_model.specs.Block.{block as block_at};
 ghost use Rattle.frame_slots.specs.Numbers.{IsFreeIn, AreAllHeld};
 ghost use Rattle.frame_slots.specs.Reopenings.{IsNoReplay, IsFollowing, KeepsRest, MakeUp};
 ghost use Rattle.frame_slots.specs.SlotLists.{HasListAndCore, IsListOf};

@@ -7,9 +7,9 @@ use Rattle.atomic_table.specs.Seated.{TableId}
 use Rattle.frame_model.specs.declared.key.Key.{Key}
 use Rattle.frame_model.specs.declared.view.Eye.{Eye}
 use Rattle.frame_model.specs.declared.view.View.{View}
-use Rattle.frame_core.specs.View.{IsViewOf}
-use Rattle.frame_core.specs.Steps.{Kind, place, effect, after_load, after_loss, next}
-use Rattle.frame_core.specs.Events.{sighting, last_seen}
+use Rattle.frame_model.specs.View.{IsViewOf}
+use Rattle.frame_model.specs.Steps.{Kind, place, effect, after_load, after_loss, next}
+use Rattle.frame_model.specs.Events.{sighting, last_seen}
 use Rattle.frame_core.specs.Moves.{ReadsBut}
 use Rattle.frame_core.specs.Mover.{IsApart}
 use Rattle.frame_table.specs.Rule.{Becomes, Looks, IsExchangedAs, IsChangedAs}

@@ -8,12 +8,12 @@ use mathlib.Core.Option.{some}
 use lib.ListN.{get_elem?}
 use Rattle.frame_model.specs.declared.key.Key.{Key}
 use Rattle.frame_model.specs.declared.view.View.{View}
-use Rattle.frame_core.specs.Words.{run, bits_place, bit_word_of}
-use Rattle.frame_core.specs.View.{small_in}
-use Rattle.frame_core.specs.Fit.{Fit}
-use Rattle.frame_core.specs.Steps.{Rest, release, turned}
-use Rattle.frame_core.specs.Steps.Amounts.{IsRun}
-use Rattle.frame_core.specs.Steps.Conditions.{CanRelease}
+use Rattle.frame_model.specs.Words.{run, bits_place, bit_word_of}
+use Rattle.frame_model.specs.View.{small_in}
+use Rattle.frame_model.specs.Fit.{Fit}
+use Rattle.frame_model.specs.Steps.{Rest, release, turned}
+use Rattle.frame_model.specs.Steps.Amounts.{IsRun}
+use Rattle.frame_model.specs.Steps.Conditions.{CanRelease}
 use Rattle.frame_model.proofs.Bits.{bit_at_clear, run-lt}
 use Rattle.frame_model.proofs.Blocks.{run_here}
 use Rattle.frame_model.proofs.Steps.Shared.{bit_word_is, bit_is, at-le-total, smalls-le-bit}

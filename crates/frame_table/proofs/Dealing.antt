@@ -7,16 +7,16 @@ use Rattle.frame_model.specs.declared.key.Key.{Key}
 use Rattle.frame_model.specs.declared.view.Eye.{Eye}
 use Rattle.frame_model.specs.declared.view.View.{View}
 use Rattle.frame_words.specs.declared.geometry.Geometry.{Geometry}
-use Rattle.frame_core.specs.Key.{key_of, AreRanges, IsKey}
-use Rattle.frame_core.specs.Words.{bits_place, bit_word_of, bit_of}
+use Rattle.frame_model.specs.Key.{key_of, AreRanges, IsKey}
+use Rattle.frame_model.specs.Words.{bits_place, bit_word_of, bit_of}
 use Rattle.frame_core.specs.Image.{Contents, IsImage}
-use Rattle.frame_core.specs.View.{idle, IsViewOf}
-use Rattle.frame_core.specs.Fit.{Fit}
-use Rattle.frame_core.specs.Steps.{next}
-use Rattle.frame_core.specs.Seats.{part_share, left_by}
-use Rattle.frame_core.specs.Events.{eye, last_seen}
-use Rattle.frame_core.specs.Rebuilt.{IsRebuilt}
-use Rattle.frame_core.specs.Openings.{reopener, IsSealedOpening}
+use Rattle.frame_model.specs.View.{idle, IsViewOf}
+use Rattle.frame_model.specs.Fit.{Fit}
+use Rattle.frame_model.specs.Steps.{next}
+use Rattle.frame_model.specs.Seats.{part_share, left_by}
+use Rattle.frame_model.specs.Events.{eye, last_seen}
+use Rattle.frame_model.specs.Rebuilt.{IsRebuilt}
+use Rattle.frame_model.specs.Openings.{reopener, IsSealedOpening}
 use Rattle.frame_model.proofs.Opening.{sealed_fits, reopening_fits}
 use Rattle.frame_table.specs.declared.rule.Origin.{Origin}
 use Rattle.frame_table.specs.Rule.{key_from, first_view}

@@ -2,11 +2,11 @@
 use Rattle.std.proofs.Common.{◌≡◌, ℕ, ◌*◌, ◌<◌, refl, arith}
 use Rattle.frame_model.specs.declared.key.Key.{Key}
 use Rattle.frame_model.specs.declared.view.View.{View}
-use Rattle.frame_core.specs.Words.{word_count, bits_place}
-use Rattle.frame_core.specs.Steps.{Kind, charge, refund, claim, release, take_huge, give_huge, tree_pay, tree_refund, reserve, swap_local}
-use Rattle.frame_core.specs.Steps.{unreserve, local_pay, local_refund, collect, fill_word, drop_flag, place, May}
-use Rattle.frame_core.specs.Seats.{Cut, part_share, hand_out, recall, part_ground, adopt, Join, join_idle, hand_in, keep_in, left_by}
-use Rattle.frame_core.specs.Seats.{right_by, joined_by}
+use Rattle.frame_model.specs.Words.{word_count, bits_place}
+use Rattle.frame_model.specs.Steps.{Kind, charge, refund, claim, release, take_huge, give_huge, tree_pay, tree_refund, reserve, swap_local}
+use Rattle.frame_model.specs.Steps.{unreserve, local_pay, local_refund, collect, fill_word, drop_flag, place, May}
+use Rattle.frame_model.specs.Seats.{Cut, part_share, hand_out, recall, part_ground, adopt, Join, join_idle, hand_in, keep_in, left_by}
+use Rattle.frame_model.specs.Seats.{right_by, joined_by}
 use Rattle.frame_core.proofs.ImageLemmas.{entry_place-lt, tree_place-lt, local_place-lt}
 
 bits_place-lt : (key : Key) (w : ℕ) → w < 8 * key.children → bits_place key w < word_count key

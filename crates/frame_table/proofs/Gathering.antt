@@ -12,11 +12,11 @@ use Rattle.atomic_table.proofs.Lists.{at_map}
 use Rattle.frame_model.specs.declared.key.Key.{Key}
 use Rattle.frame_model.specs.declared.view.Eye.{Eye}
 use Rattle.frame_model.specs.declared.view.View.{View}
-use Rattle.frame_core.specs.Block.{smalls, wholes}
-use Rattle.frame_core.specs.View.{IsIdle}
-use Rattle.frame_core.specs.Fit.{Fit}
-use Rattle.frame_core.specs.Steps.{next}
-use Rattle.frame_core.specs.Seats.{join_idle, joined_by}
+use Rattle.frame_model.specs.Block.{smalls, wholes}
+use Rattle.frame_model.specs.View.{IsIdle}
+use Rattle.frame_model.specs.Fit.{Fit}
+use Rattle.frame_model.specs.Steps.{next}
+use Rattle.frame_model.specs.Seats.{join_idle, joined_by}
 use Rattle.frame_model.proofs.Blocks.{smalls_none, wholes_none, smalls_both, wholes_both}
 use Rattle.frame_model.proofs.Steps.Shared.{at-le-total}
 use Rattle.frame_table.specs.declared.rule.Origin.{Origin}

@@ -3,9 +3,9 @@ use Rattle.std.proofs.Common.{◌≡◌, ◌<◌, Option, refl, sym, subst}
 use Rattle.frame_model.specs.declared.block.FrameBlock.{FrameBlock}
 use Rattle.frame_model.specs.declared.key.Key.{Key}
 use Rattle.frame_model.specs.declared.view.View.{View}
-use Rattle.frame_core.specs.Key.{child_of}
-use Rattle.frame_core.specs.View.{LiesIn, holder}
-use Rattle.frame_core.specs.Seats.{CanTakeIn, CanHandIn}
+use Rattle.frame_model.specs.Key.{child_of}
+use Rattle.frame_model.specs.View.{LiesIn, holder}
+use Rattle.frame_model.specs.Seats.{CanTakeIn, CanHandIn}
 
 module _ (v u : View) (about : Option Key) (b : FrameBlock) (share : 0 < v.share)
     (is : u ≡ holder about b) where

@@ -3,13 +3,13 @@ use Rattle.std.proofs.Common.{◌≡◌, ℕ, ◌<◌, ◌≤◌, List, [], true
 use Rattle.frame_words.specs.declared.geometry.Geometry.{Geometry}
 use Rattle.frame_model.specs.declared.key.Key.{Key}
 use Rattle.frame_model.specs.declared.view.View.{View}
-use Rattle.frame_core.specs.Key.{key_of}
-use Rattle.frame_core.specs.Words.{tree_place, local_place, bits_place, word_count, tree_word_of, tree_free_of, reserved_of, local_word_of}
-use Rattle.frame_core.specs.Words.{rest_of, bit_word_of, bit_of, count_on, resting_on, IsRest}
+use Rattle.frame_model.specs.Key.{key_of}
+use Rattle.frame_model.specs.Words.{tree_place, local_place, bits_place, word_count, tree_word_of, tree_free_of, reserved_of, local_word_of}
+use Rattle.frame_model.specs.Words.{rest_of, bit_word_of, bit_of, count_on, resting_on, IsRest}
 use Rattle.frame_core.specs.Image.{IsImage}
-use Rattle.frame_core.specs.Fit.{Fit}
+use Rattle.frame_model.specs.Fit.{Fit}
 use Rattle.frame_core.specs.Moves.{HasSizes}
-use Rattle.frame_core.specs.Events.{views_of}
+use Rattle.frame_model.specs.Events.{views_of}
 use Rattle.frame_table.specs.declared.seats.CoreSeat.{CoreSeat}
 use Rattle.frame_table.specs.Closing.{IsClosed}
 use Rattle.frame_model.proofs.Sums.{range_at}

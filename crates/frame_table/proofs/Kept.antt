@@ -9,15 +9,15 @@ use mathlib.Core.Option.{some}
 use Rattle.frame_model.specs.declared.block.FrameBlock.{FrameBlock}
 use Rattle.frame_model.specs.declared.key.Key.{Key}
 use Rattle.frame_model.specs.declared.view.View.{View}
-use Rattle.frame_core.specs.Key.{frame_count, child_of}
-use Rattle.frame_core.specs.Block.{IsBlock, covers, small_at, whole_at, smalls, wholes}
-use Rattle.frame_core.specs.Words.{bit_of, huge_of}
-use Rattle.frame_core.specs.View.{marks, whole_in}
-use Rattle.frame_core.specs.Events.{views_of}
-use Rattle.frame_core.specs.Fit.{Fit}
-use Rattle.frame_core.specs.Holding.{IsHolding, holders}
-use Rattle.frame_core.specs.Laws.{HoldsJust}
-use Rattle.frame_core.specs.Report.{held_at}
+use Rattle.frame_model.specs.Key.{frame_count, child_of}
+use Rattle.frame_model.specs.Block.{IsBlock, covers, small_at, whole_at, smalls, wholes}
+use Rattle.frame_model.specs.Words.{bit_of, huge_of}
+use Rattle.frame_model.specs.View.{marks, whole_in}
+use Rattle.frame_model.specs.Events.{views_of}
+use Rattle.frame_model.specs.Fit.{Fit}
+use Rattle.frame_model.specs.Holding.{IsHolding, holders}
+use Rattle.frame_model.specs.Laws.{HoldsJust}
+use Rattle.frame_model.specs.Report.{held_at}
 use Rattle.frame_core.proofs.Apart.{apart_of}
 use Rattle.frame_model.proofs.Safe.{covers_is, holders_are}
 use Rattle.frame_model.proofs.Steps.Shared.{at-le-total, bit-le, view_of as view_at}

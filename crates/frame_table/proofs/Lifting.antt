@@ -13,15 +13,14 @@ use Rattle.frame_model.specs.declared.key.Key.{Key}
 use Rattle.frame_model.specs.declared.view.Eye.{Eye}
 use Rattle.frame_model.specs.declared.view.Sighting.{Sighting}
 use Rattle.frame_model.specs.declared.view.View.{View}
-use Rattle.frame_core.specs.View.{spent}
-use Rattle.frame_core.specs.Fit.{Fit}
-use Rattle.frame_core.specs.View.{IsViewOf}
+use Rattle.frame_model.specs.View.{spent, IsViewOf}
+use Rattle.frame_model.specs.Fit.{Fit}
 use Rattle.frame_core.specs.Mover.{IsApart}
 use Rattle.frame_core.proofs.Apart.{apart_of}
 use Rattle.frame_model.proofs.Steps.Shared.{view_of}
-use Rattle.frame_core.specs.Steps.{Kind, IsFoundBy, place, seen_by, IsMade, turned, May, effect, after_load, after_loss, next}
-use Rattle.frame_core.specs.Seats.{Cut, Join, MayCut, MayJoin}
-use Rattle.frame_core.specs.Events.{eye, sighting}
+use Rattle.frame_model.specs.Steps.{Kind, IsFoundBy, place, seen_by, IsMade, turned, May, effect, after_load, after_loss, next}
+use Rattle.frame_model.specs.Seats.{Cut, Join, MayCut, MayJoin}
+use Rattle.frame_model.specs.Events.{eye, sighting}
 use Rattle.frame_model.proofs.Steps.Seats.{look_keeps}
 use Rattle.frame_model.proofs.Steps.Every.{kind_keeps, seat_cut_keeps, seat_join_keeps}
 use Rattle.frame_table.specs.declared.rule.Origin.{Origin}

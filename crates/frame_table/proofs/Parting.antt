@@ -5,9 +5,9 @@ use Rattle.atomic_table.specs.Table.{Me}
 use Rattle.atomic_table.specs.Seated.{TableId}
 use Rattle.frame_model.specs.declared.key.Key.{Key}
 use Rattle.frame_model.specs.declared.view.Eye.{Eye}
-use Rattle.frame_core.specs.View.{IsViewOf}
-use Rattle.frame_core.specs.Steps.{next}
-use Rattle.frame_core.specs.Seats.{Cut, right_by, MayCut, Join, MayJoin}
+use Rattle.frame_model.specs.View.{IsViewOf}
+use Rattle.frame_model.specs.Steps.{next}
+use Rattle.frame_model.specs.Seats.{Cut, right_by, MayCut, Join, MayJoin}
 use Rattle.frame_model.proofs.Steps.SeatViews.{left_is, right_is, both_is}
 use Rattle.frame_table.specs.Rule.{left_eye, right_eye, both_eyes}
 use Rattle.frame_table.specs.Seats.{HasBlocksOf, IsSeat}

@@ -8,7 +8,7 @@ use Rattle.std.proofs.lemmas.Nat.Bits.{bit_at-zero, bit_at-trailing_zeros, bit_a
 use Rattle.std.proofs.lemmas.Nat.Bits.{bit_at_mask_below}
 use mathlib.Core.Logic.{dite}
 use native.Mathlib.Decide.{dec_le}
-use Rattle.frame_core.specs.Words.{run}
+use Rattle.frame_model.specs.Words.{run}
 use Rattle.frame_model.proofs.Bits.{ones_run, ones-le}
 
 -- the lowest one of a number

@@ -7,14 +7,14 @@ use Rattle.frame_model.specs.declared.block.FrameBlock.{FrameBlock}
 use Rattle.frame_model.specs.declared.key.Key.{Key}
 use Rattle.frame_model.specs.declared.view.Eye.{Eye}
 use Rattle.frame_model.specs.declared.view.View.{View}
-use Rattle.frame_core.specs.Block.{covers, smalls, wholes}
-use Rattle.frame_core.specs.Holding.{IsHolding}
-use Rattle.frame_core.specs.View.{IsIdle}
-use Rattle.frame_core.specs.Events.{State, Has, Fits}
+use Rattle.frame_model.specs.Block.{covers, smalls, wholes}
+use Rattle.frame_model.specs.Holding.{IsHolding}
+use Rattle.frame_model.specs.View.{IsIdle}
+use Rattle.frame_model.specs.Events.{State, Has, Fits}
 use Rattle.frame_core.specs.Image.{Contents, key_in, IsImage}
-use Rattle.frame_core.specs.Laws.{AddsUp, HoldsJust}
+use Rattle.frame_model.specs.Laws.{AddsUp, HoldsJust}
 use Rattle.frame_core.specs.Moves.{HasSizes}
-use Rattle.frame_core.specs.Report.{held_at}
+use Rattle.frame_model.specs.Report.{held_at}
 use Rattle.frame_table.specs.Seats.{view_of}
 use Rattle.frame_table.specs.declared.seats.CoreSeat.{CoreSeat}
 

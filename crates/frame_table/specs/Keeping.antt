@@ -3,7 +3,7 @@ use Rattle.std.specs.Prelude.{◌≡◌, pos, ◌+◌, ◌+ℤ◌, ◌-ℤ◌, �
 use Rattle.frame_model.specs.declared.block.FrameBlock.{FrameBlock}
 use Rattle.frame_model.specs.declared.view.View.{View}
 use Rattle.frame_core.specs.Mover.{Mover, Keeps, KeepsOthers}
-use Rattle.frame_core.specs.Without.{less_one}
+use Rattle.frame_model.specs.Without.{less_one}
 use Rattle.frame_table.specs.Seats.{block_in}
 use Rattle.frame_table.specs.Ties.{Tied}
 use Rattle.frame_table.specs.declared.block.Block.{Block}

@@ -5,11 +5,11 @@ use Rattle.frame_words.specs.declared.geometry.Geometry.{Geometry}
 use Rattle.frame_model.specs.declared.block.FrameBlock.{FrameBlock}
 use Rattle.frame_model.specs.declared.key.Key.{Key}
 use Rattle.frame_model.specs.declared.view.View.{View}
-use Rattle.frame_core.specs.Block.{IsBlock}
-use Rattle.frame_core.specs.Key.{key_of, IsKey}
-use Rattle.frame_core.specs.View.{idle}
-use Rattle.frame_core.specs.Seats.{Cut, adopt}
-use Rattle.frame_core.specs.Without.{without, HasFrames}
+use Rattle.frame_model.specs.Block.{IsBlock}
+use Rattle.frame_model.specs.Key.{key_of, IsKey}
+use Rattle.frame_model.specs.View.{idle}
+use Rattle.frame_model.specs.Seats.{Cut, adopt}
+use Rattle.frame_model.specs.Without.{without, HasFrames}
 use Rattle.frame_table.specs.Seats.{key_at, id_of, view_of, Sits, IsSeat}
 use Rattle.frame_table.specs.declared.ground_seat.GroundSeat.{GroundSeat}
 use Rattle.frame_table.specs.declared.seats.CoreSeat.{CoreSeat}

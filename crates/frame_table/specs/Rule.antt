@@ -8,14 +8,14 @@ use Rattle.frame_model.specs.declared.place.Place.{Place}
 use Rattle.frame_model.specs.declared.view.Eye.{Eye}
 use Rattle.frame_model.specs.declared.view.Sighting.{Sighting}
 use Rattle.frame_model.specs.declared.view.View.{View}
-use Rattle.frame_core.specs.View.{spent, idle, IsViewOf}
-use Rattle.frame_core.specs.Fit.{Fit}
-use Rattle.frame_core.specs.Steps.{Kind, place, effect, after_load, after_loss, next}
-use Rattle.frame_core.specs.Seats.{Cut, Join, left_by, right_by, joined_by}
-use Rattle.frame_core.specs.Events.{eye, sighting}
+use Rattle.frame_model.specs.View.{spent, idle, IsViewOf}
+use Rattle.frame_model.specs.Fit.{Fit}
+use Rattle.frame_model.specs.Steps.{Kind, place, effect, after_load, after_loss, next}
+use Rattle.frame_model.specs.Seats.{Cut, Join, left_by, right_by, joined_by}
+use Rattle.frame_model.specs.Events.{eye, sighting}
 use Rattle.frame_core.specs.Moves.{place_of, IsPlace, HasLayout}
 use Rattle.frame_core.specs.Mover.{IsApart}
-use Rattle.frame_core.specs.Openings.{reopener}
+use Rattle.frame_model.specs.Openings.{reopener}
 use Rattle.frame_table.specs.declared.rule.Origin.{Origin}
 
 -- the key of the memory that was opened

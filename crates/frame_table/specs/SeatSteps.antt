@@ -1,6 +1,6 @@
 -- What a step on a word asks of the seat of a core, and what it makes of it.
 use Rattle.std.specs.Prelude.{◌≡◌, ◌≢◌, ℕ, Bool, false, Some, MatchBool}
-use Rattle.frame_core.specs.Steps.{Kind, place, May, effect, after_loss, next}
+use Rattle.frame_model.specs.Steps.{Kind, place, May, effect, after_loss, next}
 use Rattle.frame_core.specs.Moves.{ReadsBut}
 use Rattle.frame_core.specs.Mover.{IsApart}
 use Rattle.frame_table.specs.Rule.{IsFoundIn}

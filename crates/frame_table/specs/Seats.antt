@@ -8,14 +8,14 @@ use Rattle.frame_model.specs.declared.key.Key.{Key}
 use Rattle.frame_model.specs.declared.view.Eye.{Eye}
 use Rattle.frame_model.specs.declared.view.Sighting.{Sighting}
 use Rattle.frame_model.specs.declared.view.View.{View}
-use Rattle.frame_core.specs.Block.{block, IsBlock}
-use Rattle.frame_core.specs.View.{IsIdle, IsViewOf}
+use Rattle.frame_model.specs.Block.{block, IsBlock}
+use Rattle.frame_model.specs.View.{IsIdle, IsViewOf}
 use Rattle.frame_model.specs.declared.block.FrameBlock.{FrameBlock}
-use Rattle.frame_core.specs.Seats.{Cut, recall}
-use Rattle.frame_core.specs.Without.{less_one}
-use Rattle.frame_core.specs.Events.{last_seen}
-use Rattle.frame_core.specs.Key.{tree_count}
-use Rattle.frame_core.specs.Words.{entry_place, tree_place, local_place}
+use Rattle.frame_model.specs.Seats.{Cut, recall}
+use Rattle.frame_model.specs.Without.{less_one}
+use Rattle.frame_model.specs.Events.{last_seen}
+use Rattle.frame_model.specs.Key.{tree_count}
+use Rattle.frame_model.specs.Words.{entry_place, tree_place, local_place}
 use Rattle.frame_words.specs.Words.{free_in, flag_in, lane_in, rest_in}
 use Rattle.frame_table.specs.Rule.{key_from}
 use Rattle.frame_table.specs.declared.block.Block.{Block}

@@ -5,14 +5,14 @@ use Rattle.std.specs.declared.vec.Vec.{Vec}
 use Rattle.frame_model.specs.declared.block.FrameBlock.{FrameBlock}
 use Rattle.frame_model.specs.declared.key.Key.{Key}
 use Rattle.frame_model.specs.declared.view.Eye.{Eye}
-use Rattle.frame_core.specs.Events.{State, views_of, Has, Fits}
-use Rattle.frame_core.specs.Holding.{holders}
+use Rattle.frame_model.specs.Events.{State, views_of, Has, Fits}
+use Rattle.frame_model.specs.Holding.{holders}
 use Rattle.frame_core.specs.Image.{Contents, key_in, IsImage}
-use Rattle.frame_core.specs.Key.{frame_count, is_boot_frame}
-use Rattle.frame_core.specs.Laws.{holding_of}
+use Rattle.frame_model.specs.Key.{frame_count, is_boot_frame}
+use Rattle.frame_model.specs.Laws.{holding_of}
 use Rattle.frame_core.specs.Moves.{HasSizes}
-use Rattle.frame_core.specs.Report.{held_at}
-use Rattle.frame_core.specs.Words.{word_count}
+use Rattle.frame_model.specs.Report.{held_at}
+use Rattle.frame_model.specs.Words.{word_count}
 use Rattle.frame_table.specs.Closing.{IsHeldIn}
 use Rattle.frame_table.specs.Seats.{view_of}
 use Rattle.frame_table.specs.declared.seats.CoreSeat.{CoreSeat}

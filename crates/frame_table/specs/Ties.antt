@@ -2,8 +2,8 @@
 use Rattle.std.proofs.Common.{◌≡◌, ℕ, List, [], arith, refl}
 use Rattle.std.specs.Prelude.{Option, None, Some}
 use Rattle.atomic_table.specs.Seated.{TableId}
-use Rattle.frame_core.specs.Key.{AreSizes}
-use Rattle.frame_core.specs.Steps.{next}
+use Rattle.frame_model.specs.Key.{AreSizes}
+use Rattle.frame_model.specs.Steps.{next}
 use Rattle.frame_core.specs.Mover.{Ticks}
 use Rattle.frame_core.specs.Movers.{sizes_of, fills_none}
 use Rattle.frame_table.specs.Seats.{key_at, view_of, Sits}

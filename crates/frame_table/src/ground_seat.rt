@@ -1,9 +1,9 @@
 //! What was held before the opening of a table.
 
 ghost use Rattle.std.specs.Prelude.{◌≡◌};
-ghost use Rattle.frame_core.specs.Block.{block};
-ghost use Rattle.frame_core.specs.Seats.{left_by};
-ghost use Rattle.frame_core.specs.Steps.{next};
+ghost use Rattle.frame_model.specs.Block.{block};
+ghost use Rattle.frame_model.specs.Seats.{left_by};
+ghost use Rattle.frame_model.specs.Steps.{next};
 ghost use Rattle.frame_table.specs.Openings.{ground_view, adopt_block, IsGround, IsLeft};
 ghost use Rattle.frame_table.specs.Seats.{key_at, block_in, IsOut};
 

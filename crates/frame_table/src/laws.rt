@@ -3,9 +3,9 @@
 ghost use Rattle.std.specs.Prelude.{◌≡◌, ◌≢◌, ℕ, Some, false, map};
 ghost use Rattle.atomic_table.specs.Table.{State};
 ghost use Rattle.frame_model.specs.declared.view.Eye.{Eye};
-ghost use Rattle.frame_core.specs.Laws.{IsSafe};
+ghost use Rattle.frame_model.specs.Laws.{IsSafe};
 ghost use Rattle.frame_core.specs.Mover.{Tries};
-ghost use Rattle.frame_core.specs.Steps.{Kind, place, next};
+ghost use Rattle.frame_model.specs.Steps.{Kind, place, next};
 ghost use Rattle.frame_table.specs.Rule.{key_from, eye_view, Holds};
 ghost use Rattle.frame_table.specs.declared.rule.Origin.{Origin};
 ghost use Rattle.frame_table.specs.declared.shared.SharedMoves.{SharedMoves};

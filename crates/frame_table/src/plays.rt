@@ -6,39 +6,39 @@ use std::marker::{Brand, PhantomData};
 
 /// Which kind of step on a word it is. Each call picks it.
 pub trait Stepping {
-    ghost use Rattle.frame_core.specs.Steps.{Kind};
+    ghost use Rattle.frame_model.specs.Steps.{Kind};
 
     ghost kind: { Kind };
 }
 
 impl Stepping for Brand {
-    ghost use Rattle.frame_core.specs.Steps.{refund};
+    ghost use Rattle.frame_model.specs.Steps.{refund};
 
     ghost kind = { refund 0 0 };
 }
 
 /// How a seat is cut in two. Each call picks it.
 pub trait Cutting {
-    ghost use Rattle.frame_core.specs.Seats.{Cut};
+    ghost use Rattle.frame_model.specs.Seats.{Cut};
 
     ghost cut: { Cut };
 }
 
 impl Cutting for Brand {
-    ghost use Rattle.frame_core.specs.Seats.{part_share};
+    ghost use Rattle.frame_model.specs.Seats.{part_share};
 
     ghost cut = { part_share 0 };
 }
 
 /// How a seat takes in another. Each call picks it.
 pub trait Joining {
-    ghost use Rattle.frame_core.specs.Seats.{Join};
+    ghost use Rattle.frame_model.specs.Seats.{Join};
 
     ghost join: { Join };
 }
 
 impl Joining for Brand {
-    ghost use Rattle.frame_core.specs.Seats.{join_idle};
+    ghost use Rattle.frame_model.specs.Seats.{join_idle};
 
     ghost join = { join_idle };
 }

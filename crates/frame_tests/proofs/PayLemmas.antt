@@ -9,12 +9,12 @@ use Rattle.frame_model.specs.declared.block.FrameBlock.{FrameBlock}
 use Rattle.frame_model.specs.declared.key.Key.{Key}
 use Rattle.frame_model.specs.declared.view.Amount.{Amount}
 use Rattle.frame_model.specs.declared.view.View.{View}
-use Rattle.frame_core.specs.Block.{IsBlock}
-use Rattle.frame_core.specs.Key.{tree_count, tree_of}
-use Rattle.frame_core.specs.View.{counted, count_in, paid_on, NoneBut}
-use Rattle.frame_core.specs.Steps.{tree_pay, tree_refund}
-use Rattle.frame_core.specs.Steps.Amounts.{more, less}
-use Rattle.frame_core.specs.Steps.Conditions.{CanTreePay, CanTreeRefund}
+use Rattle.frame_model.specs.Block.{IsBlock}
+use Rattle.frame_model.specs.Key.{tree_count, tree_of}
+use Rattle.frame_model.specs.View.{counted, count_in, paid_on, NoneBut}
+use Rattle.frame_model.specs.Steps.{tree_pay, tree_refund}
+use Rattle.frame_model.specs.Steps.Amounts.{more, less}
+use Rattle.frame_model.specs.Steps.Conditions.{CanTreePay, CanTreeRefund}
 use Rattle.frame_core.specs.Moves.{after}
 use Rattle.frame_model.proofs.Amounts.{count_none, count_here}
 use Rattle.low_frames.specs.Takes.{IsAsBefore, HasHandedOut}

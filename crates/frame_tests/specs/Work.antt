@@ -2,8 +2,8 @@
 use Rattle.std.specs.Prelude.{◌≡◌, ℕ, pos, ◌+ℤ◌, ◌-ℤ◌, ◌^◌, ◌<◌, ◌≤◌, [], Option, None, IfSome, IfNone, Bool, MatchBool}
 use Rattle.frame_model.specs.declared.block.FrameBlock.{FrameBlock}
 use Rattle.frame_model.specs.declared.view.View.{View}
-use Rattle.frame_core.specs.Key.{tree_count, tree_of}
-use Rattle.frame_core.specs.View.{counted, IsIdle}
+use Rattle.frame_model.specs.Key.{tree_count, tree_of}
+use Rattle.frame_model.specs.View.{counted, IsIdle}
 use Rattle.frame_core.specs.Mover.{Mover, Keeps}
 use Rattle.low_frames.specs.Takes.{IsAsBefore}
 use Rattle.frame_table.specs.Seats.{key_at, view_of, block_in, IsIdleSeat, IsOut}

@@ -2,7 +2,7 @@
 use Rattle.std.specs.Prelude.{◌≡◌, ℕ, ◌/◌, min}
 use Rattle.std.specs.List.{sum_by, range_with_len}
 use Rattle.frame_words.specs.Geometry.{child_frames}
-use Rattle.frame_core.specs.Words.{entry_word_count}
+use Rattle.frame_model.specs.Words.{entry_word_count}
 use Rattle.frame_table.specs.Seats.{reads_of}
 use Rattle.core_frames.specs.declared.shared.allocator.Allocator.{Allocator}
 use Rattle.core_frames.specs.declared.shared.allocator.Core.{Core}

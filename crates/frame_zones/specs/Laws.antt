@@ -1,7 +1,7 @@
 -- Which frames blocks of all zones have.
 use Rattle.std.specs.Prelude.{◌≡◌, ℕ, ◌+◌, ◌%◌, ◌^◌, ◌<◌, ◌≤◌, [], Some}
-use Rattle.frame_core.specs.View.{holder}
-use Rattle.frame_core.specs.Events.{eye}
+use Rattle.frame_model.specs.View.{holder}
+use Rattle.frame_model.specs.Events.{eye}
 use Rattle.frame_table.specs.Seats.{block_in}
 use Rattle.core_frames.specs.declared.shared.allocator.Allocator.{Allocator}
 use Rattle.core_frames.specs.Cores.{memory_of, IsOutOf}

@@ -2,9 +2,9 @@
 use Rattle.std.specs.Prelude.{◌≡◌, ℕ, ◌<◌, List, Result, IfOk, IfErr, length, slice_index_or}
 use Rattle.frame_words.specs.declared.fault.Fault.{Fault}
 use Rattle.frame_model.specs.declared.block.FrameBlock.{FrameBlock}
-use Rattle.frame_core.specs.Rebuilt.{IsRebuilt}
-use Rattle.frame_core.specs.Openings.{held_blocks}
-use Rattle.frame_core.specs.Without.{without}
+use Rattle.frame_model.specs.Rebuilt.{IsRebuilt}
+use Rattle.frame_model.specs.Openings.{held_blocks}
+use Rattle.frame_model.specs.Without.{without}
 use Rattle.frame_table.specs.Openings.{unsealed_key}
 use Rattle.core_frames.specs.declared.shared.allocator.Allocator.{Allocator}
 use Rattle.core_frames.specs.declared.shared.survivors.Survivors.{Survivors}

@@ -1,7 +1,7 @@
 -- Where zones lie, and the rule for it.
 use Rattle.std.specs.Prelude.{◌≡◌, ℕ, ◌+◌, ◌*◌, ◌%◌, ◌^◌, ◌≤◌, List, [], ◌∷◌, length}
 use Rattle.frame_model.specs.declared.key.Key.{Key}
-use Rattle.frame_core.specs.Key.{sealed_key}
+use Rattle.frame_model.specs.Key.{sealed_key}
 use Rattle.frame_table.specs.Openings.{unsealed_key}
 use Rattle.core_frames.specs.Ranges.{MayHoldBack}
 use Rattle.frame_zones.specs.declared.image.ZoneImage.{ZoneImage}

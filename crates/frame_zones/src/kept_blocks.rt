@@ -1,7 +1,7 @@
 //! Blocks of zones that a core keeps.
 
 ghost use Rattle.std.specs.Prelude.{◌≡◌, ◌+◌, ◌<◌};
-ghost use Rattle.frame_core.specs.Block.{block as block_at};
+ghost use Rattle.frame_model.specs.Block.{block as block_at};
 ghost use Rattle.frame_table.specs.Seats.{block_in};
 ghost use Rattle.frame_zones.specs.Keeping.{IsKeptIn, KeepsIn, RecallsIn};
 ghost use Rattle.frame_zones.specs.Uses.{moves_through};

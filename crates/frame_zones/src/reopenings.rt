@@ -2,7 +2,7 @@
 
 ghost use Rattle.std.specs.Prelude.{◌<◌, IfOk, IfErr, length, map};
 ghost use Rattle.std.specs.List.{All};
-ghost use Rattle.frame_core.specs.Block.{block as block_at};
+ghost use Rattle.frame_model.specs.Block.{block as block_at};
 ghost use Rattle.frame_zones.specs.Spans.{place_at};
 ghost use Rattle.frame_zones.specs.Openings.{AreOpened, AreUnopenedAt};
 ghost use Rattle.frame_zones.specs.Reopening.{IsReopenable, AreSurvivorsOf, AreHeldAt, AdoptsIn};

@@ -1,8 +1,8 @@
 -- What a desk answers leaves a list whose blocks are disjoint.
 use Rattle.std.proofs.Common.{◌≡◌, ◌<◌, ◌≤◌, ℕ, List, Bool, true, false, nat_le, refl, arith, Result, Ok, Err}
 use Rattle.std.proofs.lemmas.Grind.{common_steps}
-use Rattle.frame_core.specs.Block.{block}
-use Rattle.frame_core.specs.Holding.{IsHolding}
+use Rattle.frame_model.specs.Block.{block}
+use Rattle.frame_model.specs.Holding.{IsHolding}
 use Rattle.frame_model.specs.declared.block.FrameBlock.{FrameBlock}
 use Rattle.frame_model.specs.declared.key.Key.{Key}
 use Rattle.frame_words.specs.declared.fault.Fault.{Fault}

@@ -7,9 +7,9 @@ use Rattle.std.proofs.lemmas.Grind.{common_steps}
 use Rattle.std.proofs.lemmas.List.Elements.{All-append, All-cons, All-head, All-nil, All-tail}
 use Rattle.std.proofs.lemmas.List.Sums.{sum_by-append, sum_by-cons}
 use Rattle.std.proofs.lemmas.Nat.{pow_pos}
-use Rattle.frame_core.specs.Block.{IsBlock, block, covers}
-use Rattle.frame_core.specs.Holding.{IsFreeBlock, IsHolding, holders}
-use Rattle.frame_core.specs.Without.{is_same, less_one}
+use Rattle.frame_model.specs.Block.{IsBlock, block, covers}
+use Rattle.frame_model.specs.Holding.{IsFreeBlock, IsHolding, holders}
+use Rattle.frame_model.specs.Without.{is_same, less_one}
 use Rattle.frame_model.specs.declared.block.FrameBlock.{FrameBlock}
 use Rattle.frame_model.specs.declared.key.Key.{Key}
 use Rattle.frame_model.proofs.Without.{covers-le}

@@ -2,8 +2,8 @@
 use Rattle.std.specs.Prelude.{◌≡◌, ℕ, ◌<◌, ◌≤◌, List, [], ◌∷◌, ◌++◌, map, Result, Ok, Err}
 use Rattle.held_blocks.specs.LabelledBlocks.{HasNone, IsTheBlock, IsUnder, TakesFirst}
 use Rattle.held_blocks.specs.declared.labelled_block.LabelledBlock.{LabelledBlock}
-use Rattle.frame_core.specs.Block.{IsBlock, block}
-use Rattle.frame_core.specs.Holding.{IsFreeBlock}
+use Rattle.frame_model.specs.Block.{IsBlock, block}
+use Rattle.frame_model.specs.Holding.{IsFreeBlock}
 use Rattle.frame_model.specs.declared.block.FrameBlock.{FrameBlock}
 use Rattle.frame_model.specs.declared.key.Key.{Key}
 use Rattle.frame_words.specs.declared.fault.Fault.{Fault}

@@ -1,7 +1,7 @@
 //! One measurement: threads that make pairs of one order.
 
 ghost use Rattle.std.specs.Prelude.{◌≡◌, ◌<◌, ◌≤◌};
-ghost use Rattle.frame_core.specs.Key.{tree_count};
+ghost use Rattle.frame_model.specs.Key.{tree_count};
 ghost use Rattle.frame_table.specs.Seats.{key_at, IsIdleSeat};
 ghost use Rattle.frame_tests.specs.Work.{MayWork};
 

@@ -4,9 +4,9 @@ use Rattle.std.specs.Arc.{arc_value}
 use Rattle.atomic_table.specs.Seated.{TableId}
 use Rattle.atomic_table.specs.Table.{Me}
 use Rattle.atomic_table.specs.declared.shared.Seat.{Seat}
-use Rattle.frame_core.specs.Block.{block}
-use Rattle.frame_core.specs.Events.{eye}
-use Rattle.frame_core.specs.View.{holder}
+use Rattle.frame_model.specs.Block.{block}
+use Rattle.frame_model.specs.Events.{eye}
+use Rattle.frame_model.specs.View.{holder}
 use Rattle.frame_model.specs.declared.view.Eye.{Eye}
 use Rattle.frame_zones.specs.Zones.{first_frame_in, IsOutIn}
 use Rattle.frame_zones.specs.declared.block.ZoneBlock.{ZoneBlock}

@@ -9,11 +9,11 @@ use Rattle.std.proofs.lemmas.Bool.{cases_eq, cases_lt}
 use Rattle.std.proofs.lemmas.Bool.Decides.{nat_tests}
 use Rattle.frame_model.specs.declared.block.FrameBlock.{FrameBlock}
 use Rattle.frame_model.specs.declared.key.Key.{Key}
-use Rattle.frame_core.specs.Block.{block, covers, smalls}
-use Rattle.frame_core.specs.Holding.{holders}
-use Rattle.frame_core.specs.Key.{child_of, is_boot_frame, is_in_range}
-use Rattle.frame_core.specs.QuietTake.{FindsNone}
-use Rattle.frame_core.specs.View.{boot_blocks}
+use Rattle.frame_model.specs.Block.{block, covers, smalls}
+use Rattle.frame_model.specs.Holding.{holders}
+use Rattle.frame_model.specs.Key.{child_of, is_boot_frame, is_in_range}
+use Rattle.frame_model.specs.QuietTake.{FindsNone}
+use Rattle.frame_model.specs.View.{boot_blocks}
 use Rattle.frame_model.proofs.Opening.{boot_smalls, boot_wholes}
 use Rattle.frame_model.proofs.Safe.{boot_are_blocks, holders_are}
 use Rattle.frame_model.proofs.Stopping.Known.{holders_both}

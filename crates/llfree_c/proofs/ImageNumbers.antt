@@ -7,7 +7,7 @@ use Rattle.frame_words.specs.declared.geometry.Geometry.{Geometry}
 use Rattle.frame_model.specs.Key.{key_of}
 use Rattle.frame_model.specs.Words.{bit_word_of, bits_place}
 use Rattle.frame_core.specs.Image.{Contents, key_in}
-use Rattle.frame_core.specs.Laws.{AddsUp}
+use Rattle.frame_model.specs.Laws.{AddsUp}
 use Rattle.core_frames.specs.PlainState.{PlainState, memory_by, held_by, HoldsExactly}
 use Rattle.llfree_c.specs.Images.{SaysOfChild, SaysAll, LeavesNumbers, StaysBehind}
 

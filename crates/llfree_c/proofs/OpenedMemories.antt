@@ -5,7 +5,7 @@ use Rattle.frame_words.specs.Geometry.{IsWithinLimits, EndsInLastChild}
 use Rattle.frame_words.specs.declared.fault.Fault.TheVariants.{BadRange, NoMemory}
 use Rattle.frame_words.specs.declared.geometry.Geometry.{Geometry}
 use Rattle.frame_model.specs.declared.key.Key.{Key}
-use Rattle.frame_core.specs.Key.{most_ranges, AreRanges, sealed_key}
+use Rattle.frame_model.specs.Key.{most_ranges, AreRanges, sealed_key}
 use Rattle.core_frames.specs.Ranges.{MayHoldBack, IsUnopenedFor}
 use Rattle.llfree_c.specs.Openings.{AreMemorySizes, pair_of, pairs_of, MayLieBack, IsMemoryOf}
 use Rattle.llfree_c.specs.declared.ranges.FrameRange.{FrameRange}

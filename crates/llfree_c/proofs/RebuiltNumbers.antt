@@ -10,13 +10,13 @@ use Rattle.frame_words.specs.Words.{entry_word}
 use Rattle.frame_model.specs.declared.block.FrameBlock.{FrameBlock}
 use Rattle.frame_model.specs.declared.key.Key.{Key}
 use Rattle.frame_model.specs.declared.view.View.{View}
-use Rattle.frame_core.specs.Block.{IsBlock}
+use Rattle.frame_model.specs.Block.{IsBlock}
 use Rattle.frame_core.specs.Image.{Contents, key_in}
-use Rattle.frame_core.specs.Key.{key_of, frame_count, child_of}
+use Rattle.frame_model.specs.Key.{key_of, frame_count, child_of}
 use Rattle.frame_core.specs.Moves.{HasSizes}
-use Rattle.frame_core.specs.Rebuilt.{rebuilt_free, rebuilt_bits, IsRebuilt}
-use Rattle.frame_core.specs.Report.{held_at}
-use Rattle.frame_core.specs.Words.{free_of, huge_of, bit_of, bit_word_of, bits_place, set_of, word_count, AreInRange}
+use Rattle.frame_model.specs.Rebuilt.{rebuilt_free, rebuilt_bits, IsRebuilt}
+use Rattle.frame_model.specs.Report.{held_at}
+use Rattle.frame_model.specs.Words.{free_of, huge_of, bit_of, bit_word_of, bits_place, set_of, word_count, AreInRange}
 use Rattle.frame_model.proofs.Steps.Shared.{bit-le, view_of as view_at}
 use Rattle.frame_model.proofs.Stopping.Existing.{every_rebuilding_exists}
 use Rattle.frame_model.proofs.Stopping.Rebuilding.{kept_bit, cleared_bit, every_rebuilding_is_exact}
@@ -27,7 +27,7 @@ use Rattle.frame_table.specs.Stopping.{IsImageAtStop}
 use Rattle.frame_table.specs.declared.seats.CoreSeat.{CoreSeat}
 use Rattle.llfree_c.specs.CoreImages.{SaysOfRebuilt, SaysRebuilt, LeavesStop, LeavesStopWith}
 use Rattle.llfree_c.specs.Images.{SaysAll}
-use Rattle.frame_core.specs.Events.{State, Fits, views_of}
+use Rattle.frame_model.specs.Events.{State, Fits, views_of}
 use Rattle.frame_words.specs.declared.geometry.Geometry.{Geometry}
 use Rattle.llfree_c.specs.StoppedWords.{HasFramesAndCores}
 use Rattle.frame_table.proofs.Stopped.{stopped_holds, stopped_boot}

@@ -8,10 +8,10 @@ use Rattle.std.proofs.lemmas.List.Sorted.{IsPermutation-cons, IsPermutation-midd
 use Rattle.std.proofs.lemmas.List.Sorted.{sum_by-IsPermutation}
 use Rattle.frame_model.specs.declared.block.FrameBlock.{FrameBlock}
 use Rattle.frame_words.specs.declared.geometry.Geometry.{Geometry}
-use Rattle.frame_core.specs.Block.{covers}
-use Rattle.frame_core.specs.Key.{AreRanges}
+use Rattle.frame_model.specs.Block.{covers}
+use Rattle.frame_model.specs.Key.{AreRanges}
 use Rattle.core_frames.specs.Ranges.{MayHoldBack}
-use Rattle.frame_core.specs.Holding.{holders}
+use Rattle.frame_model.specs.Holding.{holders}
 use Rattle.frame_slots.specs.Claims.{IsHeldAs, ShareNoFrame}
 use Rattle.llfree_c.specs.Reopenings.{claimed_blocks, IsClaimedOf, MayBeClaimed}
 use Rattle.llfree_c.specs.declared.blocks.ClaimedBlock.{ClaimedBlock}

@@ -7,12 +7,12 @@ use Rattle.frame_words.specs.Words.{entry_word, free_in}
 use Rattle.frame_words.proofs.WordLemmas.{free_in-entry_word}
 use Rattle.frame_model.specs.declared.block.FrameBlock.{FrameBlock}
 use Rattle.frame_model.specs.declared.key.Key.{Key}
-use Rattle.frame_core.specs.Events.{views_of}
-use Rattle.frame_core.specs.Holding.{holders}
-use Rattle.frame_core.specs.Key.{frame_count}
-use Rattle.frame_core.specs.Laws.{holding_of}
-use Rattle.frame_core.specs.Report.{held_at, held_within}
-use Rattle.frame_core.specs.Words.{free_of, huge_of, bit_of, bit_word_of, held_of, AreInRange}
+use Rattle.frame_model.specs.Events.{views_of}
+use Rattle.frame_model.specs.Holding.{holders}
+use Rattle.frame_model.specs.Key.{frame_count}
+use Rattle.frame_model.specs.Laws.{holding_of}
+use Rattle.frame_model.specs.Report.{held_at, held_within}
+use Rattle.frame_model.specs.Words.{free_of, huge_of, bit_of, bit_word_of, held_of, AreInRange}
 use Rattle.frame_model.proofs.ReportLemmas.{held_within-child}
 use Rattle.frame_model.proofs.Sums.{range_same}
 use Rattle.frame_model.proofs.Steps.Shared.{bit-le}

@@ -4,12 +4,12 @@ use Rattle.std.specs.List.{All, sum_by}
 use Rattle.frame_words.specs.Words.{entry_word}
 use Rattle.frame_model.specs.declared.key.Key.{Key}
 use Rattle.frame_model.specs.declared.view.Eye.{Eye}
-use Rattle.frame_core.specs.Events.{State, views_of, Has, Fits}
+use Rattle.frame_model.specs.Events.{State, views_of, Has, Fits}
 use Rattle.frame_core.specs.Image.{Contents, key_in}
-use Rattle.frame_core.specs.Laws.{holding_of}
-use Rattle.frame_core.specs.Rebuilt.{rebuilt_free, rebuilt_bits, IsRebuilt}
-use Rattle.frame_core.specs.Stops.{IsExact}
-use Rattle.frame_core.specs.Words.{huge_of}
+use Rattle.frame_model.specs.Laws.{holding_of}
+use Rattle.frame_model.specs.Rebuilt.{rebuilt_free, rebuilt_bits, IsRebuilt}
+use Rattle.frame_model.specs.Stops.{IsExact}
+use Rattle.frame_model.specs.Words.{huge_of}
 use Rattle.frame_table.specs.Closing.{IsHeldIn}
 use Rattle.frame_table.specs.Seats.{view_of}
 use Rattle.frame_table.specs.Stopping.{HoldsFramesOf, HoldsBootFrames}

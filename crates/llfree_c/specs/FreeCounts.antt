@@ -1,8 +1,8 @@
 -- How much is free behind handles, and which block is out.
 use Rattle.std.specs.Prelude.{◌≡◌, ℕ, ◌+◌, Option, Some, None}
 use Rattle.std.specs.List.{Contains}
-use Rattle.frame_core.specs.Block.{block}
-use Rattle.frame_core.specs.Key.{frame_count}
+use Rattle.frame_model.specs.Block.{block}
+use Rattle.frame_model.specs.Key.{frame_count}
 use Rattle.core_frames.specs.FreeCounts.{frames_together, clear_children}
 use Rattle.core_frames.specs.PlainState.{PlainState, memory_by, held_by}
 use Rattle.zone_slots.specs.declared.core_state.CoreState.{CoreState}

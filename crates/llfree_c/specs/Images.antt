@@ -3,7 +3,7 @@ use Rattle.std.specs.Prelude.{◌≡◌, ◌⊎◌, ℕ, ◌+◌, ◌*◌, ◌/�
 use Rattle.frame_words.specs.Words.{entry_word}
 use Rattle.frame_model.specs.declared.key.Key.{Key}
 use Rattle.frame_model.specs.Words.{free_of, huge_of, bit_word_of}
-use Rattle.frame_core.specs.Laws.{AddsUp}
+use Rattle.frame_model.specs.Laws.{AddsUp}
 use Rattle.core_frames.specs.PlainState.{PlainState, memory_by, held_by, HoldsExactly}
 use Rattle.llfree_c.specs.declared.plain.Plain.{Plain}
 use Rattle.llfree_c.specs.Status.{closed, no_memory, no_room}

@@ -2,7 +2,7 @@
 use Rattle.std.specs.Prelude.{◌≡◌, ◌⊎◌, ℕ, ◌<◌, ◌≤◌, List, length, map, true}
 use Rattle.frame_words.specs.Geometry.{most_cores}
 use Rattle.frame_model.specs.declared.key.Key.{Key}
-use Rattle.frame_core.specs.Key.{most_ranges, AreRanges}
+use Rattle.frame_model.specs.Key.{most_ranges, AreRanges}
 use Rattle.frame_slots.specs.Numbers.{most_frames}
 use Rattle.zone_slots.specs.Cuts.{MayBeHeldBack}
 use Rattle.zone_slots.specs.Layouts.{Stretch, AreEven, AreZoneFrames}

@@ -3,7 +3,7 @@ use Rattle.std.specs.Prelude.{◌≡◌, ◌⊎◌, ℕ, ◌≤◌, List, [], �
 use Rattle.std.specs.List.{All}
 use Rattle.std.specs.List.Sorted.{IsPermutation}
 use Rattle.frame_model.specs.declared.block.FrameBlock.{FrameBlock}
-use Rattle.frame_core.specs.Block.{block}
+use Rattle.frame_model.specs.Block.{block}
 use Rattle.core_frames.specs.PlainState.{PlainState, memory_by}
 use Rattle.frame_slots.specs.Claims.{Ascend, IsHeldAs, ShareNoFrame}
 use Rattle.frame_slots.specs.Numbers.{IsImageOf}

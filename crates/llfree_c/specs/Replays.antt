@@ -1,7 +1,7 @@
 -- What following an image leaves as it is and what it brings about, and why one was not followed.
 use Rattle.std.specs.Prelude.{◌≡◌, ◌⊎◌, ℕ, ◌+◌, ◌/◌, ◌%◌, ◌^◌, ◌<◌, ◌≤◌, List, ◌++◌}
 use Rattle.frame_model.specs.declared.block.FrameBlock.{FrameBlock}
-use Rattle.frame_core.specs.Holding.{IsHeld}
+use Rattle.frame_model.specs.Holding.{IsHeld}
 use Rattle.core_frames.specs.PlainState.{PlainState}
 use Rattle.frame_slots.specs.Numbers.{IsHeldBy, IsHugeIn}
 use Rattle.llfree_c.specs.Status.{contended, no_memory}

@@ -1,9 +1,9 @@
 -- The right to a block, as C carries it.
 use base.Fml.{Fml}
 use Rattle.std.specs.Prelude.{◌≡◌, ℕ, List, [], ◌∷◌, Option, None}
-use Rattle.frame_core.specs.Block.{block}
-use Rattle.frame_core.specs.Events.{eye}
-use Rattle.frame_core.specs.View.{holder}
+use Rattle.frame_model.specs.Block.{block}
+use Rattle.frame_model.specs.Events.{eye}
+use Rattle.frame_model.specs.View.{holder}
 use Rattle.frame_model.specs.contracts.view.Eye.{the_row}
 use Rattle.frame_model.specs.declared.block.FrameBlock.{FrameBlock}
 use Rattle.frame_model.specs.declared.key.Key.{Key}

@@ -2,8 +2,8 @@
 use Rattle.std.specs.Prelude.{◌≡◌, ℕ, ◌+◌, ◌-◌, ◌^◌, ◌<◌, List, [], ◌∷◌, Option, Some, None}
 use Rattle.std.specs.List.{Contains}
 use Rattle.std.specs.List.Sorted.{IsPermutation}
-use Rattle.frame_core.specs.Block.{block}
-use Rattle.frame_core.specs.QuietTake.{TakesBlock, FindsNone}
+use Rattle.frame_model.specs.Block.{block}
+use Rattle.frame_model.specs.QuietTake.{TakesBlock, FindsNone}
 use Rattle.core_frames.specs.PlainState.{PlainState, memory_by, held_by}
 use Rattle.llfree_c.specs.declared.plain.Plain.{Plain}
 use Rattle.llfree_c.specs.Openings.{IsMemoryOf}

@@ -5,11 +5,11 @@ use Rattle.frame_words.specs.Geometry.{child_frames}
 use Rattle.frame_words.specs.Words.{free_in}
 use Rattle.frame_model.specs.declared.block.FrameBlock.{FrameBlock}
 use Rattle.frame_model.specs.declared.key.Key.{Key}
-use Rattle.frame_core.specs.Events.{State, views_of, Fits}
-use Rattle.frame_core.specs.Holding.{holders, IsHeld}
-use Rattle.frame_core.specs.Key.{frame_count, is_boot_frame}
-use Rattle.frame_core.specs.Laws.{holding_of}
-use Rattle.frame_core.specs.Stops.{IsExact}
+use Rattle.frame_model.specs.Events.{State, views_of, Fits}
+use Rattle.frame_model.specs.Holding.{holders, IsHeld}
+use Rattle.frame_model.specs.Key.{frame_count, is_boot_frame}
+use Rattle.frame_model.specs.Laws.{holding_of}
+use Rattle.frame_model.specs.Stops.{IsExact}
 use Rattle.core_frames.specs.Cores.{memory_of}
 use Rattle.core_frames.specs.declared.shared.allocator.Allocator.{Allocator}
 use Rattle.frame_slots.specs.Numbers.{entry_in, IsHeldBy}

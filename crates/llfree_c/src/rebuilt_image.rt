@@ -2,9 +2,9 @@
 
 ghost use Rattle.std.specs.Prelude.{◌≡◌, ℕ, ◌+◌, ◌*◌, ◌<◌, ◌≤◌, drop, length, slice_index};
 ghost use Rattle.frame_words.specs.Words.{flag, entry_word};
-ghost use Rattle.frame_core.specs.Key.{key_of};
-ghost use Rattle.frame_core.specs.Rebuilt.{rebuilt_free, rebuilt_bits};
-ghost use Rattle.frame_core.specs.Words.{huge_of, set_of, bit_word_of, word_count};
+ghost use Rattle.frame_model.specs.Key.{key_of};
+ghost use Rattle.frame_model.specs.Rebuilt.{rebuilt_free, rebuilt_bits};
+ghost use Rattle.frame_model.specs.Words.{huge_of, set_of, bit_word_of, word_count};
 ghost use Rattle.llfree_c.specs.CoreImages.{numbers_ahead, SaysEach, SaysImage, SaysOfRebuilt, SaysRebuilt};
 ghost use Rattle.llfree_c.specs.Images.{StaysBehind};
 

@@ -4,9 +4,9 @@
 ghost use Rattle.std.specs.Prelude.{◌≡◌, ◌≢◌, ◌⊎◌, ℕ, ◌<◌, [], ◌∷◌, ◌++◌, MatchBool, IfOk, IfErr, OnOk, IsTrue};
 ghost use Rattle.std.specs.List.{All};
 ghost use Rattle.std.specs.List.Sorted.{IsPermutation};
-ghost use Rattle.frame_core.specs.Block.{block as block_at};
-ghost use Rattle.frame_core.specs.Holding.{holders};
-ghost use Rattle.frame_core.specs.QuietTake.{FindsNone};
+ghost use Rattle.frame_model.specs.Block.{block as block_at};
+ghost use Rattle.frame_model.specs.Holding.{holders};
+ghost use Rattle.frame_model.specs.QuietTake.{FindsNone};
 ghost use Rattle.core_frames.specs.PlainState.{memory_by, held_by};
 ghost use Rattle.frame_slots.specs.Claims.{IsHeldAs};
 ghost use Rattle.llfree_c.specs.Replays.{StaysMemory, EndsReplay, FollowsImage, HoldsBlock, IsHeldWhole};

@@ -2,8 +2,8 @@
 
 ghost use Rattle.std.specs.Prelude.{◌≡◌, ◌≢◌, ◌⊎◌, ◌≤◌, [], IfOk, IfErr, OnOk, OnErr, MatchBool, length};
 ghost use Rattle.std.specs.List.{Contains};
-ghost use Rattle.frame_core.specs.Block.{block as block_at};
-ghost use Rattle.frame_core.specs.QuietTake.{QuietTake};
+ghost use Rattle.frame_model.specs.Block.{block as block_at};
+ghost use Rattle.frame_model.specs.QuietTake.{QuietTake};
 ghost use Rattle.core_frames.specs.PlainState.{memory_by};
 ghost use Rattle.llfree_c.specs.FreeCounts.{AreFreeFrames, AreFreeChildren};
 ghost use Rattle.llfree_c.specs.Images.{image_words, LeavesNumbers, HasNoImage, StaysBehind};

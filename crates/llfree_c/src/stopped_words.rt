@@ -1,7 +1,7 @@
 //! The numbers of the image at which a zone that was stopped goes on, from its words.
 
 ghost use Rattle.std.specs.Prelude.{◌≡◌, ◌≢◌, length};
-ghost use Rattle.frame_core.specs.Words.{word_count};
+ghost use Rattle.frame_model.specs.Words.{word_count};
 ghost use Rattle.llfree_c.specs.Images.{image_words, StaysBehind};
 ghost use Rattle.llfree_c.specs.Openings.{AreMemorySizes};
 ghost use Rattle.llfree_c.specs.Status.{ok};

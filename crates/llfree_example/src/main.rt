@@ -6,7 +6,7 @@ mod nodes;
 
 ghost use Rattle.std.specs.Prelude.{◌≡◌, ◌+◌, ◌+ℤ◌, ◌≤◌, ℕ, pos, [], IfOk, IfSome};
 ghost use Rattle.std.specs.List.{All};
-ghost use Rattle.frame_core.specs.Block.{covers};
+ghost use Rattle.frame_model.specs.Block.{covers};
 ghost use Rattle.frame_table.specs.Seats.{block_in};
 ghost use Rattle.core_frames.specs.Cores.{memory_of, kept_by, lent_by};
 ghost use Rattle.core_frames.specs.Cores.{IsCoreOf, IsNewCore, IsOutOf, IsOpened};

@@ -1,7 +1,7 @@
 //! Images and their texts.
 
 ghost use Rattle.std.specs.Prelude.{IfOk};
-ghost use Rattle.frame_core.specs.Rebuilt.{IsRebuilt};
+ghost use Rattle.frame_model.specs.Rebuilt.{IsRebuilt};
 ghost use Rattle.frame_table.specs.Openings.{unsealed_key};
 
 use crate::calls::{Calls, twice};

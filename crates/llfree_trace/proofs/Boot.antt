@@ -4,10 +4,10 @@ use Rattle.std.proofs.Common.{refl, arith}
 use Rattle.std.specs.Prelude.{if◌then◌else◌}
 use Rattle.std.specs.List.{All}
 use Rattle.std.proofs.lemmas.Bool.Decides.{nat_tests}
-use Rattle.frame_core.specs.Block.{IsBlock, covers}
-use Rattle.frame_core.specs.Holding.{IsFreeBlock, holders}
-use Rattle.frame_core.specs.Key.{child_of, frame_count, is_boot_frame}
-use Rattle.frame_core.specs.View.{boot_blocks}
+use Rattle.frame_model.specs.Block.{IsBlock, covers}
+use Rattle.frame_model.specs.Holding.{IsFreeBlock, holders}
+use Rattle.frame_model.specs.Key.{child_of, frame_count, is_boot_frame}
+use Rattle.frame_model.specs.View.{boot_blocks}
 use Rattle.frame_model.specs.declared.block.FrameBlock.{FrameBlock}
 use Rattle.frame_model.specs.declared.key.Key.{Key}
 use Rattle.frame_model.proofs.Chosen.{frames_are_blocks}

@@ -7,10 +7,10 @@ use Rattle.std.proofs.lemmas.List.Sums.{sum_by-append}
 use Rattle.core_frames.specs.PlainState.{PlainState, held_by, memory_by, HoldsExactly}
 use Rattle.held_blocks.specs.LabelledBlocks.{TakesFirst}
 use Rattle.held_blocks.specs.declared.labelled_block.LabelledBlock.{LabelledBlock}
-use Rattle.frame_core.specs.Block.{covers}
-use Rattle.frame_core.specs.View.{boot_blocks}
-use Rattle.frame_core.specs.Holding.{IsFreeBlock, holders}
-use Rattle.frame_core.specs.QuietTake.{QuietTake}
+use Rattle.frame_model.specs.Block.{covers}
+use Rattle.frame_model.specs.View.{boot_blocks}
+use Rattle.frame_model.specs.Holding.{IsFreeBlock, holders}
+use Rattle.frame_model.specs.QuietTake.{QuietTake}
 use Rattle.frame_model.specs.declared.block.FrameBlock.{FrameBlock}
 use Rattle.frame_words.specs.Faults.{fault_of}
 use Rattle.frame_words.specs.declared.fault.TakeFault.{TakeFault}

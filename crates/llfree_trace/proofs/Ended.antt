@@ -11,17 +11,17 @@ use Rattle.frame_words.specs.declared.geometry.Geometry.{Geometry}
 use Rattle.frame_model.specs.declared.block.FrameBlock.{FrameBlock}
 use Rattle.frame_model.specs.declared.key.Key.{Key}
 use Rattle.frame_model.specs.declared.view.Eye.{Eye}
-use Rattle.frame_core.specs.Block.{IsBlock, covers, small_at, smalls, whole_at, wholes}
-use Rattle.frame_core.specs.Events.{views_of}
-use Rattle.frame_core.specs.Holding.{holders, IsHolding}
+use Rattle.frame_model.specs.Block.{IsBlock, covers, small_at, smalls, whole_at, wholes}
+use Rattle.frame_model.specs.Events.{views_of}
+use Rattle.frame_model.specs.Holding.{holders, IsHolding}
 use Rattle.frame_core.specs.Image.{Contents}
-use Rattle.frame_core.specs.Key.{child_of, is_boot_frame, sealed_key}
-use Rattle.frame_core.specs.Laws.{AddsUp, HoldsJust}
+use Rattle.frame_model.specs.Key.{child_of, is_boot_frame, sealed_key}
+use Rattle.frame_model.specs.Laws.{AddsUp, HoldsJust}
 use Rattle.frame_core.specs.Moves.{HasSizes}
 use Rattle.frame_core.specs.Mover.{IsApart}
-use Rattle.frame_core.specs.Report.{held_at}
-use Rattle.frame_core.specs.View.{boot_blocks}
-use Rattle.frame_core.specs.Words.{bit_of, huge_of}
+use Rattle.frame_model.specs.Report.{held_at}
+use Rattle.frame_model.specs.View.{boot_blocks}
+use Rattle.frame_model.specs.Words.{bit_of, huge_of}
 use Rattle.frame_core.proofs.Apart.{apart_of}
 use Rattle.frame_model.proofs.Safe.{holders_are}
 use Rattle.frame_model.proofs.Steps.Shared.{view_of as view_at}

@@ -14,7 +14,7 @@ use Rattle.core_frames.specs.declared.shared.allocator.Allocator.{Allocator}
 use Rattle.core_frames.specs.declared.shared.desk.Desk.{Desk}
 use Rattle.held_blocks.specs.declared.labelled_block.LabelledBlock.{LabelledBlock}
 use Rattle.held_blocks.specs.Desk.{MayRefuse, blocks_of}
-use Rattle.frame_core.specs.Holding.{IsHolding}
+use Rattle.frame_model.specs.Holding.{IsHolding}
 use Rattle.frame_model.specs.declared.key.Key.{Key}
 use Rattle.llfree_trace.proofs.Running.{step_lawful}
 use Rattle.llfree_trace.specs.Outcome.{Runs, core_list}

@@ -1,7 +1,7 @@
 -- A block that leaves a holding and joins it again.
 use Rattle.std.proofs.Common.{List, [], ◌∷◌, ◌++◌, arith}
-use Rattle.frame_core.specs.Block.{IsBlock, covers}
-use Rattle.frame_core.specs.Holding.{IsFreeBlock, IsHolding, holders}
+use Rattle.frame_model.specs.Block.{IsBlock, covers}
+use Rattle.frame_model.specs.Holding.{IsFreeBlock, IsHolding, holders}
 use Rattle.frame_model.specs.declared.key.Key.{Key}
 use Rattle.held_blocks.specs.Desk.{blocks_of}
 use Rattle.held_blocks.specs.LabelledBlocks.{BeginsAt, HasNone, TakesFirst}

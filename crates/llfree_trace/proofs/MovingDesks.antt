@@ -8,8 +8,8 @@ use Rattle.std.proofs.Math.Seq.{map-set_same}
 use Rattle.std.proofs.lemmas.Int.{ints}
 use Rattle.std.proofs.lemmas.List.{map-set}
 use Rattle.std.proofs.lemmas.List.Elements.{All-set}
-use Rattle.frame_core.specs.Block.{block}
-use Rattle.frame_core.specs.Holding.{IsHolding}
+use Rattle.frame_model.specs.Block.{block}
+use Rattle.frame_model.specs.Holding.{IsHolding}
 use Rattle.frame_model.specs.declared.block.FrameBlock.{FrameBlock}
 use Rattle.frame_table.specs.Closing.{lent_through}
 use Rattle.frame_table.specs.Seats.{block_in}

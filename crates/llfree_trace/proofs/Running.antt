@@ -3,8 +3,8 @@ use Rattle.std.proofs.Common.{◌≡◌, ◌⊎◌, inl, inr, ◌+◌, ◌-◌, 
 use Rattle.std.proofs.Common.{◌++◌, length, replicate, refl, subst, arith, Result, Ok, Err}
 use Rattle.std.proofs.lemmas.List.{append-nil}
 use Rattle.std.proofs.lemmas.List.Elements.{All-nil}
-use Rattle.frame_core.specs.Block.{IsBlock}
-use Rattle.frame_core.specs.Holding.{IsHolding, holders}
+use Rattle.frame_model.specs.Block.{IsBlock}
+use Rattle.frame_model.specs.Holding.{IsHolding, holders}
 use Rattle.frame_model.specs.declared.block.FrameBlock.{FrameBlock}
 use Rattle.frame_model.specs.declared.key.Key.{Key}
 use Rattle.frame_words.specs.declared.fault.Fault.{Fault}

@@ -2,10 +2,10 @@
 use Rattle.std.proofs.Common.{◌≡◌, ◌≤◌, ◌+◌, List, ℕ, Bool, [], ◌++◌, replicate, arith}
 use Rattle.std.proofs.lemmas.List.{length-replicate}
 use Rattle.std.proofs.lemmas.List.Sums.{sum_by-append}
-use Rattle.frame_core.specs.Block.{covers}
-use Rattle.frame_core.specs.Holding.{holders}
+use Rattle.frame_model.specs.Block.{covers}
+use Rattle.frame_model.specs.Holding.{holders}
 use Rattle.frame_core.specs.Image.{Contents}
-use Rattle.frame_core.specs.View.{boot_blocks}
+use Rattle.frame_model.specs.View.{boot_blocks}
 use Rattle.frame_model.specs.declared.block.FrameBlock.{FrameBlock}
 use Rattle.held_blocks.specs.declared.labelled_block.LabelledBlock.{LabelledBlock}
 use Rattle.llfree_trace.specs.Outcome.{IsAnsweredBy, all_blocks, key_under}

@@ -3,8 +3,8 @@ use Rattle.std.proofs.Common.{◌≡◌, ◌≤◌, ◌<◌, ◌∙◌, ◌⊎�
 use Rattle.std.proofs.Common.{refl, sym, ap, subst, arith, Result, Ok, Err}
 use Rattle.std.proofs.lemmas.Grind.{common_steps}
 use Rattle.std.proofs.lemmas.List.Elements.{All-head, All-tail}
-use Rattle.frame_core.specs.Block.{block}
-use Rattle.frame_core.specs.Holding.{IsHolding}
+use Rattle.frame_model.specs.Block.{block}
+use Rattle.frame_model.specs.Holding.{IsHolding}
 use Rattle.frame_model.specs.declared.block.FrameBlock.{FrameBlock}
 use Rattle.frame_model.specs.declared.key.Key.{Key}
 use Rattle.frame_words.specs.declared.fault.Fault.{Fault}

@@ -2,8 +2,8 @@
 use Rattle.std.proofs.Common.{◌≡◌, ◌≢◌, ◌<◌, ◌∙◌, inl, inr, ℕ, List, Bool, true, false, Option, Some, None}
 use Rattle.std.proofs.Common.{Result, Ok, Err, refl, sym, ap, subst, arith, length, IfSome, IsSomeAnd}
 use Rattle.core_frames.specs.Ranges.{MayHoldBack}
-use Rattle.frame_core.specs.Laws.{AddsUp}
-use Rattle.frame_core.specs.Rebuilt.{IsRebuilt}
+use Rattle.frame_model.specs.Laws.{AddsUp}
+use Rattle.frame_model.specs.Rebuilt.{IsRebuilt}
 use Rattle.frame_image.specs.Devices.{device_of}
 use Rattle.frame_image.specs.ImageText.{Drawn, picture_of}
 use Rattle.frame_image.specs.Tally.{table_of, tally_of}

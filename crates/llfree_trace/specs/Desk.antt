@@ -3,8 +3,8 @@ use Rattle.std.specs.Prelude.{ℕ, ◌+◌, ◌≡◌, List, [], ◌∷◌, leng
 use Rattle.std.specs.List.{sum_by}
 use Rattle.std.specs.Option.{option_to_list}
 use Rattle.core_frames.specs.PlainState.{PlainState}
-use Rattle.frame_core.specs.Holding.{IsHolding}
-use Rattle.frame_core.specs.Key.{sealed_key}
+use Rattle.frame_model.specs.Holding.{IsHolding}
+use Rattle.frame_model.specs.Key.{sealed_key}
 use Rattle.frame_model.specs.declared.block.FrameBlock.{FrameBlock}
 use Rattle.frame_model.specs.declared.key.Key.{Key}
 use Rattle.frame_words.specs.declared.geometry.Geometry.{Geometry}

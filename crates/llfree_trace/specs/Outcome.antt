@@ -5,12 +5,12 @@ use Rattle.std.specs.List.{flat_map}
 use Rattle.held_blocks.specs.Desk.{blocks_of, MustRefuse, TakesUnder, GivesOldest, GivesExactly}
 use Rattle.held_blocks.specs.LabelledBlocks.{HasNone, IsUnder, TakesFirst}
 use Rattle.held_blocks.specs.declared.labelled_block.LabelledBlock.{LabelledBlock}
-use Rattle.frame_core.specs.Block.{block}
-use Rattle.frame_core.specs.Holding.{IsFreeBlock, IsHolding, holders}
-use Rattle.frame_core.specs.View.{boot_blocks}
+use Rattle.frame_model.specs.Block.{block}
+use Rattle.frame_model.specs.Holding.{IsFreeBlock, IsHolding, holders}
+use Rattle.frame_model.specs.View.{boot_blocks}
 use Rattle.frame_core.specs.Image.{Contents}
-use Rattle.frame_core.specs.Key.{frame_count, sealed_key}
-use Rattle.frame_core.specs.Report.{held_at}
+use Rattle.frame_model.specs.Key.{frame_count, sealed_key}
+use Rattle.frame_model.specs.Report.{held_at}
 use Rattle.frame_model.specs.declared.block.FrameBlock.{FrameBlock}
 use Rattle.frame_model.specs.declared.key.Key.{Key}
 use Rattle.frame_words.specs.declared.fault.Fault.{Fault}

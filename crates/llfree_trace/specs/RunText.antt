@@ -2,8 +2,8 @@
 use Rattle.std.specs.Prelude.{ℕ, ◌≡◌, ◌≢◌, List, Ok}
 use Rattle.core_frames.specs.Ranges.{MayHoldBack}
 use Rattle.frame_core.specs.Image.{Contents, key_in}
-use Rattle.frame_core.specs.Laws.{AddsUp}
-use Rattle.frame_core.specs.Report.{free_frames, held_frames}
+use Rattle.frame_model.specs.Laws.{AddsUp}
+use Rattle.frame_model.specs.Report.{free_frames, held_frames}
 use Rattle.frame_image.specs.ImageText.{drawn, picture_of}
 use Rattle.frame_model.specs.declared.block.FrameBlock.{FrameBlock}
 use Rattle.frame_model.specs.declared.key.Key.{Key}

@@ -1,12 +1,12 @@
 -- Runs and outcomes that would be wrong.
 use Rattle.std.specs.Prelude.{ℕ, ◌+◌, ◌≡◌, ◌≢◌, ◌<◌, ◌≤◌, ◌⊎◌, Bool, true, false, List, [], ◌∷◌, ◌++◌, map}
 use Rattle.std.specs.List.{sum_by}
-use Rattle.frame_core.specs.Block.{IsBlock, block, covers}
-use Rattle.frame_core.specs.Holding.{IsFreeBlock, holders}
+use Rattle.frame_model.specs.Block.{IsBlock, block, covers}
+use Rattle.frame_model.specs.Holding.{IsFreeBlock, holders}
 use Rattle.frame_core.specs.Image.{Contents}
-use Rattle.frame_core.specs.Key.{frame_count}
-use Rattle.frame_core.specs.Report.{held_at}
-use Rattle.frame_core.specs.View.{boot_blocks}
+use Rattle.frame_model.specs.Key.{frame_count}
+use Rattle.frame_model.specs.Report.{held_at}
+use Rattle.frame_model.specs.View.{boot_blocks}
 use Rattle.frame_model.specs.declared.block.FrameBlock.{FrameBlock}
 use Rattle.frame_model.specs.declared.key.Key.{Key}
 use Rattle.frame_words.specs.declared.fault.Fault.{Fault}

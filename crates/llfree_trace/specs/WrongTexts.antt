@@ -4,8 +4,8 @@ use Rattle.std.specs.Prelude.{Result, Ok, Err}
 use Rattle.std.specs.Io.KnownBytes.{Appends}
 use Rattle.core_frames.specs.Ranges.{MayHoldBack}
 use Rattle.frame_core.specs.Image.{Contents}
-use Rattle.frame_core.specs.Laws.{AddsUp}
-use Rattle.frame_core.specs.Rebuilt.{IsRebuilt}
+use Rattle.frame_model.specs.Laws.{AddsUp}
+use Rattle.frame_model.specs.Rebuilt.{IsRebuilt}
 use Rattle.frame_image.specs.Devices.{WritesFront, device_of, has_failed}
 use Rattle.frame_image.specs.ImageText.{Drawn, image_of, picture_of}
 use Rattle.frame_image.specs.Tally.{table_of, tally_of}

@@ -40,8 +40,8 @@ impl Model for PlainDesk {
 impl PlainDesk {
     ghost use Rattle.held_blocks.specs.Desk.{GivesExactly, GivesOldest, TakesUnder};
     ghost use Rattle.held_blocks.specs.Desk.{blocks_of};
-    ghost use Rattle.frame_core.specs.Laws.{AddsUp};
-    ghost use Rattle.frame_core.specs.View.{boot_blocks};
+    ghost use Rattle.frame_model.specs.Laws.{AddsUp};
+    ghost use Rattle.frame_model.specs.View.{boot_blocks};
     ghost use Rattle.llfree_trace.specs.Outcome.{DeskStep, HoldsFrames, SaysGiven, SaysTaken};
     ghost use Rattle.llfree_trace.specs.Outcome.{LeavesBootFrames, MustRefuseHere};
 

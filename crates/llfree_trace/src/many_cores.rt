@@ -2,7 +2,7 @@
 
 ghost use Rattle.std.specs.Prelude.{◌≡◌, ◌≤◌, IfErr, IfOk};
 ghost use Rattle.core_frames.specs.Ranges.{IsUnopenedFor, MayHoldBack};
-ghost use Rattle.frame_core.specs.Laws.{AddsUp};
+ghost use Rattle.frame_model.specs.Laws.{AddsUp};
 ghost use Rattle.held_blocks.specs.Desk.{MayRefuse};
 ghost use Rattle.llfree_trace.specs.Outcome.{IsAnsweredBy, key_under};
 ghost use Rattle.trace_text.specs.Trace.{core_count, ranges_in};

@@ -2,7 +2,7 @@
 
 ghost use Rattle.std.specs.Prelude.{◌≡◌, IfErr, IfOk};
 ghost use Rattle.frame_core.specs.Image.{key_in};
-ghost use Rattle.frame_core.specs.Report.{free_frames as frames_free, held_frames as frames_held};
+ghost use Rattle.frame_model.specs.Report.{free_frames as frames_free, held_frames as frames_held};
 ghost use Rattle.llfree_trace.specs.Outcome.{MustRefuseHere};
 ghost use Rattle.llfree_trace.specs.RunText.{ExplainsRun, IsRunOf, outcome_answers, shown_of};
 ghost use Rattle.llfree_trace.specs.Streams.{Filters};

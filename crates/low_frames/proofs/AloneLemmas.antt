@@ -6,13 +6,12 @@ use Rattle.std.proofs.lemmas.Bool.{cases_lt, false≢true}
 use Rattle.frame_words.specs.Runs.{IsClearRun, HasNoClearRun}
 use Rattle.frame_words.specs.Words.{free_in, flag_in, lane_in}
 use Rattle.frame_model.specs.declared.key.Key.{Key}
-use Rattle.frame_core.specs.Words.{run, entry_place, bits_place, free_of, huge_of, entry_of, bit_word_of}
+use Rattle.frame_model.specs.Words.{run, entry_place, bits_place, free_of, huge_of, entry_of, bit_word_of}
 use Rattle.frame_model.specs.declared.place.Place.{Place}
-use Rattle.frame_core.specs.Steps.{Kind, charge, claim, take_huge, place}
+use Rattle.frame_model.specs.Steps.{Kind, charge, claim, take_huge, place, words_after}
 use Rattle.frame_core.specs.Moves.{place_of, Exchanges, OfRun}
 use Rattle.frame_core.specs.Mover.{Mover, Keeps, Loads, Tries}
 use Rattle.frame_model.proofs.Steps.Shared.{bit_word_is}
-use Rattle.frame_model.specs.Steps.{words_after}
 use Rattle.low_frames.specs.Alone.{Turns, FindsOf, IsCharged, HasTooFew, IsClaimed, IsClaimedIn, HasNoRun, HasNoRunIn, IsTakenHuge}
 use Rattle.low_frames.specs.Alone.{IsNotWhole}
 

@@ -5,10 +5,9 @@ use Rattle.std.proofs.lemmas.Nat.{pow_pos}
 use Rattle.frame_model.specs.declared.block.FrameBlock.{FrameBlock}
 use Rattle.frame_model.specs.declared.key.Key.{Key}
 use Rattle.frame_model.specs.declared.view.View.{View}
-use Rattle.frame_model.specs.Steps.{words_after}
-use Rattle.frame_core.specs.Key.{child_of}
-use Rattle.frame_core.specs.Block.{block}
-use Rattle.frame_core.specs.Steps.{refund}
+use Rattle.frame_model.specs.Steps.{words_after, refund}
+use Rattle.frame_model.specs.Key.{child_of}
+use Rattle.frame_model.specs.Block.{block}
 use Rattle.frame_core.specs.Moves.{Changes}
 use Rattle.low_frames.specs.Takes.{IsBlockIn}
 use Rattle.low_frames.specs.Alone.{Turns, FindsOf, WordsTake, HoldsMore, HasNoneIn, HasNoneOfTree, IsCharged, HasTooFew, IsClaimedIn}

@@ -5,9 +5,9 @@ use Rattle.std.proofs.lemmas.Bool.{cases_eq}
 use Rattle.std.proofs.lemmas.Bool.Decides.{nat_tests}
 use Rattle.frame_model.specs.declared.view.Amount.{Amount}
 use Rattle.frame_model.specs.declared.view.View.{View}
-use Rattle.frame_core.specs.Key.{tree_of_child}
-use Rattle.frame_core.specs.View.{counted, count_in, NoneBut}
-use Rattle.frame_core.specs.Steps.Amounts.{more}
+use Rattle.frame_model.specs.Key.{tree_of_child}
+use Rattle.frame_model.specs.View.{counted, count_in, NoneBut}
+use Rattle.frame_model.specs.Steps.Amounts.{more}
 use Rattle.frame_model.proofs.Amounts.{more_else}
 
 -- n frames more, and nothing is changed by none

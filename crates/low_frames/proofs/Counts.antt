@@ -5,8 +5,8 @@ use Rattle.std.proofs.lemmas.Bool.Decides.{nat_tests}
 use Rattle.frame_model.specs.declared.block.FrameBlock.{FrameBlock}
 use Rattle.frame_model.specs.declared.place.Place.{Place}
 use Rattle.frame_model.specs.declared.view.View.{View}
-use Rattle.frame_core.specs.Steps.{Kind, charge, refund, claim, release, take_huge, give_huge, tree_pay, tree_refund, reserve}
-use Rattle.frame_core.specs.Steps.{swap_local, unreserve, local_pay, local_refund, collect, fill_word, drop_flag}
+use Rattle.frame_model.specs.Steps.{Kind, charge, refund, claim, release, take_huge, give_huge, tree_pay, tree_refund, reserve}
+use Rattle.frame_model.specs.Steps.{swap_local, unreserve, local_pay, local_refund, collect, fill_word, drop_flag}
 use Rattle.frame_core.specs.Moves.{after}
 use Rattle.frame_core.specs.Mover.{Mover, Ticks, Loads, Tries, Makes, HandsOut, HandsIn}
 use Rattle.low_frames.specs.Takes.{Counts}

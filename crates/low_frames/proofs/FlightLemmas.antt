@@ -5,12 +5,12 @@ use Rattle.std.proofs.Math.Bridge.{le_prop}
 use Rattle.std.proofs.Math.Nat.{ℕ_set}
 use Rattle.frame_model.specs.declared.key.Key.{Key}
 use Rattle.frame_model.specs.declared.view.View.{View}
-use Rattle.frame_core.specs.Key.{frame_count}
-use Rattle.frame_core.specs.Block.{smalls, wholes}
-use Rattle.frame_core.specs.Words.{entry_of, free_of, huge_of, bit_of}
-use Rattle.frame_core.specs.View.{small_in, charged_in, names}
-use Rattle.frame_core.specs.Fit.{Fit}
-use Rattle.frame_core.specs.Steps.Amounts.{IsRun}
+use Rattle.frame_model.specs.Key.{frame_count}
+use Rattle.frame_model.specs.Block.{smalls, wholes}
+use Rattle.frame_model.specs.Words.{entry_of, free_of, huge_of, bit_of}
+use Rattle.frame_model.specs.View.{small_in, charged_in, names}
+use Rattle.frame_model.specs.Fit.{Fit}
+use Rattle.frame_model.specs.Steps.Amounts.{IsRun}
 use Rattle.frame_model.proofs.Words.{held_is}
 use Rattle.frame_model.proofs.Steps.Shared.{bit-le, at-le-total, smalls-le-bit, flag_set, bit_filled, free_of_is, huge_of_is, free_is}
 use Rattle.frame_model.proofs.Steps.Shared.{flag_is}

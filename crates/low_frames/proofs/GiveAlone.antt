@@ -5,14 +5,13 @@ use Rattle.std.proofs.lemmas.Nat.{pow_pos}
 use Rattle.frame_model.specs.declared.key.Key.{Key}
 use Rattle.frame_model.specs.declared.view.View.{View}
 use Rattle.frame_model.specs.declared.block.FrameBlock.{FrameBlock}
-use Rattle.frame_core.specs.Block.{block, IsBlock, covers, smalls, wholes}
-use Rattle.frame_core.specs.Words.{huge_of}
+use Rattle.frame_model.specs.Block.{block, IsBlock, covers, smalls, wholes}
+use Rattle.frame_model.specs.Words.{huge_of}
 use Rattle.frame_core.specs.Moves.{Changes, release_run, give_whole}
-use Rattle.frame_core.specs.Steps.Amounts.{IsRun}
-use Rattle.frame_core.specs.Steps.{refund}
-use Rattle.frame_core.specs.Steps.Conditions.{CanRefund, CanGiveHuge}
+use Rattle.frame_model.specs.Steps.Amounts.{IsRun}
+use Rattle.frame_model.specs.Steps.{refund, words_after}
+use Rattle.frame_model.specs.Steps.Conditions.{CanRefund, CanGiveHuge}
 use Rattle.frame_model.proofs.Blocks.{smalls_cons, in_block, whole_here}
-use Rattle.frame_model.specs.Steps.{words_after}
 use Rattle.low_frames.specs.Alone.{HoldsMore, WordsGive}
 use Rattle.low_frames.specs.Groups.{HoldsWords, HoldsMoreWords, HasGivenWords}
 use Rattle.low_frames.proofs.AloneLemmas.{at_known}

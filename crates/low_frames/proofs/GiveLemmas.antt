@@ -9,15 +9,15 @@ use Rattle.frame_model.specs.declared.block.FrameBlock.{FrameBlock}
 use Rattle.frame_model.specs.declared.key.Key.{Key}
 use Rattle.frame_model.specs.declared.view.Amount.{Amount}
 use Rattle.frame_model.specs.declared.view.View.{View}
-use Rattle.frame_core.specs.Key.{tree_of, tree_of_child}
-use Rattle.frame_core.specs.Block.{block, IsBlock}
-use Rattle.frame_core.specs.View.{count_in, NoneBut, names, holder}
-use Rattle.frame_core.specs.Steps.{refund}
-use Rattle.frame_core.specs.Steps.Amounts.{more, less, Leaves, IsRun}
-use Rattle.frame_core.specs.Steps.Conditions.{CanRefund, CanRelease, CanGiveHuge}
-use Rattle.frame_core.specs.Seats.{hand_in, joined_by}
+use Rattle.frame_model.specs.Key.{tree_of, tree_of_child}
+use Rattle.frame_model.specs.Block.{block, IsBlock}
+use Rattle.frame_model.specs.View.{count_in, NoneBut, names, holder}
+use Rattle.frame_model.specs.Steps.{refund}
+use Rattle.frame_model.specs.Steps.Amounts.{more, less, Leaves, IsRun}
+use Rattle.frame_model.specs.Steps.Conditions.{CanRefund, CanRelease, CanGiveHuge}
+use Rattle.frame_model.specs.Seats.{hand_in, joined_by}
 use Rattle.frame_core.specs.Moves.{after, release_run, give_whole}
-use Rattle.frame_core.specs.Without.{without}
+use Rattle.frame_model.specs.Without.{without}
 use Rattle.frame_model.proofs.Amounts.{count_none, names_none}
 use Rattle.frame_model.proofs.Blocks.{run_is_block}
 use Rattle.frame_model.proofs.Without.{without_itself}

@@ -12,20 +12,19 @@ use Rattle.frame_words.specs.Words.{entry_word, free_in, flag_in, lane_in, lane_
 use Rattle.frame_words.proofs.WordLemmas.{flag_in-entry_word, entry_word-lt, free_in-lt}
 use Rattle.frame_model.specs.declared.block.FrameBlock.{FrameBlock}
 use Rattle.frame_model.specs.declared.key.Key.{Key}
-use Rattle.frame_core.specs.Key.{frame_count}
-use Rattle.frame_core.specs.Block.{block, covers, small_at, whole_at}
-use Rattle.frame_core.specs.Words.{run, entry_place, bits_place, entry_of, free_of, huge_of, bit_word_of, bit_of, with_entry, with_bits}
-use Rattle.frame_core.specs.Words.{AreInRange}
-use Rattle.frame_core.specs.Report.{held_at}
-use Rattle.frame_core.specs.Steps.{charge, refund, claim}
-use Rattle.frame_core.specs.Steps.Amounts.{IsRun}
+use Rattle.frame_model.specs.Key.{frame_count}
+use Rattle.frame_model.specs.Block.{block, covers, small_at, whole_at}
+use Rattle.frame_model.specs.Words.{run, entry_place, bits_place, entry_of, free_of, huge_of, bit_word_of, bit_of, with_entry, with_bits}
+use Rattle.frame_model.specs.Words.{AreInRange}
+use Rattle.frame_model.specs.Report.{held_at}
+use Rattle.frame_model.specs.Steps.{charge, refund, claim, words_after}
+use Rattle.frame_model.specs.Steps.Amounts.{IsRun}
 use Rattle.frame_core.specs.Moves.{release_run, give_whole}
 use Rattle.frame_model.proofs.Bits.{bit_at_clear, run-lt}
 use Rattle.frame_model.proofs.Blocks.{run_here, run_else, run_is_block, not_small, not_whole, whole_here, whole_else}
 use Rattle.frame_model.proofs.Lanes.{lane_added, lane_taken}
 use Rattle.frame_model.proofs.Words.{bits_written, EntryWritten, entry_written, child-has-lane}
 use Rattle.frame_model.proofs.Steps.Shared.{bit_word_is, bit_is, as_bits, as_entry, entry_of_is, free_of_is, huge_of_is, free_is, flag_is}
-use Rattle.frame_model.specs.Steps.{words_after}
 use Rattle.low_frames.specs.Alone.{HoldsMore}
 use Rattle.low_frames.specs.Groups.{HoldsMoreWords}
 use Rattle.low_frames.proofs.RoomLemmas.{is_covered, covered_from, bits_more}

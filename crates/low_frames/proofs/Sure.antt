@@ -4,8 +4,7 @@ use Rattle.std.specs.Prelude.{IfSome, Bool, true, false}
 use Rattle.std.proofs.lemmas.Bool.{false≢true}
 use Rattle.frame_model.specs.declared.block.FrameBlock.{FrameBlock}
 use Rattle.frame_model.specs.declared.place.Place.{Place}
-use Rattle.frame_model.specs.Steps.{words_after}
-use Rattle.frame_core.specs.Steps.{Kind}
+use Rattle.frame_model.specs.Steps.{words_after, Kind}
 use Rattle.frame_core.specs.Mover.{Mover, Loads, Tries, Makes, HandsOut, HandsIn}
 use Rattle.low_frames.specs.Takes.{IsSure, LosesNone, StaysSure}
 use Rattle.low_frames.proofs.AloneLemmas.{at_known}

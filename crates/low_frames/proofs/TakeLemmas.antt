@@ -6,18 +6,18 @@ use Rattle.frame_words.specs.Runs.{IsClearRun}
 use Rattle.frame_words.specs.Words.{free_in, flag_in, lane_in}
 use Rattle.frame_words.proofs.RunLemmas.{run_apart}
 use Rattle.frame_model.specs.declared.key.Key.{Key}
-use Rattle.frame_core.specs.Key.{tree_of_child}
-use Rattle.frame_core.specs.Steps.Amounts.{IsRun}
-use Rattle.frame_core.specs.Steps.Conditions.{CanCharge, CanClaim, CanTakeHuge}
-use Rattle.frame_core.specs.Block.{smalls, wholes}
-use Rattle.frame_core.specs.View.{count_in, charged_in, paid_on, LiesIn}
+use Rattle.frame_model.specs.Key.{tree_of_child}
+use Rattle.frame_model.specs.Steps.Amounts.{IsRun}
+use Rattle.frame_model.specs.Steps.Conditions.{CanCharge, CanClaim, CanTakeHuge}
+use Rattle.frame_model.specs.Block.{smalls, wholes}
+use Rattle.frame_model.specs.View.{count_in, charged_in, paid_on, LiesIn}
 use Rattle.frame_model.proofs.Amounts.{count_none}
 use Rattle.frame_model.proofs.Blocks.{smalls_none, wholes_none}
 use Rattle.frame_model.specs.declared.block.FrameBlock.{FrameBlock}
 use Rattle.frame_model.specs.declared.place.Place.{Place}
-use Rattle.frame_core.specs.Steps.{Kind}
+use Rattle.frame_model.specs.Steps.{Kind}
 use Rattle.frame_core.specs.Moves.{ReadsBut}
-use Rattle.frame_core.specs.Words.{bits_place}
+use Rattle.frame_model.specs.Words.{bits_place}
 use Rattle.frame_core.specs.Mover.{Mover, IsApart, Ticks, Keeps, KeepsOthers, Loads, Tries, Makes, HandsOut, HandsIn}
 use Rattle.low_frames.specs.Takes.{Counts, IsAsBefore}
 use Rattle.low_frames.proofs.Counts.{none_made, one_move, at_most, both_counts, load_counts, make_counts, try_counts, out_counts, in_counts}

@@ -10,20 +10,19 @@ use Rattle.frame_model.specs.declared.block.FrameBlock.{FrameBlock}
 use Rattle.frame_model.specs.declared.key.Key.{Key}
 use Rattle.frame_model.specs.declared.view.Amount.{Amount}
 use Rattle.frame_model.specs.declared.view.View.{View}
-use Rattle.frame_core.specs.Key.{child_of, tree_of_child}
-use Rattle.frame_core.specs.Block.{block, IsBlock, covers, small_at}
-use Rattle.frame_core.specs.View.{counted, count_in, charged_in, names}
-use Rattle.frame_core.specs.Steps.Amounts.{more, less, Leaves, IsRun}
-use Rattle.frame_core.specs.Steps.Conditions.{CanRefund}
-use Rattle.frame_core.specs.Seats.{CanHandOut}
+use Rattle.frame_model.specs.Key.{child_of, tree_of_child}
+use Rattle.frame_model.specs.Block.{block, IsBlock, covers, small_at}
+use Rattle.frame_model.specs.View.{counted, count_in, charged_in, names}
+use Rattle.frame_model.specs.Steps.Amounts.{more, less, Leaves, IsRun}
+use Rattle.frame_model.specs.Steps.Conditions.{CanRefund}
+use Rattle.frame_model.specs.Seats.{CanHandOut, left_by}
 use Rattle.std.specs.List.{sum_by}
 use Rattle.std.proofs.lemmas.List.Sums.{sum_by-cons, sum_by-append}
-use Rattle.frame_core.specs.Holding.{holders, IsFreeBlock}
+use Rattle.frame_model.specs.Holding.{holders, IsFreeBlock}
 use Rattle.frame_core.specs.Mover.{IsApart, LiesInside}
-use Rattle.frame_core.specs.Steps.{refund}
-use Rattle.frame_core.specs.Seats.{left_by}
+use Rattle.frame_model.specs.Steps.{refund}
 use Rattle.frame_core.specs.Moves.{after, hand_out_block}
-use Rattle.frame_core.specs.Without.{without, HasFrames}
+use Rattle.frame_model.specs.Without.{without, HasFrames}
 use Rattle.frame_model.proofs.Amounts.{count_none, more_here, names_none}
 use Rattle.frame_model.proofs.Blocks.{smalls_cons, smalls_none, wholes_cons, wholes_none, run_is_block, child_is_block}
 use Rattle.frame_model.proofs.Without.{without_leaves, without_itself, whole_child, first_of_child}

@@ -8,14 +8,13 @@ use Rattle.frame_words.specs.Runs.{IsClearGroup, HasNoClearGroup}
 use Rattle.frame_model.specs.declared.key.Key.{Key}
 use Rattle.frame_model.specs.declared.view.View.{View}
 use Rattle.frame_model.specs.declared.block.FrameBlock.{FrameBlock}
-use Rattle.frame_core.specs.Block.{block}
-use Rattle.frame_core.specs.Words.{bits_place, bit_word_of, huge_of, AreInRange}
-use Rattle.frame_core.specs.Report.{held_at}
-use Rattle.frame_core.specs.View.{charged_in}
+use Rattle.frame_model.specs.Block.{block}
+use Rattle.frame_model.specs.Words.{bits_place, bit_word_of, huge_of, AreInRange}
+use Rattle.frame_model.specs.Report.{held_at}
+use Rattle.frame_model.specs.View.{charged_in}
 use Rattle.frame_core.specs.Moves.{Changes, Exchanges}
-use Rattle.frame_core.specs.Steps.{refund, claim}
+use Rattle.frame_model.specs.Steps.{refund, claim, words_after}
 use Rattle.frame_model.proofs.Steps.Shared.{bit_word_is}
-use Rattle.frame_model.specs.Steps.{words_after}
 use Rattle.low_frames.specs.Alone.{IsFreeIn, HoldsMore, Turns, IsCharged, WordsTake, HasNoneIn, FindsOf}
 use Rattle.frame_core.specs.Mover.{Mover}
 use Rattle.low_frames.specs.Takes.{IsBlockIn, LosesNone}

@@ -11,21 +11,21 @@ use Rattle.frame_model.specs.declared.block.FrameBlock.{FrameBlock}
 use Rattle.frame_model.specs.declared.key.Key.{Key}
 use Rattle.frame_model.specs.declared.view.Amount.{Amount}
 use Rattle.frame_model.specs.declared.view.View.{View}
-use Rattle.frame_core.specs.Key.{tree_of_child}
-use Rattle.frame_core.specs.Words.{bits_place}
-use Rattle.frame_core.specs.View.{counted, count_in, charged_in, paid_on, NoneBut}
+use Rattle.frame_model.specs.Key.{tree_of_child}
+use Rattle.frame_model.specs.Words.{bits_place}
+use Rattle.frame_model.specs.View.{counted, count_in, charged_in, paid_on, NoneBut}
 use Rattle.frame_core.specs.Moves.{ReadsBut, hand_out_block}
-use Rattle.frame_core.specs.Steps.Amounts.{more, less, Leaves}
-use Rattle.frame_core.specs.Steps.Conditions.{CanClaim}
+use Rattle.frame_model.specs.Steps.Amounts.{more, less, Leaves}
+use Rattle.frame_model.specs.Steps.Conditions.{CanClaim}
 use Rattle.frame_model.proofs.Amounts.{count_none, less_here, less_else, one_place}
 use Rattle.low_frames.proofs.AmountLemmas.{more_counted}
 use Rattle.low_frames.specs.Takes.{IsAsBefore, HasCharged, HasClaimed, HasHandedOut, IsBlockIn}
-use Rattle.frame_core.specs.Seats.{CanHandOut, left_by}
-use Rattle.frame_core.specs.Without.{without}
+use Rattle.frame_model.specs.Seats.{CanHandOut, left_by}
+use Rattle.frame_model.specs.Without.{without}
 use Rattle.low_frames.proofs.ViewLemmas.{charged_back}
 use Rattle.low_frames.specs.Gives.{HasReleased}
 use Rattle.low_frames.proofs.WordsLemmas.{words_more, words_leave, words_leave_nothing}
-use Rattle.frame_core.specs.Block.{block, IsBlock}
+use Rattle.frame_model.specs.Block.{block, IsBlock}
 use Rattle.low_frames.specs.Groups.{HoldsWords, HasClaimedWords, WasReadClear, ReadsOutside}
 
 -- two bit words stand at two places

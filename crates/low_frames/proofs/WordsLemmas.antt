@@ -4,14 +4,14 @@ use Rattle.std.proofs.lemmas.Bool.{cases_lt}
 use Rattle.std.proofs.lemmas.List.Elements.{All-cons, All-nil}
 use Rattle.frame_model.specs.declared.block.FrameBlock.{FrameBlock}
 use Rattle.frame_model.specs.declared.key.Key.{Key}
-use Rattle.frame_core.specs.Block.{block, IsBlock, covers}
-use Rattle.frame_core.specs.Steps.Amounts.{Leaves}
-use Rattle.frame_core.specs.Without.{without}
+use Rattle.frame_model.specs.Block.{block, IsBlock, covers}
+use Rattle.frame_model.specs.Steps.Amounts.{Leaves}
+use Rattle.frame_model.specs.Without.{without}
 use Rattle.frame_model.proofs.Blocks.{smalls_cons, smalls_none, wholes_cons, wholes_none, in_block, before_block, behind_block}
 use Rattle.frame_model.proofs.Blocks.{not_whole, run_is_block}
 use Rattle.frame_model.proofs.Without.{without_leaves, nothing_left}
 use Rattle.frame_model.specs.declared.view.View.{View}
-use Rattle.frame_core.specs.Holding.{holders}
+use Rattle.frame_model.specs.Holding.{holders}
 use Rattle.frame_model.proofs.Safe.{holders_are}
 use Rattle.low_frames.proofs.ViewLemmas.{covered_from}
 use Rattle.low_frames.specs.Groups.{HoldsWords}

@@ -4,12 +4,11 @@ use Rattle.frame_words.specs.Geometry.{child_frames}
 use Rattle.frame_words.specs.Runs.{word_bits, IsClearRun, HasNoClearRun}
 use Rattle.frame_model.specs.declared.block.FrameBlock.{FrameBlock}
 use Rattle.frame_model.specs.declared.key.Key.{Key}
-use Rattle.frame_model.specs.Steps.{words_after}
-use Rattle.frame_core.specs.Key.{frame_count}
-use Rattle.frame_core.specs.Block.{covers, small_at, whole_at}
-use Rattle.frame_core.specs.Words.{entry_place, entry_of, free_of, huge_of, bit_of, bit_word_of}
-use Rattle.frame_core.specs.Report.{held_at}
-use Rattle.frame_core.specs.Steps.{charge, claim, take_huge}
+use Rattle.frame_model.specs.Steps.{words_after, charge, claim, take_huge}
+use Rattle.frame_model.specs.Key.{frame_count}
+use Rattle.frame_model.specs.Block.{covers, small_at, whole_at}
+use Rattle.frame_model.specs.Words.{entry_place, entry_of, free_of, huge_of, bit_of, bit_word_of}
+use Rattle.frame_model.specs.Report.{held_at}
 use Rattle.low_frames.specs.Takes.{child_of_word, IsBlockIn, IsBlockOfTree}
 
 -- no frame of the block is held

@@ -2,10 +2,10 @@
 use Rattle.std.specs.Prelude.{◌≡◌, ℕ, pos, ◌^◌, ◌-ℤ◌, ◌<◌, [], None}
 use Rattle.frame_model.specs.declared.block.FrameBlock.{FrameBlock}
 use Rattle.frame_model.specs.declared.view.View.{View}
-use Rattle.frame_core.specs.Key.{tree_of, tree_of_child}
-use Rattle.frame_core.specs.View.{NoneBut}
+use Rattle.frame_model.specs.Key.{tree_of, tree_of_child}
+use Rattle.frame_model.specs.View.{NoneBut}
 use Rattle.frame_core.specs.Mover.{Mover, KeepsOthers}
-use Rattle.frame_core.specs.Steps.Amounts.{more}
+use Rattle.frame_model.specs.Steps.Amounts.{more}
 use Rattle.low_frames.specs.Takes.{Counts, StaysSure}
 use Rattle.low_frames.specs.Alone.{WordsGive}
 

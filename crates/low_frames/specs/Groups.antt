@@ -5,11 +5,11 @@ use Rattle.frame_words.specs.Runs.{word_bits, child_words}
 use Rattle.frame_model.specs.declared.block.FrameBlock.{FrameBlock}
 use Rattle.frame_model.specs.declared.key.Key.{Key}
 use Rattle.frame_model.specs.declared.view.View.{View}
-use Rattle.frame_core.specs.Key.{frame_count, tree_of_child}
-use Rattle.frame_core.specs.Words.{bits_place, bit_of, huge_of, bit_word_of}
-use Rattle.frame_core.specs.Report.{held_at}
-use Rattle.frame_core.specs.Steps.Amounts.{less}
-use Rattle.frame_core.specs.Block.{IsBlock, smalls, wholes}
+use Rattle.frame_model.specs.Key.{frame_count, tree_of_child}
+use Rattle.frame_model.specs.Words.{bits_place, bit_of, huge_of, bit_word_of}
+use Rattle.frame_model.specs.Report.{held_at}
+use Rattle.frame_model.specs.Steps.Amounts.{less}
+use Rattle.frame_model.specs.Block.{IsBlock, smalls, wholes}
 use Rattle.low_frames.specs.Alone.{Turns}
 
 -- the blocks hold each frame of so many bit words once, and no other frame

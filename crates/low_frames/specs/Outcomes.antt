@@ -4,10 +4,10 @@ use Rattle.frame_words.specs.Geometry.{huge_order}
 use Rattle.frame_model.specs.declared.block.FrameBlock.{FrameBlock}
 use Rattle.frame_model.specs.declared.key.Key.{Key}
 use Rattle.frame_model.specs.declared.view.View.{View}
-use Rattle.frame_core.specs.Key.{tree_count, tree_of_child, is_boot_frame}
-use Rattle.frame_core.specs.Block.{covers}
-use Rattle.frame_core.specs.View.{paid_on}
-use Rattle.frame_core.specs.Holding.{IsFreeBlock}
+use Rattle.frame_model.specs.Key.{tree_count, tree_of_child, is_boot_frame}
+use Rattle.frame_model.specs.Block.{covers}
+use Rattle.frame_model.specs.View.{paid_on}
+use Rattle.frame_model.specs.Holding.{IsFreeBlock}
 use Rattle.frame_core.specs.Mover.{Mover, LiesInside, Keeps}
 use Rattle.low_frames.specs.Takes.{Counts, IsAsBefore, StaysSure}
 use Rattle.low_frames.specs.Alone.{FindsOf, WordsTake, NoneIsFree}

@@ -3,10 +3,10 @@ use Rattle.std.specs.Prelude.{◌≡◌, ℕ, ◌+◌, ◌*◌, ◌^◌, ◌<◌
 use Rattle.frame_words.specs.Runs.{word_bits, word_order, pair_order, four_order, child_words}
 use Rattle.frame_model.specs.declared.block.FrameBlock.{FrameBlock}
 use Rattle.frame_model.specs.declared.view.View.{View}
-use Rattle.frame_core.specs.Key.{child_of, tree_of_child}
-use Rattle.frame_core.specs.Block.{IsBlock}
-use Rattle.frame_core.specs.View.{charged_in, paid_on, NoneBut}
-use Rattle.frame_core.specs.Words.{bits_place}
+use Rattle.frame_model.specs.Key.{child_of, tree_of_child}
+use Rattle.frame_model.specs.Block.{IsBlock}
+use Rattle.frame_model.specs.View.{charged_in, paid_on, NoneBut}
+use Rattle.frame_model.specs.Words.{bits_place}
 use Rattle.frame_core.specs.Moves.{ReadsBut}
 use Rattle.frame_core.specs.Mover.{Mover, Keeps, IsApart}
 use Rattle.low_frames.specs.Bounds.{attempt, won_attempt, most_words}

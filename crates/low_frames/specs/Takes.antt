@@ -5,10 +5,10 @@ use Rattle.frame_words.specs.Runs.{child_words, word_bits}
 use Rattle.frame_model.specs.declared.block.FrameBlock.{FrameBlock}
 use Rattle.frame_model.specs.declared.key.Key.{Key}
 use Rattle.frame_model.specs.declared.view.View.{View}
-use Rattle.frame_core.specs.Key.{child_of, tree_of, tree_of_child}
-use Rattle.frame_core.specs.Block.{block, IsBlock}
+use Rattle.frame_model.specs.Key.{child_of, tree_of, tree_of_child}
+use Rattle.frame_model.specs.Block.{block, IsBlock}
 use Rattle.frame_core.specs.Mover.{Mover}
-use Rattle.frame_core.specs.Steps.Amounts.{more, less}
+use Rattle.frame_model.specs.Steps.Amounts.{more, less}
 
 -- the view is as before, but for its counts of moves and of lost exchanges
 abbrev pub IsAsBefore : View → View → Type 0

@@ -4,7 +4,7 @@ use Rattle.std.specs.Prelude.{Bool, false, filter}
 use Rattle.std.proofs.lemmas.Bool.Decides.{nat_tests}
 use Rattle.std.proofs.lemmas.List.{get_or-take, get_or-drop, get_or_default, length-take, length-drop, take-append-drop, append-nil}
 use Rattle.std.proofs.lemmas.List.Elements.{filter-append}
-use Rattle.frame_core.specs.Block.{block}
+use Rattle.frame_model.specs.Block.{block}
 use Rattle.frame_model.specs.declared.block.FrameBlock.{FrameBlock}
 use Rattle.zone_slots.specs.Layouts.{Stretch, end_of}
 use Rattle.zone_slots.specs.ZoneClaims.{begins_in, block_within, blocks_within, first_of, BeginBelow}

@@ -3,7 +3,7 @@ use Rattle.std.proofs.Common.{◌≡◌, ℕ, zero, suc, ◌+◌, ◌<◌, ◌�
 use Rattle.std.specs.Prelude.{min, max}
 use Rattle.std.proofs.lemmas.Bool.{cases_lt}
 use Rattle.std.proofs.lemmas.List.{get_or_append_left, get_or_at, length-append}
-use Rattle.frame_core.specs.Key.{AreRanges}
+use Rattle.frame_model.specs.Key.{AreRanges}
 use Rattle.zone_slots.specs.Layouts.{Stretch, stretch_at, end_of, LiesIn, LiesInOne, EndAtOrBelow, MayBeLaidOut}
 use Rattle.zone_slots.specs.Cuts.{AreApart, AreIn, IsPieceOf, Meet}
 use Rattle.zone_slots.proofs.Laid.{in_none, laid_ascend}

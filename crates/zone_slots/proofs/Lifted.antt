@@ -12,7 +12,7 @@ use Rattle.core_frames.specs.Cores.{memory_of, lent_by}
 use Rattle.core_frames.specs.Uses.{HasTaken, HasSplit}
 use Rattle.frame_words.specs.declared.fault.TakeFault.{TakeFault}
 use Rattle.frame_words.specs.declared.fault.TakeFault.TheVariants.{BadOrder, NoBlock, Contended}
-use Rattle.frame_core.specs.Block.{block, IsBlock}
+use Rattle.frame_model.specs.Block.{block, IsBlock}
 use Rattle.frame_core.specs.Mover.{LiesInside}
 use Rattle.low_frames.specs.Outcomes.{HasNoBootFrame}
 use Rattle.frame_zones.proofs.Rounds.{some_zone, some_core}

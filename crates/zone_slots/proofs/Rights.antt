@@ -8,7 +8,7 @@ use Rattle.atomic_table.specs.Seated.{TableId}
 use Rattle.atomic_table.specs.Table.{Me}
 use Rattle.core_frames.specs.declared.shared.allocator.Allocator.{Allocator}
 use Rattle.core_frames.specs.Cores.{memory_of}
-use Rattle.frame_core.specs.Block.{block, IsBlock}
+use Rattle.frame_model.specs.Block.{block, IsBlock}
 use Rattle.frame_model.specs.declared.view.Eye.{Eye}
 use Rattle.frame_table.specs.declared.block.Block.{Block}
 use Rattle.frame_zones.proofs.Rounds.{some_zone}

@@ -4,9 +4,9 @@ use Rattle.atomic_table.specs.Seated.{TableId}
 use Rattle.atomic_table.specs.Table.{Me}
 use Rattle.core_frames.specs.Cores.{memory_of}
 use Rattle.core_frames.specs.declared.shared.allocator.Allocator.{Allocator}
-use Rattle.frame_core.specs.Block.{block, IsBlock}
-use Rattle.frame_core.specs.Events.{eye}
-use Rattle.frame_core.specs.View.{holder}
+use Rattle.frame_model.specs.Block.{block, IsBlock}
+use Rattle.frame_model.specs.Events.{eye}
+use Rattle.frame_model.specs.View.{holder}
 use Rattle.frame_model.specs.declared.view.Eye.{Eye}
 use Rattle.core_frames.specs.Splits.{AreHalves}
 use Rattle.frame_table.specs.Seats.{block_in, id_of}

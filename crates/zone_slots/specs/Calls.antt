@@ -2,7 +2,7 @@
 use Rattle.std.specs.Prelude.{◌≡◌, ◌⊎◌, ℕ, Option, Some, option_map}
 use Rattle.std.specs.Arc.{arc_value}
 use Rattle.frame_words.specs.declared.fault.TakeFault.{TakeFault}
-use Rattle.frame_core.specs.Block.{block}
+use Rattle.frame_model.specs.Block.{block}
 use Rattle.frame_model.specs.declared.block.FrameBlock.{FrameBlock}
 use Rattle.frame_zones.specs.FreeCounts.{frames_among}
 use Rattle.frame_zones.specs.Zones.{zone_count}

@@ -1,6 +1,6 @@
 -- Ranges that an opening holds back, cut at the zones.
 use Rattle.std.specs.Prelude.{◌≡◌, ◌↔◌, ℕ, ◌+◌, ◌<◌, ◌≤◌, List, length, min, max}
-use Rattle.frame_core.specs.Key.{most_ranges}
+use Rattle.frame_model.specs.Key.{most_ranges}
 use Rattle.zone_slots.specs.Layouts.{Stretch, stretch_at, end_of, LiesInOne, Ascend}
 
 -- none is empty, and each ends at or below each later one

@@ -2,7 +2,7 @@
 use Rattle.std.specs.Prelude.{◌≡◌, ◌⊎◌, ℕ, pos, ◌+◌, ◌-◌, ◌%◌, ◌^◌, ◌+ℤ◌, ◌-ℤ◌, ◌<◌, ◌≤◌}
 use Rattle.frame_words.specs.declared.fault.TakeFault.{TakeFault}
 use Rattle.frame_words.specs.declared.fault.TakeFault.TheVariants.{BadOrder, NoBlock, Contended}
-use Rattle.frame_core.specs.Block.{block, IsBlock}
+use Rattle.frame_model.specs.Block.{block, IsBlock}
 use Rattle.frame_core.specs.Mover.{LiesInside}
 use Rattle.low_frames.specs.Outcomes.{HasNoBootFrame}
 use Rattle.core_frames.specs.declared.shared.allocator.Allocator.{Allocator}

@@ -1,6 +1,6 @@
 -- Blocks that an opening is told to hold, each in its zone.
 use Rattle.std.specs.Prelude.{ℕ, ◌-◌, ◌<◌, ◌≤◌, Bool, ◌&&◌, nat_le, nat_lt, List, length, map, filter, slice_index_or}
-use Rattle.frame_core.specs.Block.{block}
+use Rattle.frame_model.specs.Block.{block}
 use Rattle.frame_model.specs.declared.block.FrameBlock.{FrameBlock}
 use Rattle.zone_slots.specs.Layouts.{Stretch, end_of, LiesInOne}
 

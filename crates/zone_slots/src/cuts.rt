@@ -1,7 +1,7 @@
 //! Ranges that an opening holds back, cut at the zones.
 
 ghost use Rattle.std.specs.Prelude.{◌≡◌, ◌+◌, ◌<◌, ◌≤◌, MatchBool, IfOk, IfErr, vec_len, length};
-ghost use Rattle.frame_core.specs.Key.{AreRanges};
+ghost use Rattle.frame_model.specs.Key.{AreRanges};
 ghost use Rattle.zone_slots.specs.Layouts.{end_of, MayBeZone, MayBeLaidOut};
 ghost use Rattle.zone_slots.specs.Cuts.{AreApart, AreIn, AreInside, IsPieceOf, MayBeHeldBack, Meet};
 

@@ -2,7 +2,7 @@
 
 ghost use Rattle.std.specs.Prelude.{◌≡◌, ◌≤◌, IfOk, IfErr, length};
 ghost use Rattle.frame_words.specs.Geometry.{most_cores};
-ghost use Rattle.frame_core.specs.Key.{most_ranges};
+ghost use Rattle.frame_model.specs.Key.{most_ranges};
 ghost use Rattle.zone_slots.specs.Layouts.{MayBeZone};
 ghost use Rattle.zone_slots.specs.Openings.{MayBeOpened};
 ghost use Rattle.zone_slots.specs.Cuts.{AreApart, MayBeHeldBack};

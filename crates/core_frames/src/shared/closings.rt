@@ -2,7 +2,7 @@
 
 ghost use Rattle.std.specs.Prelude.{◌≡◌, IfOk, IfErr, vec_len, map};
 ghost use Rattle.std.specs.List.{All};
-ghost use Rattle.frame_core.specs.Laws.{AddsUp};
+ghost use Rattle.frame_model.specs.Laws.{AddsUp};
 ghost use Rattle.frame_table.specs.Closing.{IsClosingOf, IsUnclosedFor};
 ghost use Rattle.core_frames.specs.Cores.{memory_of, seat_of, IsCoreOf};
 

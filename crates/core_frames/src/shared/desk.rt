@@ -2,7 +2,7 @@
 
 ghost use Rattle.std.specs.Prelude.{◌≡◌, ◌<◌, ◌≤◌, ◌+◌, [], pos, ◌+ℤ◌, ◌-ℤ◌, length};
 ghost use Rattle.std.specs.Prelude.{IfOk, IfErr, Contains};
-ghost use Rattle.frame_core.specs.Block.{block as block_at};
+ghost use Rattle.frame_model.specs.Block.{block as block_at};
 ghost use Rattle.frame_core.specs.Mover.{LiesInside};
 ghost use Rattle.frame_table.specs.Keeping.{HasRecalled};
 ghost use Rattle.frame_table.specs.Seats.{block_in};

@@ -2,9 +2,9 @@
 
 ghost use Rattle.std.specs.Prelude.{◌≡◌, [], ◌+◌, ◌<◌, ◌≤◌, ◌||◌, nat_lt, MatchBool, IfSome, IfNone, IfOk, IfErr};
 ghost use Rattle.frame_words.specs.Geometry.{huge_order};
-ghost use Rattle.frame_core.specs.Block.{block as block_at};
-ghost use Rattle.frame_core.specs.View.{holder};
-ghost use Rattle.frame_core.specs.Events.{eye};
+ghost use Rattle.frame_model.specs.Block.{block as block_at};
+ghost use Rattle.frame_model.specs.View.{holder};
+ghost use Rattle.frame_model.specs.Events.{eye};
 ghost use Rattle.core_frames.specs.Bounds.{most_moves, most_in_own_tree, most_elsewhere};
 ghost use Rattle.core_frames.specs.Cores.{memory_of, moves_by, lent_by, losses_by, IsCoreOf, StaysCoreOf};
 ghost use Rattle.core_frames.specs.Found.{FindsThrough, HasFound, HasLooked};

@@ -1,8 +1,8 @@
 //! Blocks that a core keeps: they stay held, without a value that stands for them.
 
 ghost use Rattle.std.specs.Prelude.{◌≡◌, ◌+◌, ◌≤◌, ℕ, Contains};
-ghost use Rattle.frame_core.specs.Block.{block as block_at, covers};
-ghost use Rattle.frame_core.specs.Holding.{IsHolding};
+ghost use Rattle.frame_model.specs.Block.{block as block_at, covers};
+ghost use Rattle.frame_model.specs.Holding.{IsHolding};
 ghost use Rattle.frame_table.specs.Keeping.{HasKept, HasRecalled};
 ghost use Rattle.frame_table.specs.Seats.{block_in};
 ghost use Rattle.core_frames.specs.Bounds.{to_tell_apart};

@@ -4,7 +4,7 @@
 ghost use Rattle.std.specs.Prelude.{◌≡◌, ◌≢◌, ◌⊎◌, ℕ, ◌+◌, ◌*◌, ◌^◌, ◌<◌, ◌≤◌, MatchBool, IfOk, IfErr, length};
 ghost use Rattle.frame_words.specs.Geometry.{child_frames, huge_order};
 ghost use Rattle.frame_words.specs.Runs.{word_bits};
-ghost use Rattle.frame_core.specs.Block.{block};
+ghost use Rattle.frame_model.specs.Block.{block};
 ghost use Rattle.frame_core.specs.Image.{key_in};
 ghost use Rattle.core_frames.specs.LeftFrames.{bit_in, AreBitWordsOf, AreFlagsOf, IsShown, HasCleared};
 

@@ -1,7 +1,7 @@
 //! Opening an allocator.
 
 ghost use Rattle.std.specs.Prelude.{◌≡◌, ◌≤◌, IfOk, IfErr, vec_len, map};
-ghost use Rattle.frame_core.specs.Key.{key_of, sealed_key};
+ghost use Rattle.frame_model.specs.Key.{key_of, sealed_key};
 ghost use Rattle.core_frames.specs.Cores.{seat_of, AreNumbered, IsOpened};
 ghost use Rattle.core_frames.specs.Ranges.{IsUnopenedFor, MayHoldBack};
 

@@ -1,8 +1,8 @@
 //! Opening an allocator at an image of a memory that was in use before.
 
 ghost use Rattle.std.specs.Prelude.{◌≡◌, IfOk, IfErr};
-ghost use Rattle.frame_core.specs.Rebuilt.{IsRebuilt};
-ghost use Rattle.frame_core.specs.Openings.{held_blocks};
+ghost use Rattle.frame_model.specs.Rebuilt.{IsRebuilt};
+ghost use Rattle.frame_model.specs.Openings.{held_blocks};
 ghost use Rattle.frame_table.specs.Openings.{unsealed_key};
 ghost use Rattle.core_frames.specs.Cores.{IsOpened};
 ghost use Rattle.core_frames.specs.Left.{left_blocks, IsSurvivorsOf};

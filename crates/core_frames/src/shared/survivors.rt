@@ -1,6 +1,6 @@
 //! What was held before an opening, and may be handed out once.
 
-ghost use Rattle.frame_core.specs.Block.{block};
+ghost use Rattle.frame_model.specs.Block.{block};
 ghost use Rattle.core_frames.specs.Left.{left_blocks, IsSurvivorsOf, Adopts};
 
 use crate::shared::allocator::Allocator;

@@ -2,8 +2,8 @@
 //! block is found, and the words before each move and afterwards.
 
 ghost use Rattle.std.specs.Prelude.{◌≡◌, ◌<◌, ◌≤◌, ◌^◌, [], None, true, IfOk};
-ghost use Rattle.frame_core.specs.Key.{tree_count};
-ghost use Rattle.frame_core.specs.View.{IsIdle, paid_on};
+ghost use Rattle.frame_model.specs.Key.{tree_count};
+ghost use Rattle.frame_model.specs.View.{IsIdle, paid_on};
 ghost use Rattle.plain_moves.specs.PlainState.{IsByItself};
 ghost use Rattle.low_frames.specs.Outcomes.{MayTakeOf};
 

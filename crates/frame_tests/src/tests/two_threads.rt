@@ -1,7 +1,7 @@
 //! Two threads on one table.
 
 ghost use Rattle.std.specs.Prelude.{◌<◌, ◌≤◌, IfSome};
-ghost use Rattle.frame_core.specs.Key.{tree_count};
+ghost use Rattle.frame_model.specs.Key.{tree_count};
 ghost use Rattle.frame_table.specs.Seats.{key_at, IsIdleSeat, IsOut};
 
 use super::seats::{closed, next_seat};

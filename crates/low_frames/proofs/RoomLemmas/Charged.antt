@@ -9,11 +9,10 @@ use Rattle.frame_words.specs.Runs.{IsClearRun}
 use Rattle.frame_words.proofs.WordLemmas.{free_in-lt, free_in-entry_word, flag_in-entry_word, entry_word-lt}
 use Rattle.frame_words.proofs.LaneLemmas.{lane_in-lane_put, lane_put-add, lane_put-twice, lane_put-same}
 use Rattle.frame_model.specs.declared.key.Key.{Key}
-use Rattle.frame_core.specs.Words.{run, entry_place, bits_place, word_count, free_of, huge_of, bit_word_of, with_entry, AreInRange}
-use Rattle.frame_core.specs.Steps.{refund}
+use Rattle.frame_model.specs.Words.{run, entry_place, bits_place, word_count, free_of, huge_of, bit_word_of, with_entry, AreInRange}
+use Rattle.frame_model.specs.Steps.{refund, words_after}
 use Rattle.frame_model.proofs.Words.{child-has-lane, entry-lt-bits, EntryWritten, entry_written}
 use Rattle.frame_model.proofs.Steps.Shared.{bit_word_is, free_is, flag_is, free_of_is, huge_of_is, entry_of_is, as_entry}
-use Rattle.frame_model.specs.Steps.{words_after}
 use Rattle.low_frames.specs.Alone.{IsCharged, HasNoRunIn}
 
 module _ (key : Key) (ws us : List ℕ) (child n : ℕ) (r : AreInRange key ws) (inside : child < key.children)

@@ -7,10 +7,10 @@ use Rattle.std.proofs.lemmas.Nat.Bits.{bit_at_and, bit_at_or, bit_at-lt, bit_at-
 use Rattle.frame_words.proofs.RunLemmas.{run_apart}
 use Rattle.frame_model.specs.declared.block.FrameBlock.{FrameBlock}
 use Rattle.frame_model.specs.declared.key.Key.{Key}
-use Rattle.frame_core.specs.Key.{child_of}
-use Rattle.frame_core.specs.Block.{block, IsBlock, covers, small_at}
-use Rattle.frame_core.specs.Words.{run, huge_of, bit_word_of, bit_of, AreInRange}
-use Rattle.frame_core.specs.Report.{held_at}
+use Rattle.frame_model.specs.Key.{child_of}
+use Rattle.frame_model.specs.Block.{block, IsBlock, covers, small_at}
+use Rattle.frame_model.specs.Words.{run, huge_of, bit_word_of, bit_of, AreInRange}
+use Rattle.frame_model.specs.Report.{held_at}
 use Rattle.frame_model.proofs.Blocks.{run_here, run_else, not_whole, within_child}
 use Rattle.frame_model.proofs.Words.{BitsWritten, bits_written}
 use Rattle.frame_model.proofs.Steps.Shared.{bit-le, bit_is, as_bits}

@@ -10,9 +10,9 @@ use Rattle.std.proofs.lemmas.List.Sums.{sum_by-cons}
 use Rattle.std.proofs.lemmas.List.Elements.{All-head, All-tail}
 use Rattle.frame_model.specs.declared.key.Key.{Key}
 use Rattle.frame_model.specs.declared.view.View.{View}
-use Rattle.frame_core.specs.Words.{free_of, held_of, rest_of, IsRest, AreInRange}
-use Rattle.frame_core.specs.View.{charged_in, count_in, fixed_ground, ground_with, boot_blocks, spent, IsViewOf}
-use Rattle.frame_core.specs.Fit.{total, Fit}
+use Rattle.frame_model.specs.Words.{free_of, held_of, rest_of, IsRest, AreInRange}
+use Rattle.frame_model.specs.View.{charged_in, count_in, fixed_ground, ground_with, boot_blocks, spent, IsViewOf}
+use Rattle.frame_model.specs.Fit.{total, Fit}
 use Rattle.frame_core.specs.Moves.{IsAtRest}
 use Rattle.frame_model.proofs.Amounts.{count_none}
 

@@ -10,11 +10,11 @@ use Rattle.frame_words.proofs.BitLemmas.{aligned_inside}
 use Rattle.frame_model.specs.declared.block.FrameBlock.{FrameBlock}
 use Rattle.frame_model.specs.declared.key.Key.{Key}
 use Rattle.frame_model.specs.declared.view.View.{View}
-use Rattle.frame_core.specs.Key.{frame_count, child_of}
-use Rattle.frame_core.specs.Block.{covers}
-use Rattle.frame_core.specs.Words.{entry_of, free_of, huge_of, bit_word_of, bit_of, held_of, AreInRange}
-use Rattle.frame_core.specs.View.{charged_in, count_in}
-use Rattle.frame_core.specs.Report.{held_at, held_within}
+use Rattle.frame_model.specs.Key.{frame_count, child_of}
+use Rattle.frame_model.specs.Block.{covers}
+use Rattle.frame_model.specs.Words.{entry_of, free_of, huge_of, bit_word_of, bit_of, held_of, AreInRange}
+use Rattle.frame_model.specs.View.{charged_in, count_in}
+use Rattle.frame_model.specs.Report.{held_at, held_within}
 use Rattle.frame_model.proofs.Amounts.{count_none}
 use Rattle.frame_model.proofs.Blocks.{within_child}
 use Rattle.frame_model.proofs.Words.{held_is}

@@ -6,10 +6,10 @@ use Rattle.frame_words.specs.Words.{entry_word, lane_put}
 use Rattle.frame_words.proofs.WordLemmas.{flag_in-entry_word, entry_word-lt}
 use Rattle.frame_model.specs.declared.block.FrameBlock.{FrameBlock}
 use Rattle.frame_model.specs.declared.key.Key.{Key}
-use Rattle.frame_core.specs.Key.{child_of}
-use Rattle.frame_core.specs.Block.{block, covers, small_at, whole_at}
-use Rattle.frame_core.specs.Words.{entry_place, entry_of, free_of, huge_of, set_of, held_of, AreInRange}
-use Rattle.frame_core.specs.Report.{held_at}
+use Rattle.frame_model.specs.Key.{child_of}
+use Rattle.frame_model.specs.Block.{block, covers, small_at, whole_at}
+use Rattle.frame_model.specs.Words.{entry_place, entry_of, free_of, huge_of, set_of, held_of, AreInRange}
+use Rattle.frame_model.specs.Report.{held_at}
 use Rattle.frame_model.proofs.Blocks.{not_small, whole_here, whole_else}
 use Rattle.frame_model.proofs.Words.{held_is, EntryWritten, entry_written}
 use Rattle.frame_model.proofs.Sets.{bit-le-set}

@@ -1,6 +1,6 @@
 use Rattle.std.proofs.Common.{◌≡◌, ◌+◌, ◌*◌, ◌<◌, ap, arith}
 use Rattle.frame_model.specs.declared.key.Key.{Key}
-use Rattle.frame_core.specs.Words.{entry_word_count}
+use Rattle.frame_model.specs.Words.{entry_word_count}
 use Rattle.core_frames.proofs.EntriesRead.{entries_in, looks_more, looks_all, loads_idle}
 use Rattle.core_frames.proofs.free_counts.free_counts_by.Goals as goal
 

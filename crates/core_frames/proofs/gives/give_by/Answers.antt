@@ -1,7 +1,7 @@
 use Rattle.std.proofs.Common.{◌+◌, ◌≡◌, ◌<◌, ◌∙◌, ap, sym, subst, arith}
 use Rattle.frame_model.specs.declared.key.Key.{Key}
 use Rattle.frame_model.specs.declared.view.View.{View}
-use Rattle.frame_core.specs.Key.{tree_of, tree_count}
+use Rattle.frame_model.specs.Key.{tree_of, tree_count}
 use Rattle.low_frames.specs.Bounds.{attempt, most_to_give_back}
 use Rattle.core_frames.specs.Bounds.{most_to_refund, most_to_reserve, most_in_give}
 use Rattle.core_frames.specs.Search.{HasRefunded, HasTakenOne}

@@ -1,7 +1,7 @@
 use Rattle.std.proofs.Common.{◌+◌, ◌/◌, ◌∷◌, ap, sym, subst, ◌∙◌, arith}
 use Rattle.frame_model.specs.declared.block.FrameBlock.{FrameBlock}
 use Rattle.frame_model.specs.declared.view.View.{View}
-use Rattle.frame_core.specs.Block.{block}
+use Rattle.frame_model.specs.Block.{block}
 use Rattle.low_frames.proofs.TakeLemmas.{lies_anywhere, counts_none, in_then, out_then}
 use Rattle.core_frames.specs.Bounds.{most_in_join}
 use Rattle.core_frames.specs.Joins.{AreBuddies}

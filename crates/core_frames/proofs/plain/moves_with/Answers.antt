@@ -1,7 +1,7 @@
 use Rattle.std.proofs.Common.{false, sym, subst}
 use Rattle.frame_words.specs.declared.geometry.Geometry.{Geometry}
-use Rattle.frame_core.specs.Key.{sealed_key}
-use Rattle.frame_core.specs.Rebuilt.{IsRebuilt}
+use Rattle.frame_model.specs.Key.{sealed_key}
+use Rattle.frame_model.specs.Rebuilt.{IsRebuilt}
 use Rattle.plain_moves.specs.Plain.{plain_key}
 use Rattle.core_frames.proofs.PlainKeys.{rebuilt_under}
 use Rattle.core_frames.proofs.plain.moves_with.Goals as goal

@@ -1,5 +1,5 @@
 use Rattle.std.proofs.Common.{◌≡◌, ℕ, ◌+◌, ◌*◌, ◌<◌, ◌≤◌}
-use Rattle.frame_core.specs.View.{names}
+use Rattle.frame_model.specs.View.{names}
 use Rattle.core_frames.specs.Searches.{Brings}
 use Rattle.core_frames.specs.Splits.{Bears}
 use Rattle.core_frames.proofs.SplitAlone.{KeepsFlags}

@@ -1,6 +1,6 @@
 use Rattle.std.proofs.Common.{◌≡◌, ◌+◌, ◌-◌, ◌*◌, ◌/◌, [], ◌∷◌, ap, sym, subst, ◌∙◌, arith}
 use Rattle.std.specs.Prelude.{pos, ◌-ℤ◌}
-use Rattle.frame_core.specs.Block.{block}
+use Rattle.frame_model.specs.Block.{block}
 use Rattle.frame_model.specs.declared.view.View.{View}
 use Rattle.low_frames.proofs.TakeLemmas.{lies_anywhere, in_then, counts_none, others_both}
 use Rattle.core_frames.specs.Bounds.{most_to_break_up, most_to_bring_in}

@@ -1,9 +1,9 @@
 use Rattle.std.proofs.Common.{◌+◌, ◌^◌, ap, refl, sym, subst, ◌∙◌, arith}
 use Rattle.frame_model.specs.declared.key.Key.{Key}
 use Rattle.frame_model.specs.declared.view.View.{View}
-use Rattle.frame_core.specs.Block.{block}
-use Rattle.frame_core.specs.Seats.{CanHandOut}
-use Rattle.frame_core.specs.Without.{without}
+use Rattle.frame_model.specs.Block.{block}
+use Rattle.frame_model.specs.Seats.{CanHandOut}
+use Rattle.frame_model.specs.Without.{without}
 use Rattle.low_frames.proofs.Sure.{sure_both, sure_out}
 use Rattle.low_frames.proofs.TakeLemmas.{keeps_both, counts_none, out_then}
 use Rattle.core_frames.proofs.SplitAlone.{still_same}

@@ -1,5 +1,5 @@
 use Rattle.std.proofs.Common.{◌≡◌, ◌+◌, ◌-◌, ◌^◌, ap, ◌∙◌, arith}
-use Rattle.frame_core.specs.Block.{block}
+use Rattle.frame_model.specs.Block.{block}
 use Rattle.low_frames.proofs.TakeLemmas.{then_counts, others_both}
 use Rattle.core_frames.specs.Bounds.{most_to_bring_in, most_in_split}
 use Rattle.core_frames.specs.Search.{HasLentOne}

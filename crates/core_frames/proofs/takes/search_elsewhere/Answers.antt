@@ -1,5 +1,5 @@
 use Rattle.std.proofs.Common.{◌≡◌, ℕ, List, ◌+◌, ◌*◌, refl, ap, subst, arith}
-use Rattle.frame_core.specs.Key.{tree_count}
+use Rattle.frame_model.specs.Key.{tree_count}
 use Rattle.low_frames.specs.Alone.{Turns, FindsOf}
 use Rattle.low_frames.proofs.RoomLemmas.{FitsAlone}
 use Rattle.core_frames.specs.Bounds.{most_to_drain, most_in_pass, most_elsewhere}

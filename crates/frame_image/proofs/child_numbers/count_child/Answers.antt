@@ -2,7 +2,7 @@ use Rattle.std.proofs.Common.{◌∙◌, ◌+◌, ◌*◌, ◌/◌, ℕ, refl, a
 use Rattle.std.proofs.lemmas.List.{length-set}
 use Rattle.frame_model.specs.declared.key.Key.{Key}
 use Rattle.frame_core.specs.Image.{key_in}
-use Rattle.frame_core.specs.Report.{clear_within}
+use Rattle.frame_model.specs.Report.{clear_within}
 use Rattle.frame_image.proofs.CountLemmas.{told_sum, told_halves, halved, counted_more, numbers_are, free_few}
 use Rattle.frame_image.proofs.child_numbers.count_child.Goals as goal
 

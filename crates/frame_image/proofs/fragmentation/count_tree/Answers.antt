@@ -1,6 +1,6 @@
 use Rattle.std.proofs.Common.{◌≡◌, ◌≤◌, ◌+◌, ◌-◌, ◌*◌, ℕ, refl, ap, arith}
 use Rattle.frame_words.specs.declared.geometry.Geometry.{Geometry}
-use Rattle.frame_core.specs.Key.{size_of}
+use Rattle.frame_model.specs.Key.{size_of}
 use Rattle.frame_core.specs.Image.{key_in}
 use Rattle.frame_image.proofs.CountLemmas.{zero_numbers, numbers_more, numbers_fit, tree_all}
 use Rattle.frame_image.proofs.fragmentation.count_tree.Goals as goal

@@ -3,7 +3,7 @@ use Rattle.std.specs.List.{range_with_len}
 use Rattle.std.proofs.lemmas.List.FromFn.{map-range_with_len_more}
 use Rattle.frame_words.specs.declared.geometry.Geometry.{Geometry}
 use Rattle.frame_model.specs.declared.key.Key.{Key}
-use Rattle.frame_core.specs.Key.{key_of, size_of, tree_count}
+use Rattle.frame_model.specs.Key.{key_of, size_of, tree_count}
 use Rattle.frame_core.specs.Image.{key_in}
 use Rattle.frame_image.specs.Tally.{tree_numbers}
 use Rattle.frame_image.proofs.CountLemmas.{zero_numbers, numbers_more, numbers_fit, tree_is, tally_is}

@@ -2,7 +2,7 @@ use Rattle.std.proofs.Common.{◌≡◌, ◌∙◌, ◌+◌, ℕ, ap, sym, arith
 use Rattle.std.specs.List.{sum_by, range_with_len}
 use Rattle.frame_words.specs.declared.geometry.Geometry.{Geometry}
 use Rattle.frame_core.specs.Image.{key_in}
-use Rattle.frame_core.specs.Words.{held_of}
+use Rattle.frame_model.specs.Words.{held_of}
 use Rattle.frame_model.proofs.ReportLemmas.{range_split, held_frames-all}
 use Rattle.frame_image.proofs.held_count.held_frames.Goals as goal
 

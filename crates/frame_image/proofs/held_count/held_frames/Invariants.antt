@@ -1,7 +1,7 @@
 use Rattle.std.proofs.Common.{◌≡◌, ◌*◌, ◌≤◌}
 use Rattle.std.specs.List.{sum_by, range_with_len}
 use Rattle.frame_core.specs.Image.{key_in}
-use Rattle.frame_core.specs.Words.{held_of}
+use Rattle.frame_model.specs.Words.{held_of}
 use Rattle.frame_image.proofs.held_count.held_frames.Given as goal
 
 abbrev pub invariant-loop-child : goal.invariant-loop-child

@@ -1,6 +1,6 @@
 use Rattle.std.proofs.Common.{◌≡◌, ◌∙◌, ap, subst, true, ℕ}
 use Rattle.frame_words.specs.declared.geometry.Geometry.{Geometry}
-use Rattle.frame_core.specs.Key.{key_of}
+use Rattle.frame_model.specs.Key.{key_of}
 use Rattle.frame_core.specs.Image.{key_in}
 use Rattle.frame_image.specs.ImageText.{frames_in, keeps_end}
 use Rattle.frame_image.proofs.PastEnd.{kept_whole, kept_past}

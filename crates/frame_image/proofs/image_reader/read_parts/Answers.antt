@@ -1,6 +1,6 @@
 use Rattle.std.proofs.Common.{◌≡◌, ◌≢◌, ◌∙◌, ℕ, ap, arith}
 use Rattle.frame_words.specs.declared.geometry.Geometry.{Geometry}
-use Rattle.frame_core.specs.Key.{key_of}
+use Rattle.frame_model.specs.Key.{key_of}
 use Rattle.frame_core.specs.Image.{key_in}
 use Rattle.frame_image.specs.ImageText.{part_count}
 use Rattle.frame_image.proofs.PartLemmas.{parts_more, parts_refused, parts_all, parts_missing}

@@ -1,8 +1,8 @@
 use Rattle.std.proofs.Common.{◌∙◌, ap, sym, subst}
 use Rattle.frame_words.specs.declared.geometry.Geometry.{Geometry}
-use Rattle.frame_core.specs.Key.{key_of}
+use Rattle.frame_model.specs.Key.{key_of}
 use Rattle.frame_core.specs.Image.{key_in, blank_words}
-use Rattle.frame_core.specs.Rebuilt.{IsRebuilt}
+use Rattle.frame_model.specs.Rebuilt.{IsRebuilt}
 use Rattle.frame_image.proofs.RebuildLemmas.{none_rebuilt, all_rebuilt, rebuilds_just}
 use Rattle.frame_image.proofs.Resealed.{exact_resealed, rebuilds_any}
 use Rattle.frame_image.proofs.recovery.rebuild.Goals as goal

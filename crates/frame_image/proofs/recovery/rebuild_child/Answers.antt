@@ -2,8 +2,8 @@ use Rattle.std.proofs.Common.{◌≡◌, ◌∙◌, ◌+◌, ◌-◌, ◌*◌, L
 use Rattle.std.specs.Prelude.{slice_index}
 use Rattle.frame_words.specs.declared.geometry.Geometry.{Geometry}
 use Rattle.frame_words.specs.Words.{flag}
-use Rattle.frame_core.specs.Key.{key_of}
-use Rattle.frame_core.specs.Words.{huge_of}
+use Rattle.frame_model.specs.Key.{key_of}
+use Rattle.frame_model.specs.Words.{huge_of}
 use Rattle.frame_core.specs.Image.{key_in, SetsPastEnd}
 use Rattle.frame_image.specs.ImageText.{child_bits}
 use Rattle.frame_image.proofs.PastEnd.{child_past, huge_whole, whole_past}

@@ -3,8 +3,8 @@ use Rattle.std.specs.List.{sum_by}
 use Rattle.frame_words.specs.declared.geometry.Geometry.{Geometry}
 use Rattle.frame_words.specs.Words.{entry_word}
 use Rattle.frame_model.specs.declared.key.Key.{Key}
-use Rattle.frame_core.specs.Key.{key_of, tree_count, children_of, size_of}
-use Rattle.frame_core.specs.Words.{free_of}
+use Rattle.frame_model.specs.Key.{key_of, tree_count, children_of, size_of}
+use Rattle.frame_model.specs.Words.{free_of}
 use Rattle.frame_core.specs.Image.{Contents, key_in}
 use Rattle.frame_image.specs.Rebuilding.{IsRebuiltBelow}
 use Rattle.frame_image.proofs.RebuildLemmas.{tree_more, tree_as}

@@ -1,7 +1,7 @@
 use Rattle.std.proofs.Common.{rules, arith}
 use Rattle.std.specs.Prelude.{IsTrue, false}
 use Rattle.std.proofs.lemmas.List.Sorted.{all_adjacent_more}
-use Rattle.frame_core.specs.Block.{block}
+use Rattle.frame_model.specs.Block.{block}
 use Rattle.frame_slots.proofs.Overlaps.{BeginsOutside, apart_in_order, not_apart, outside_at}
 use Rattle.frame_slots.proofs.claims.are_apart.Goals as goal
 

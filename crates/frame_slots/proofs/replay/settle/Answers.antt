@@ -1,6 +1,6 @@
 use Rattle.std.proofs.Common.{◌≡◌, ℕ, subst, ap, ◌∙◌}
 use Rattle.frame_model.specs.declared.block.FrameBlock.{FrameBlock}
-use Rattle.frame_core.specs.Block.{block}
+use Rattle.frame_model.specs.Block.{block}
 use Rattle.frame_table.specs.Seats.{block_in}
 use Rattle.core_frames.specs.Cores.{memory_of}
 use Rattle.frame_slots.specs.Numbers.{IsFreeIn, AreAllHeld}

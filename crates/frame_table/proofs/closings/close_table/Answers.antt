@@ -3,7 +3,7 @@ use Rattle.std.specs.Slots.{slots_items}
 use Rattle.std.proofs.lemmas.List.{length-map}
 use Rattle.std.proofs.lemmas.List.Elements.{All-map}
 use Rattle.frame_core.specs.Image.{Contents}
-use Rattle.frame_core.specs.Laws.{AddsUp, HoldsJust}
+use Rattle.frame_model.specs.Laws.{AddsUp, HoldsJust}
 use Rattle.frame_core.specs.Moves.{HasSizes}
 use Rattle.frame_table.specs.Seats.{key_at, IsIdleSeat}
 use Rattle.frame_table.specs.Closing.{IsClosed}

@@ -3,8 +3,8 @@ use Rattle.std.proofs.lemmas.List.{nil_from_length}
 use Rattle.atomic_table.specs.Table.{Me}
 use Rattle.frame_model.specs.declared.view.Eye.{Eye}
 use Rattle.frame_model.specs.declared.view.View.{View}
-use Rattle.frame_core.specs.Steps.{next}
-use Rattle.frame_core.specs.Seats.{join_idle, joined_by}
+use Rattle.frame_model.specs.Steps.{next}
+use Rattle.frame_model.specs.Seats.{join_idle, joined_by}
 use Rattle.frame_model.proofs.Steps.SeatViews.{blocks_are}
 use Rattle.frame_table.specs.declared.seats.CoreSeat.{CoreSeat}
 use Rattle.frame_table.specs.Seats.{key_at, id_of, view_of, IsSeat, IsIdleSeat}

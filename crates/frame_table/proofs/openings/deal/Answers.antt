@@ -2,7 +2,7 @@ use Rattle.std.proofs.Common.{◌≡◌, ℕ, ◌+◌, ◌-◌, ap, ◌∙◌, s
 use Rattle.std.specs.List.{All}
 use Rattle.std.proofs.lemmas.List.Elements.{All-push}
 use Rattle.frame_model.specs.declared.view.View.{View}
-use Rattle.frame_core.specs.View.{idle}
+use Rattle.frame_model.specs.View.{idle}
 use Rattle.frame_table.specs.declared.seats.CoreSeat.{CoreSeat}
 use Rattle.frame_table.specs.Seats.{key_at}
 use Rattle.frame_table.specs.Openings.{moved, IsNew}

@@ -1,6 +1,6 @@
 use Rattle.std.proofs.Common.{◌≡◌, ◌+◌, ◌-◌, ◌≤◌, vec_len, vec_capacity}
 use Rattle.std.specs.List.{All}
-use Rattle.frame_core.specs.View.{idle}
+use Rattle.frame_model.specs.View.{idle}
 use Rattle.frame_table.specs.Seats.{key_at, id_of, IsSeat}
 use Rattle.frame_table.specs.Openings.{moved, IsNew}
 use Rattle.frame_table.proofs.openings.deal.Given as goal

@@ -1,6 +1,6 @@
 use Rattle.std.proofs.Common.{ap, ◌∙◌, sym, refl, subst, arith, true, List, ℕ}
-use Rattle.frame_core.specs.Openings.{IsSealedOpening}
-use Rattle.frame_core.specs.Key.{sealed_key}
+use Rattle.frame_model.specs.Openings.{IsSealedOpening}
+use Rattle.frame_model.specs.Key.{sealed_key}
 use Rattle.frame_table.proofs.Dealing.{opens_sealed}
 use Rattle.frame_table.proofs.openings.open_sealed.Goals as goal
 

@@ -1,4 +1,4 @@
-use Rattle.frame_core.specs.Key.{AreRanges}
+use Rattle.frame_model.specs.Key.{AreRanges}
 use Rattle.frame_table.proofs.openings.open_table.Goals as goal
 
 pub open_table_with-requires-clause-ranges : goal.open_table_with-requires-clause-ranges

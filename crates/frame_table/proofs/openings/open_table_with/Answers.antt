@@ -1,7 +1,7 @@
 use Rattle.std.proofs.Common.{sym, subst}
 use Rattle.frame_words.specs.declared.geometry.Geometry.{Geometry}
-use Rattle.frame_core.specs.Key.{sealed_key, AreRanges}
-use Rattle.frame_core.specs.Openings.{IsSealedOpening}
+use Rattle.frame_model.specs.Key.{sealed_key, AreRanges}
+use Rattle.frame_model.specs.Openings.{IsSealedOpening}
 use Rattle.frame_table.proofs.openings.open_table_with.Goals as goal
 
 pub open_sealed-requires-clause-ranges : goal.open_sealed-requires-clause-ranges

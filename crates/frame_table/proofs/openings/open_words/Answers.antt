@@ -1,6 +1,6 @@
 use Rattle.std.proofs.Common.{[], ◌∷◌, ap, refl, ◌∙◌, sym, subst, Some}
 use Rattle.frame_model.specs.declared.key.Key.{Key}
-use Rattle.frame_core.specs.View.{IsViewOf}
+use Rattle.frame_model.specs.View.{IsViewOf}
 use Rattle.frame_model.proofs.Steps.Shared.{view_of}
 use Rattle.frame_table.specs.Rule.{key_from, first_view}
 use Rattle.frame_table.specs.Seats.{key_at, id_of}

@@ -3,7 +3,7 @@ use Rattle.atomic_table.specs.Table.{Me}
 use Rattle.frame_model.specs.declared.key.Key.{Key}
 use Rattle.frame_model.specs.declared.view.Eye.{Eye}
 use Rattle.frame_model.specs.declared.view.View.{View}
-use Rattle.frame_core.specs.View.{spent}
+use Rattle.frame_model.specs.View.{spent}
 use Rattle.frame_table.proofs.openings.part_share_off.Goals as goal
 
 pub returns-clause-new : goal.returns-clause-new

@@ -1,6 +1,6 @@
 use Rattle.std.proofs.Common.{ℕ, ◌+◌, ◌%◌, ◌^◌, None, arith, sym, subst}
 use Rattle.atomic_table.specs.Table.{Allows, step}
-use Rattle.frame_core.specs.Steps.{effect, next}
+use Rattle.frame_model.specs.Steps.{effect, next}
 use Rattle.frame_table.specs.Rule.{Holds, IsChangedAs, IsFoundIn}
 use Rattle.frame_table.specs.Seats.{key_at, id_of, view_of}
 use Rattle.frame_model.proofs.Steps.Untouched.{untouched}

@@ -1,8 +1,8 @@
 use Rattle.std.proofs.Common.{◌≡◌, ℕ, Bool, true, false, eqb, Some, None, arith, ◌∙◌, ap, sym, subst, refl, eq-eqb}
 use Rattle.std.specs.Prelude.{MatchBool}
 use Rattle.atomic_table.specs.Table.{Allows, step}
-use Rattle.frame_core.specs.Steps.{effect, after_loss, next}
-use Rattle.frame_core.specs.Events.{last_seen}
+use Rattle.frame_model.specs.Steps.{effect, after_loss, next}
+use Rattle.frame_model.specs.Events.{last_seen}
 use Rattle.frame_table.specs.Rule.{Holds, IsExchangedAs}
 use Rattle.frame_table.specs.Seats.{key_at, id_of, view_of}
 use Rattle.frame_table.specs.SeatSteps.{ExchangesOn}

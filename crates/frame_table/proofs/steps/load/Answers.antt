@@ -1,5 +1,5 @@
 use Rattle.std.proofs.Common.{ℕ, ◌<◌, Some, arith, ◌∙◌}
-use Rattle.frame_core.specs.Steps.{after_load, next}
+use Rattle.frame_model.specs.Steps.{after_load, next}
 use Rattle.frame_table.specs.Seats.{key_at, id_of, view_of}
 use Rattle.frame_table.proofs.Lifting.{look_allows}
 use Rattle.frame_table.proofs.Becoming.{Stepped, looked}

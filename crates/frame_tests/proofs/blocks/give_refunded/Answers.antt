@@ -1,7 +1,7 @@
 use Rattle.std.proofs.Common.{◌≡◌, ◌^◌, ap, sym, ◌∙◌, arith, rules}
-use Rattle.frame_core.specs.Block.{IsBlock}
-use Rattle.frame_core.specs.Key.{tree_of}
-use Rattle.frame_core.specs.View.{counted}
+use Rattle.frame_model.specs.Block.{IsBlock}
+use Rattle.frame_model.specs.Key.{tree_of}
+use Rattle.frame_model.specs.View.{counted}
 use Rattle.frame_tests.proofs.PayLemmas.{none_but_none, paid_back, has_one_back, tree_is_there}
 use Rattle.frame_tests.proofs.blocks.give_refunded.Goals as goal
 

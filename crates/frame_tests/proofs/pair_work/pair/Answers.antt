@@ -1,5 +1,5 @@
 use Rattle.std.proofs.Common.{◌^◌, ◌∙◌, arith, rules}
-use Rattle.frame_core.specs.Key.{tree_of}
+use Rattle.frame_model.specs.Key.{tree_of}
 use Rattle.frame_tests.proofs.PayLemmas.{paid_there, none_but_none, taken_none_paid, pair_as_before}
 use Rattle.frame_tests.proofs.pair_work.pair.Goals as goal
 

@@ -2,7 +2,7 @@ use Rattle.std.proofs.Common.{◌≡◌, ◌*◌, take, drop, arith, ap, ◌∙�
 use Rattle.std.specs.List.{sum_by}
 use Rattle.std.specs.Int.Count.{ones}
 use Rattle.frame_model.specs.declared.key.Key.{Key}
-use Rattle.frame_core.specs.Key.{key_of}
+use Rattle.frame_model.specs.Key.{key_of}
 use Rattle.frame_model.specs.Words.{bits_place, set_of}
 use Rattle.frame_model.proofs.Bits.{ones-le}
 use Rattle.frame_model.proofs.Sets.{set_more}

@@ -1,7 +1,7 @@
 use Rattle.std.proofs.Common.{◌≡◌, ◌*◌, ◌≤◌, take, drop}
 use Rattle.std.specs.List.{sum_by}
 use Rattle.std.specs.Int.Count.{ones}
-use Rattle.frame_core.specs.Key.{key_of}
+use Rattle.frame_model.specs.Key.{key_of}
 use Rattle.frame_model.specs.Words.{bits_place}
 use Rattle.llfree_c.proofs.rebuilt_image.set_frames.Given as goal
 

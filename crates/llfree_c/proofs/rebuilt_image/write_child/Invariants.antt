@@ -1,8 +1,8 @@
 use Rattle.std.specs.Prelude.{◌≡◌, ℕ, ◌+◌, ◌*◌, ◌<◌, slice_index}
 use Rattle.frame_words.specs.Words.{entry_word}
-use Rattle.frame_core.specs.Key.{key_of}
-use Rattle.frame_core.specs.Rebuilt.{rebuilt_free, rebuilt_bits}
-use Rattle.frame_core.specs.Words.{huge_of}
+use Rattle.frame_model.specs.Key.{key_of}
+use Rattle.frame_model.specs.Rebuilt.{rebuilt_free, rebuilt_bits}
+use Rattle.frame_model.specs.Words.{huge_of}
 use Rattle.llfree_c.specs.Images.{StaysBehind}
 use Rattle.llfree_c.proofs.rebuilt_image.write_child.Given as goal
 

@@ -1,7 +1,7 @@
 use Rattle.std.proofs.Common.{◌≡◌, ◌++◌, ℕ, ◌*◌, List, drop, length, take, ap, sym, subst, ◌∙◌, rules}
 use Rattle.std.proofs.Math.Seq.{drop-append_seam}
 use Rattle.frame_core.specs.Image.{Contents}
-use Rattle.frame_core.specs.Key.{key_of}
+use Rattle.frame_model.specs.Key.{key_of}
 use Rattle.frame_words.specs.declared.geometry.Geometry.{Geometry}
 use Rattle.llfree_c.specs.CoreImages.{SaysImage, SaysRebuilt}
 use Rattle.llfree_c.specs.Images.{StaysBehind}

@@ -1,5 +1,5 @@
 use Rattle.std.proofs.Common.{◌+◌, ◌*◌, ◌≤◌, arith, rules}
-use Rattle.frame_core.specs.Key.{key_of}
+use Rattle.frame_model.specs.Key.{key_of}
 use Rattle.llfree_c.proofs.ImageNumbers.{stays_behind}
 use Rattle.llfree_c.proofs.RebuiltNumbers.{says_more}
 use Rattle.llfree_c.proofs.rebuilt_image.write_rebuilt.Goals as goal

@@ -1,5 +1,5 @@
 use Rattle.std.specs.Prelude.{ℕ, ◌*◌, ◌<◌}
-use Rattle.frame_core.specs.Key.{key_of}
+use Rattle.frame_model.specs.Key.{key_of}
 use Rattle.llfree_c.specs.CoreImages.{SaysOfRebuilt}
 use Rattle.llfree_c.specs.Images.{StaysBehind}
 use Rattle.llfree_c.proofs.rebuilt_image.write_rebuilt.Given as goal

@@ -6,7 +6,7 @@ use Rattle.frame_model.specs.declared.block.FrameBlock.{FrameBlock}
 use Rattle.std.proofs.lemmas.List.Elements.{All-contains}
 use Rattle.frame_words.specs.declared.geometry.Geometry.{Geometry}
 use Rattle.core_frames.specs.PlainState.{PlainState}
-use Rattle.frame_core.specs.Holding.{holders}
+use Rattle.frame_model.specs.Holding.{holders}
 use Rattle.frame_slots.specs.Claims.{IsHeldAs}
 use Rattle.frame_slots.specs.Numbers.{IsHeldBy}
 use Rattle.llfree_c.specs.Replays.{FollowsImage, HoldsAllOf, HoldsBlock, HoldsOnly}

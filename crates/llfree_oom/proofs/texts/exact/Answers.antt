@@ -1,7 +1,7 @@
 use Rattle.std.proofs.Common.{List, ℕ, sym, subst}
 use Rattle.frame_words.specs.declared.geometry.Geometry.{Geometry}
-use Rattle.frame_core.specs.Key.{key_of}
-use Rattle.frame_core.specs.Rebuilt.{IsRebuilt}
+use Rattle.frame_model.specs.Key.{key_of}
+use Rattle.frame_model.specs.Rebuilt.{IsRebuilt}
 use Rattle.frame_image.proofs.Resealed.{exact_resealed}
 use Rattle.llfree_oom.proofs.texts.exact.Goals as goal
 

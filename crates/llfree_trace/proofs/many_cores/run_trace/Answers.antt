@@ -1,6 +1,6 @@
 use Rattle.std.proofs.Common.{◌≡◌, ◌∙◌, length, refl, vec_len, ap, arith}
 use Rattle.std.proofs.lemmas.List.{length-map}
-use Rattle.frame_core.specs.Key.{sealed_key}
+use Rattle.frame_model.specs.Key.{sealed_key}
 use Rattle.frame_model.specs.declared.key.Key.{Key}
 use Rattle.core_frames.specs.Desks.{core_of}
 use Rattle.trace_text.specs.Trace.{ranges_in}

@@ -1,5 +1,5 @@
 use Rattle.std.proofs.Common.{◌≡◌, ◌-◌, ◌∷◌, [], replicate, take}
-use Rattle.frame_core.specs.Key.{sealed_key}
+use Rattle.frame_model.specs.Key.{sealed_key}
 use Rattle.llfree_trace.specs.Desk.{IsLawful}
 use Rattle.llfree_trace.specs.Outcome.{MustRefuseHere, Runs}
 use Rattle.trace_text.specs.Trace.{ranges_in}

@@ -1,6 +1,6 @@
 use Rattle.std.proofs.Common.{◌∙◌, sym, subst, arith, rules}
 use Rattle.frame_model.specs.declared.key.Key.{Key}
-use Rattle.frame_core.specs.Words.{bits_place}
+use Rattle.frame_model.specs.Words.{bits_place}
 use Rattle.low_frames.specs.Takes.{IsAsBefore}
 use Rattle.low_frames.proofs.TakeLemmas.{still_as_before, can_claim, run_of, keeps_both, apart_as}
 use Rattle.low_frames.proofs.Counts.{at_most, both_counts, load_counts, try_counts}

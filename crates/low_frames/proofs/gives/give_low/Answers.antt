@@ -1,6 +1,6 @@
 use Rattle.std.proofs.Common.{◌≡◌, ◌*◌, ◌/◌, Some, ap, ◌∙◌, arith, rules}
-use Rattle.frame_core.specs.Block.{block, IsBlock}
-use Rattle.frame_core.specs.Without.{without}
+use Rattle.frame_model.specs.Block.{block, IsBlock}
+use Rattle.frame_model.specs.Without.{without}
 use Rattle.low_frames.proofs.TakeLemmas.{lies_anywhere, keeps_both, others_both}
 use Rattle.low_frames.proofs.Counts.{at_most, both_counts, in_counts, make_counts}
 use Rattle.low_frames.proofs.Sure.{sure_both, sure_in, sure_make}

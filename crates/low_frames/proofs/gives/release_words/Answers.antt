@@ -1,6 +1,6 @@
 use Rattle.std.proofs.Common.{ℕ, ◌+◌, ◌-◌, ◌*◌, refl, subst, arith, rules}
 use Rattle.frame_model.specs.declared.key.Key.{Key}
-use Rattle.frame_core.specs.Words.{bits_place}
+use Rattle.frame_model.specs.Words.{bits_place}
 use Rattle.frame_core.specs.Moves.{ReadsBut}
 use Rattle.low_frames.proofs.TakeLemmas.{keeps_none, keeps_both}
 use Rattle.low_frames.proofs.Counts.{at_most, none_made, both_counts, make_counts}

@@ -1,7 +1,7 @@
 use Rattle.std.proofs.Common.{ℕ, ◌+◌, ◌*◌, ◌<◌, refl, subst, arith, rules}
 use Rattle.std.proofs.lemmas.Nat.{pow_pos}
 use Rattle.frame_model.specs.declared.key.Key.{Key}
-use Rattle.frame_core.specs.Steps.Amounts.{IsRun}
+use Rattle.frame_model.specs.Steps.Amounts.{IsRun}
 use Rattle.low_frames.proofs.TakeLemmas.{keeps_both, apart_as}
 use Rattle.low_frames.proofs.Counts.{at_most, both_counts}
 use Rattle.low_frames.proofs.Sure.{sure_both}

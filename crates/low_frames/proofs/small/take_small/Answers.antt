@@ -1,6 +1,6 @@
 use Rattle.std.proofs.Common.{◌<◌, ◌∙◌, ◌∷◌, ℕ, ap, sym, subst, arith, rules}
 use Rattle.frame_model.specs.declared.view.View.{View}
-use Rattle.frame_core.specs.Block.{block}
+use Rattle.frame_model.specs.Block.{block}
 use Rattle.low_frames.proofs.TakeLemmas.{keeps_both, apart_as}
 use Rattle.low_frames.proofs.Counts.{at_most, both_counts, out_counts, make_counts}
 use Rattle.low_frames.proofs.Sure.{sure_both, sure_out, sure_make}

@@ -1,5 +1,5 @@
 use Rattle.std.proofs.Common.{◌≡◌, ◌*◌, Some}
-use Rattle.frame_core.specs.Words.{bits_place}
+use Rattle.frame_model.specs.Words.{bits_place}
 use Rattle.frame_core.specs.Moves.{ReadsBut}
 use Rattle.frame_core.specs.Mover.{Keeps}
 use Rattle.low_frames.specs.Takes.{Counts, IsAsBefore, LosesNone}

@@ -1,6 +1,6 @@
 use Rattle.std.proofs.Common.{None, Some, inl, inr, ⊎_elim, ℕ, ◌+◌, ◌*◌, refl, sym, subst, ◌∙◌, arith, rules}
 use Rattle.frame_model.specs.declared.key.Key.{Key}
-use Rattle.frame_core.specs.Words.{bits_place}
+use Rattle.frame_model.specs.Words.{bits_place}
 use Rattle.frame_core.specs.Moves.{ReadsBut}
 use Rattle.low_frames.specs.Takes.{LosesNone}
 use Rattle.low_frames.specs.Groups.{HoldsWords, ReadsOutside}

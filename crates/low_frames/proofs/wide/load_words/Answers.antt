@@ -3,7 +3,7 @@ use Rattle.std.specs.Prelude.{slice_index, slice_set}
 use Rattle.std.proofs.lemmas.Bool.{cases_lt}
 use Rattle.std.proofs.lemmas.List.{get_or-set_same, get_or-set_other}
 use Rattle.frame_model.specs.declared.key.Key.{Key}
-use Rattle.frame_core.specs.Words.{bits_place}
+use Rattle.frame_model.specs.Words.{bits_place}
 use Rattle.frame_core.specs.Moves.{ReadsBut}
 use Rattle.low_frames.proofs.TakeLemmas.{still_as_before, keeps_both}
 use Rattle.low_frames.proofs.Counts.{at_most, both_counts, load_counts}

@@ -1,6 +1,6 @@
 use Rattle.std.proofs.Common.{◌≡◌, ℕ, ◌+◌, ◌*◌, ◌<◌, Some, length}
 use Rattle.std.specs.Prelude.{slice_index}
-use Rattle.frame_core.specs.Words.{bits_place}
+use Rattle.frame_model.specs.Words.{bits_place}
 use Rattle.frame_core.specs.Mover.{Keeps}
 use Rattle.low_frames.specs.Takes.{Counts, IsAsBefore, StaysSure}
 use Rattle.low_frames.specs.Alone.{FindsOf}

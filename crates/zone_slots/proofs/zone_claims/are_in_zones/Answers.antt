@@ -1,6 +1,6 @@
 use Rattle.std.proofs.Common.{arith, below_more, subst}
 use Rattle.std.proofs.lemmas.List.{get_or_default}
-use Rattle.frame_core.specs.Block.{block}
+use Rattle.frame_model.specs.Block.{block}
 use Rattle.frame_model.specs.declared.block.FrameBlock.{FrameBlock}
 use Rattle.zone_slots.specs.Layouts.{LiesInOne}
 use Rattle.zone_slots.specs.ZoneClaims.{first_of}

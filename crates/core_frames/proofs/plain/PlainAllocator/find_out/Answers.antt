@@ -2,7 +2,7 @@ use Rattle.std.proofs.Common.{◌≡◌, ◌<◌, ◌≤◌, ◌+◌, length, ge
 use Rattle.std.specs.List.{Contains}
 use Rattle.std.proofs.lemmas.List.{get_or_default}
 use Rattle.frame_model.specs.declared.block.FrameBlock.{FrameBlock}
-use Rattle.frame_core.specs.Block.{block}
+use Rattle.frame_model.specs.Block.{block}
 use Rattle.core_frames.specs.PlainBytes.{out_of, first_out}
 use Rattle.core_frames.specs.PlainState.{PlainState}
 use Rattle.core_frames.proofs.PlainBytes.{out_byte, out_named}

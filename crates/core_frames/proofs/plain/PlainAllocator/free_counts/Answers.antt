@@ -1,5 +1,5 @@
 use Rattle.std.proofs.Common.{◌≡◌, ◌+◌, refl, sym, subst, ◌∙◌}
-use Rattle.frame_core.specs.Key.{sealed_key, frame_count}
+use Rattle.frame_model.specs.Key.{sealed_key, frame_count}
 use Rattle.core_frames.specs.FreeCounts.{frames_together, clear_children}
 use Rattle.core_frames.specs.PlainState.{PlainState, memory_by, held_by}
 use Rattle.core_frames.proofs.FreePlain.{looked, frames_free, children_free}

@@ -1,6 +1,6 @@
 use Rattle.std.proofs.Common.{◌<◌, ap, ◌∙◌, arith}
 use Rattle.frame_words.specs.declared.geometry.Geometry.{Geometry}
-use Rattle.frame_core.specs.Key.{sealed_key}
+use Rattle.frame_model.specs.Key.{sealed_key}
 use Rattle.core_frames.specs.declared.search.habit.Habit.{Habit}
 use Rattle.core_frames.specs.PlainState.{PlainState}
 use Rattle.core_frames.proofs.PlainCalls.{with_core}

@@ -1,8 +1,8 @@
 use Rattle.std.proofs.Common.{sym, subst}
 use Rattle.frame_model.specs.declared.key.Key.{Key}
 use Rattle.frame_core.specs.Image.{Contents}
-use Rattle.frame_core.specs.Key.{sealed_key}
-use Rattle.frame_core.specs.Laws.{AddsUp}
+use Rattle.frame_model.specs.Key.{sealed_key}
+use Rattle.frame_model.specs.Laws.{AddsUp}
 use Rattle.plain_moves.specs.Plain.{plain_key}
 use Rattle.core_frames.specs.PlainState.{PlainState, memory_by, held_by, HoldsExactly}
 use Rattle.core_frames.proofs.PlainCalls.{state_of, counters}

@@ -3,8 +3,8 @@ use Rattle.std.specs.List.{Contains}
 use Rattle.std.specs.List.Sorted.{IsPermutation}
 use Rattle.std.proofs.lemmas.List.Sorted.{IsPermutation-append_left}
 use Rattle.frame_model.specs.declared.block.FrameBlock.{FrameBlock}
-use Rattle.frame_core.specs.Key.{sealed_key}
-use Rattle.frame_core.specs.View.{boot_blocks}
+use Rattle.frame_model.specs.Key.{sealed_key}
+use Rattle.frame_model.specs.View.{boot_blocks}
 use Rattle.core_frames.specs.PlainAgree.{named_by}
 use Rattle.core_frames.specs.PlainBytes.{out_of, kept_of, first_kept}
 use Rattle.core_frames.specs.PlainState.{PlainState, held_by}

@@ -1,7 +1,7 @@
 use Rattle.std.proofs.Common.{◌≡◌, ℕ, ◌*◌, ◌<◌, List, length, get_or, false, ap, sym, ◌∙◌, arith}
 use Rattle.std.proofs.lemmas.List.{get_or-replicate}
 use Rattle.frame_words.specs.declared.geometry.Geometry.{Geometry}
-use Rattle.frame_core.specs.Key.{sealed_key}
+use Rattle.frame_model.specs.Key.{sealed_key}
 use Rattle.core_frames.proofs.PlainBytes.{out_none, kept_none}
 use Rattle.core_frames.proofs.PlainCalls.{same_geometry, moved, ranged, opened}
 use Rattle.core_frames.proofs.plain.PlainAllocator.open_with.Goals as goal

@@ -2,7 +2,7 @@ use Rattle.std.proofs.Common.{◌≡◌, ℕ, ◌∷◌, refl, ap, sym, subst, �
 use Rattle.std.specs.List.{Contains}
 use Rattle.std.specs.List.Sorted.{IsPermutation}
 use Rattle.frame_model.specs.declared.block.FrameBlock.{FrameBlock}
-use Rattle.frame_core.specs.Key.{sealed_key}
+use Rattle.frame_model.specs.Key.{sealed_key}
 use Rattle.core_frames.specs.Bounds.{most_in_give}
 use Rattle.core_frames.specs.PlainBytes.{out_of, kept_of}
 use Rattle.core_frames.specs.PlainState.{PlainState}

@@ -2,8 +2,8 @@ use Rattle.std.proofs.Common.{◌≡◌, ℕ, ◌+◌, ◌-◌, ◌^◌, List, �
 use Rattle.std.specs.List.{Contains}
 use Rattle.std.specs.List.Sorted.{IsPermutation}
 use Rattle.frame_model.specs.declared.block.FrameBlock.{FrameBlock}
-use Rattle.frame_core.specs.Block.{block}
-use Rattle.frame_core.specs.Key.{sealed_key}
+use Rattle.frame_model.specs.Block.{block}
+use Rattle.frame_model.specs.Key.{sealed_key}
 use Rattle.core_frames.specs.PlainBytes.{out_of, kept_of, first_out}
 use Rattle.core_frames.specs.PlainState.{PlainState}
 use Rattle.core_frames.proofs.PlainBytes.{out_byte}

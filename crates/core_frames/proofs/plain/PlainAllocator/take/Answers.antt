@@ -2,8 +2,8 @@ use Rattle.std.proofs.Common.{◌≡◌, ℕ, ◌+◌, List, ◌∷◌, Err, ref
 use Rattle.std.specs.List.Sorted.{IsPermutation}
 use Rattle.frame_words.specs.declared.geometry.Geometry.{Geometry}
 use Rattle.frame_model.specs.declared.block.FrameBlock.{FrameBlock}
-use Rattle.frame_core.specs.Key.{sealed_key}
-use Rattle.frame_core.specs.QuietTake.{QuietTake, TakesBlock, FindsNone}
+use Rattle.frame_model.specs.Key.{sealed_key}
+use Rattle.frame_model.specs.QuietTake.{QuietTake, TakesBlock, FindsNone}
 use Rattle.core_frames.specs.PlainAgree.{held_with}
 use Rattle.core_frames.specs.PlainBytes.{out_of, kept_of, first_out}
 use Rattle.core_frames.specs.PlainState.{PlainState, memory_by, held_by}

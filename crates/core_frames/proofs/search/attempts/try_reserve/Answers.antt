@@ -4,8 +4,8 @@ use Rattle.low_frames.specs.Bounds.{attempt}
 use Rattle.low_frames.specs.Takes.{IsAsBefore}
 use Rattle.low_frames.proofs.TakeLemmas.{still_as_before, load_then, try_then, wider, keeps_both, apart_as}
 use Rattle.core_frames.proofs.Carried.{unset, idle_still, can_reserve, reserved}
-use Rattle.frame_core.specs.Words.{tree_place}
-use Rattle.frame_core.specs.Steps.{reserve}
+use Rattle.frame_model.specs.Words.{tree_place}
+use Rattle.frame_model.specs.Steps.{reserve}
 use Rattle.low_frames.proofs.AloneLemmas.{IsSeen, seen_first}
 use Rattle.low_frames.proofs.Sure.{sure_where, sure_both, sure_load, sure_made}
 use Rattle.core_frames.proofs.AloneSearch.{none_lost, lost_first, reserved_first, passed_first}

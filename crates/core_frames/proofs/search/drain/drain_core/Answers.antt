@@ -1,10 +1,10 @@
 use Rattle.std.proofs.Common.{◌≡◌, ℕ, None, ◌<◌, refl, ap, sym, subst, ◌∙◌, arith}
 use Rattle.frame_model.specs.declared.key.Key.{Key}
-use Rattle.frame_core.specs.Key.{tree_count}
+use Rattle.frame_model.specs.Key.{tree_count}
 use Rattle.frame_words.specs.Words.{rest_in}
 use Rattle.std.specs.Prelude.{List, slice_index}
-use Rattle.frame_core.specs.Words.{local_place}
-use Rattle.frame_core.specs.Steps.{swap_local, unreserve}
+use Rattle.frame_model.specs.Words.{local_place}
+use Rattle.frame_model.specs.Steps.{swap_local, unreserve}
 use Rattle.low_frames.specs.Takes.{IsAsBefore}
 use Rattle.low_frames.proofs.Sure.{sure_both, sure_load, sure_make}
 use Rattle.low_frames.proofs.TakeLemmas.{counts_none, load_then, make_then, then_counts, keeps_both}

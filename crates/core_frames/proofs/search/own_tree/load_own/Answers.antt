@@ -1,8 +1,8 @@
 use Rattle.std.proofs.Common.{◌+◌, ◌≡◌, ◌<◌, Some, sym, subst, ◌∙◌, arith}
 use Rattle.frame_words.specs.Words.{rest_in}
 use Rattle.frame_model.specs.declared.key.Key.{Key}
-use Rattle.frame_core.specs.Key.{tree_count}
-use Rattle.frame_core.specs.Words.{IsRest}
+use Rattle.frame_model.specs.Key.{tree_count}
+use Rattle.frame_model.specs.Words.{IsRest}
 use Rattle.low_frames.specs.Takes.{IsAsBefore}
 use Rattle.core_frames.specs.Bounds.{most_to_collect, most_to_load}
 use Rattle.core_frames.proofs.Carried.{loaded, idle_still, before_twice}

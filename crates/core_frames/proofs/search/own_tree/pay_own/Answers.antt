@@ -1,6 +1,6 @@
 use Rattle.std.proofs.Common.{◌≡◌, ◌+◌, ◌*◌, Some, subst, arith}
 use Rattle.frame_words.specs.Words.{rest_in}
-use Rattle.frame_core.specs.Words.{IsRest}
+use Rattle.frame_model.specs.Words.{IsRest}
 use Rattle.core_frames.specs.Bounds.{most_to_load, most_to_pay}
 use Rattle.core_frames.proofs.Carried.{idle_still, can_pay_own, paid_own}
 use Rattle.core_frames.proofs.KeptFrames.{upper_local}

@@ -1,6 +1,6 @@
 use Rattle.std.proofs.Common.{◌≡◌, ◌+◌, ◌*◌, Some}
 use Rattle.frame_words.specs.Words.{rest_in}
-use Rattle.frame_core.specs.Words.{local_place, IsRest}
+use Rattle.frame_model.specs.Words.{local_place, IsRest}
 use Rattle.low_frames.specs.Takes.{IsAsBefore, IsSure}
 use Rattle.core_frames.specs.Bounds.{most_to_load}
 use Rattle.core_frames.specs.Alone.{SameFrames}

@@ -1,5 +1,5 @@
 use Rattle.std.proofs.Common.{◌+◌, ap, ◌∙◌, arith}
-use Rattle.frame_core.specs.View.{counted}
+use Rattle.frame_model.specs.View.{counted}
 use Rattle.low_frames.specs.Bounds.{most_in_tree}
 use Rattle.low_frames.specs.Takes.{IsAsBefore}
 use Rattle.low_frames.proofs.Sure.{sure_both}

@@ -1,6 +1,6 @@
 use Rattle.std.proofs.Common.{◌≡◌, ◌≤◌, ℕ, ◌*◌, ◌-◌, List, ap, ◌∙◌, arith}
 use Rattle.frame_words.specs.Geometry.{trees_for}
-use Rattle.frame_core.specs.Key.{tree_count}
+use Rattle.frame_model.specs.Key.{tree_count}
 use Rattle.low_frames.specs.Alone.{FindsOf}
 use Rattle.low_frames.proofs.TakeLemmas.{wider}
 use Rattle.core_frames.specs.Bounds.{most_visit, most_in_pass}

@@ -1,6 +1,6 @@
 use Rattle.std.proofs.Common.{◌≡◌, ◌≤◌, ◌<◌, ℕ, ◌*◌, ◌-◌, ◌+◌, List, sym, subst, ◌∙◌, arith}
 use Rattle.frame_model.specs.declared.key.Key.{Key}
-use Rattle.frame_core.specs.Key.{tree_count}
+use Rattle.frame_model.specs.Key.{tree_count}
 use Rattle.low_frames.proofs.Sure.{sure_both}
 use Rattle.low_frames.proofs.TakeLemmas.{keeps_both, then_counts, wider}
 use Rattle.core_frames.specs.Bounds.{most_visit}

@@ -1,8 +1,8 @@
 use Rattle.std.proofs.Common.{◌+◌, ◌≡◌, Some, ◌<◌, refl, ap, sym, subst, ◌∙◌, arith}
 use Rattle.frame_model.specs.declared.key.Key.{Key}
 use Rattle.frame_model.specs.declared.view.View.{View}
-use Rattle.frame_core.specs.Key.{tree_count}
-use Rattle.frame_core.specs.View.{counted}
+use Rattle.frame_model.specs.Key.{tree_count}
+use Rattle.frame_model.specs.View.{counted}
 use Rattle.low_frames.specs.Bounds.{attempt, most_in_tree}
 use Rattle.low_frames.proofs.Sure.{sure_both, sure_make}
 use Rattle.low_frames.proofs.TakeLemmas.{counts_none, keeps_both, make_then, then_counts, wider}

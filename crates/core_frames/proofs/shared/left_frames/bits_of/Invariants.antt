@@ -1,7 +1,7 @@
 use Rattle.std.proofs.Common.{◌≡◌, ℕ, ◌*◌, ◌<◌, ◌≤◌, length, vec_capacity}
 use Rattle.std.specs.Prelude.{slice_index}
 use Rattle.frame_core.specs.Image.{key_in}
-use Rattle.frame_core.specs.Words.{bit_word_of}
+use Rattle.frame_model.specs.Words.{bit_word_of}
 use Rattle.core_frames.proofs.shared.left_frames.bits_of.Given as goal
 
 abbrev pub invariant-loop-word : goal.invariant-loop-word

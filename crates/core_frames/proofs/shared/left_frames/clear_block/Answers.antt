@@ -1,5 +1,5 @@
 use Rattle.std.proofs.Common.{◌+◌, ◌*◌, length, ⊎_elim, inl, inr, ap, arith, rules}
-use Rattle.frame_core.specs.Block.{block}
+use Rattle.frame_model.specs.Block.{block}
 use Rattle.core_frames.proofs.LeftLemmas.{cleared_run, cleared_child}
 use Rattle.core_frames.proofs.shared.left_frames.clear_block.Goals as goal
 

@@ -1,5 +1,5 @@
 use Rattle.std.proofs.Common.{◌≡◌, ℕ, ◌<◌, ◌≤◌, length, vec_capacity}
-use Rattle.frame_core.specs.Words.{huge_of}
+use Rattle.frame_model.specs.Words.{huge_of}
 use Rattle.core_frames.specs.LeftFrames.{flag_at}
 use Rattle.core_frames.proofs.shared.left_frames.flags_of.Given as goal
 

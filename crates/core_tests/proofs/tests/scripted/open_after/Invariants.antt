@@ -1,5 +1,5 @@
 use Rattle.std.specs.Prelude.{◌≡◌, ◌<◌}
-use Rattle.frame_core.specs.View.{IsIdle}
+use Rattle.frame_model.specs.View.{IsIdle}
 use Rattle.plain_moves.specs.PlainState.{key_by, view_by, IsByItself}
 use Rattle.core_tests.proofs.tests.scripted.open_after.Given as goal
 

@@ -1,7 +1,7 @@
 use Rattle.std.proofs.Common.{rules, ap, ◌∙◌, arith}
 use Rattle.frame_model.specs.declared.view.View.{View}
-use Rattle.frame_core.specs.View.{count_in}
-use Rattle.frame_core.specs.Steps.Amounts.{more}
+use Rattle.frame_model.specs.View.{count_in}
+use Rattle.frame_model.specs.Steps.Amounts.{more}
 use Rattle.frame_model.proofs.Amounts.{count_none}
 use Rattle.low_frames.proofs.ViewLemmas.{charged_here}
 use Rattle.core_tests.proofs.tests.tree_takes.pay.Goals as goal

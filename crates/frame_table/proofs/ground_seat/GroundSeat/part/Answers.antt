@@ -1,4 +1,4 @@
-use Rattle.frame_core.specs.Block.{block}
+use Rattle.frame_model.specs.Block.{block}
 use Rattle.frame_model.proofs.Steps.SeatViews.{blocks_are}
 use Rattle.frame_model.proofs.Without.{without_leaves}
 use Rattle.frame_table.specs.Seats.{key_at}

@@ -1,6 +1,6 @@
 use Rattle.std.proofs.Common.{arith, refl, ap, sym, subst, ◌∙◌, rules}
 use Rattle.std.proofs.lemmas.List.Elements.{All-contains}
-use Rattle.frame_core.specs.Block.{block, IsBlock}
+use Rattle.frame_model.specs.Block.{block, IsBlock}
 use Rattle.frame_model.proofs.Steps.SeatViews.{blocks_are}
 use Rattle.frame_model.proofs.Without.{contains_times, less_one_leaves}
 use Rattle.frame_table.specs.Seats.{key_at, view_of}

@@ -5,10 +5,10 @@ use lib.ListN.{get_elem?}
 use Rattle.atomic_table.proofs.Lists.{at_map}
 use Rattle.frame_model.specs.declared.view.Eye.{Eye}
 use Rattle.frame_model.specs.declared.view.View.{View}
-use Rattle.frame_core.specs.Fit.{Fit}
+use Rattle.frame_model.specs.Fit.{Fit}
 use Rattle.frame_core.specs.Image.{Contents, IsImage}
-use Rattle.frame_core.specs.Key.{key_of}
-use Rattle.frame_core.specs.Laws.{holding_of}
+use Rattle.frame_model.specs.Key.{key_of}
+use Rattle.frame_model.specs.Laws.{holding_of}
 use Rattle.frame_core.specs.Moves.{HasSizes}
 use Rattle.frame_model.proofs.Steps.SeatViews.{blocks_are}
 use Rattle.frame_table.specs.Closing.{IsHeldIn}

@@ -1,5 +1,5 @@
 use Rattle.std.specs.Prelude.{◌≡◌, ◌<◌, IfSome}
-use Rattle.frame_core.specs.View.{IsIdle}
+use Rattle.frame_model.specs.View.{IsIdle}
 use Rattle.plain_moves.specs.Plain.{IsOutIn}
 use Rattle.plain_moves.specs.PlainState.{key_by, view_by, IsByItself}
 use Rattle.frame_tests.proofs.tests.stops.open_after.Given as goal

@@ -1,6 +1,6 @@
 use Rattle.std.proofs.Common.{refl, sym, subst}
 use Rattle.std.specs.Prelude.{Contains}
-use Rattle.frame_core.specs.Block.{block}
+use Rattle.frame_model.specs.Block.{block}
 use Rattle.core_frames.specs.Cores.{kept_by}
 use Rattle.core_frames.specs.declared.shared.allocator.Core.{Core}
 use Rattle.frame_zones.proofs.Placing.{core_read, stay_cores}

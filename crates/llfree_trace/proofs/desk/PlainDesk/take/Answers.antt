@@ -1,5 +1,5 @@
 use Rattle.std.proofs.Common.{◌≡◌, refl, arith}
-use Rattle.frame_core.specs.Block.{block}
+use Rattle.frame_model.specs.Block.{block}
 use Rattle.held_blocks.specs.Desk.{TakesUnder}
 use Rattle.held_blocks.proofs.HeldLemmas.{begins_apart}
 use Rattle.llfree_trace.proofs.Desks.{agrees_more, free_of_boot, free_under_list, refused_step}

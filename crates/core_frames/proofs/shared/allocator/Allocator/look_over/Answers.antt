@@ -1,5 +1,5 @@
 use Rattle.std.proofs.Common.{◌≡◌, ◌+◌, refl, subst, ◌∙◌, rules}
-use Rattle.frame_core.specs.Words.{entry_word_count}
+use Rattle.frame_model.specs.Words.{entry_word_count}
 use Rattle.frame_table.specs.Seats.{key_at, view_of}
 use Rattle.frame_table.specs.declared.seats.CoreSeat.{CoreSeat}
 use Rattle.frame_table.specs.declared.table.FrameTable.{FrameTable}

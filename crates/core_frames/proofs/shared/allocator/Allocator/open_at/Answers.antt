@@ -1,7 +1,7 @@
 use Rattle.std.proofs.Common.{ap, sym, subst, rules}
 use Rattle.frame_model.specs.declared.key.Key.{Key}
 use Rattle.frame_model.specs.declared.view.View.{View}
-use Rattle.frame_core.specs.Openings.{held_blocks}
+use Rattle.frame_model.specs.Openings.{held_blocks}
 use Rattle.frame_table.specs.Openings.{unsealed_key}
 use Rattle.core_frames.specs.Cores.{memory_of}
 use Rattle.core_frames.specs.LeftFrames.{Shows}

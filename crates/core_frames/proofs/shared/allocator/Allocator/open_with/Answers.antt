@@ -1,4 +1,4 @@
-use Rattle.frame_core.specs.Key.{sealed_key}
+use Rattle.frame_model.specs.Key.{sealed_key}
 use Rattle.core_frames.proofs.CoreLemmas.{opened_with}
 use Rattle.core_frames.proofs.shared.allocator.Allocator.open_with.Goals as goal
 

@@ -2,8 +2,8 @@ use Rattle.std.proofs.Common.{◌≡◌, ◌≤◌, ◌+◌, ◌∷◌, ◌∙�
 use Rattle.std.proofs.lemmas.Bool.Decides.{nat_tests}
 use Rattle.std.proofs.lemmas.Int.{ints}
 use Rattle.std.proofs.lemmas.List.Sums.{sum_by-cons}
-use Rattle.frame_core.specs.Block.{block as block_at, covers}
-use Rattle.frame_core.specs.Holding.{holders}
+use Rattle.frame_model.specs.Block.{block as block_at, covers}
+use Rattle.frame_model.specs.Holding.{holders}
 use Rattle.frame_model.specs.Without.{is_same, less_one}
 use Rattle.frame_model.proofs.Without.{less_here}
 use Rattle.frame_model.specs.declared.block.FrameBlock.{FrameBlock}

@@ -1,8 +1,8 @@
 use Rattle.std.proofs.Common.{◌≡◌, List, ◌∷◌, ◌∙◌, refl, sym, ap, subst, arith}
 use Rattle.frame_model.specs.declared.block.FrameBlock.{FrameBlock}
 use Rattle.frame_model.specs.declared.view.View.{View}
-use Rattle.frame_core.specs.Block.{IsBlock, block}
-use Rattle.frame_core.specs.Holding.{IsFreeBlock}
+use Rattle.frame_model.specs.Block.{IsBlock, block}
+use Rattle.frame_model.specs.Holding.{IsFreeBlock}
 use Rattle.frame_table.specs.Seats.{block_in}
 use Rattle.held_blocks.specs.Desk.{blocks_of, TakesUnder}
 use Rattle.held_blocks.proofs.HeldLemmas.{begins_apart}

@@ -1,9 +1,9 @@
 use Rattle.std.proofs.Common.{◌≡◌, List, inr, ap, sym, subst, ◌∙◌, refl, arith}
 use Rattle.frame_model.specs.declared.block.FrameBlock.{FrameBlock}
 use Rattle.frame_model.specs.declared.view.View.{View}
-use Rattle.frame_core.specs.Block.{block}
+use Rattle.frame_model.specs.Block.{block}
 use Rattle.frame_core.specs.Movers.{sizes_of}
-use Rattle.frame_core.specs.Without.{without}
+use Rattle.frame_model.specs.Without.{without}
 use Rattle.frame_table.specs.Openings.{ground_view, IsLeft}
 use Rattle.core_frames.specs.Cores.{memory_of}
 use Rattle.core_frames.specs.Left.{left_blocks}

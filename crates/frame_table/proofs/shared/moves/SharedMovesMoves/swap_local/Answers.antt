@@ -1,6 +1,6 @@
 use Rattle.std.proofs.Common.{refl, sym, subst}
 use Rattle.frame_model.specs.declared.place.Place.TheVariants.{Local}
-use Rattle.frame_core.specs.Words.{IsRest}
+use Rattle.frame_model.specs.Words.{IsRest}
 use Rattle.frame_table.specs.Seats.{key_at}
 use Rattle.frame_table.proofs.shared.moves.SharedMovesMoves.swap_local.Goals as goal
 
