@@ -89,7 +89,8 @@ impl Allocator {
         requires core { IsCoreOf self.now core.old }
         requires order { order ≤ huge_order }
         ensures core { StaysCoreOf self.now core.old core.new }
-        ensures looks { HasLooked (most_elsewhere (memory_of self.now)) (nat_lt (losses_by core.old) (losses_by core.new)) core.old core.new }
+        ensures looks { HasLooked (most_elsewhere (memory_of self.now))
+            (nat_lt (losses_by core.old) (losses_by core.new)) core.old core.new }
         ensures found { IfOk result (λ f. HasFound self.now order f core.old core.new) }
         ensures none { IfErr result (λ _. HasMovedForEach self.now order core.old core.new
             × (lent_by core.new ≡ lent_by core.old)) }
