@@ -19,16 +19,16 @@ fi
 
 # seconds of a first run on 4 processors, and MB that stay in out/
 costs='
-frame_words 36 120
-frame_model 31 100
-frame_core 45 170
-low_frames 40 120
-held_blocks 40 250
-frame_table 45 290
-plain_moves 180 670
-core_frames 80 480
-frame_image 80 440
-trace_text 75 360
+frame_words 25 120
+frame_model 26 100
+frame_core 37 170
+low_frames 41 120
+held_blocks 43 250
+frame_table 55 290
+plain_moves 136 670
+core_frames 110 480
+frame_image 85 440
+trace_text 86 360
 llfree_trace 220 620
 llfree 90 80
 frame_zones 80 320
