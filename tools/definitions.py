@@ -25,7 +25,7 @@ PAGES = [
     ("program", "The program", [
         ("what a run writes, and what it refuses", ["run_over", "run_program", "read_all"]),
         ("what a run on one core answers", ["run_one"]),
-        ("what a trace says", ["parse_trace"]),
+        ("what a trace says", ["parse_trace", "every_trace_reads_back"]),
         ("what an image says, rebuilt and reported", ["image_of", "image_text", "rebuild", "report"]),
     ]),
     ("one-thread", "The allocator for one thread", [
@@ -126,11 +126,8 @@ def text_of(specs, page, shared, shared_others):
         parts += part(specs, line, new, shared)
     elsewhere = [d for d in page.known if d in shared]
     head = (f"{len(page.known)} definitions, in {lines_of(page.known)} lines of `specs/`, each behind those that it"
-            " uses. Whoever believes that they say what is meant, and the checker, has the promises below. For the"
-            " first promise read its part, for another one also what stands before it, as far as it is used."
-            f" {len(elsewhere)} of them stand on [a page of their own]({COMMON}.md), since other pages rest on them"
-            " too; here they are named. The page is written by `tools/definitions.py` from the contracts and from"
-            " `specs/`.")
+            " uses. Whoever believes that they say what is meant, and the checker, has the promises below."
+            f" {len(elsewhere)} of them stand on [a page of their own]({COMMON}.md). Written by `tools/definitions.py`.")
     out = [f"# What to believe: {page.title[0].lower() + page.title[1:]}", "", wrapped(head, "", ""), "",
            "| Promise | Contracts | Definitions | not needed before |", "|---|---|---|---|", *rows, ""]
     return "\n".join(out + parts + other_words([word for word in page.others if word not in shared_others]))

@@ -23,7 +23,7 @@ tell "no operation without a seat" \
 tell "no use of the shared words but in steps.rt" \
     "$(grep -nE '\.shared\b' $files | grep -vE '^\./steps\.rt:|:ghost use ' | grep -vE '\.shared\.(key|table_id)\b')"
 tell "one operation a function of steps.rt" \
-    "$(awk '/^(pub(\([a-z]+\))? )?fn /{ name = $0; n = 0 } /\.shared/{ if (++n > 1) print name }
+    "$(awk '/^ *(pub(\([a-z]+\))? )?fn /{ name = $0; n = 0 } /\.shared/{ if (++n > 1) print name }
         /shared\b.*\bshared/ { print name } /for |while |loop / { if ($0 !~ /^ *\/\//) print name }' steps.rt)"
 tell "each operation once" \
     "$(grep -oE '^ *(table\.grid\.shared)?\.(load|compare_exchange|fetch_[a-z]+|swap|split_seat|join_seat)\b' steps.rt \

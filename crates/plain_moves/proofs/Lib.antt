@@ -9,8 +9,4 @@ pub mod PlainImage
 pub mod PlainOthers
 pub mod PlainCompany
 pub mod Checks
-pub mod Cues
-pub mod Scripts
-pub mod Stops
-pub mod Worked
 pub mod Readers

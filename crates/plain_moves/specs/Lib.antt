@@ -4,10 +4,4 @@ pub mod Apart
 pub mod Plain
 pub mod PlainLaws
 pub mod PlainState
-pub mod Script
-pub mod ScriptState
-pub mod Plays
-pub mod ScriptMoves
-pub mod ScriptLaws
 pub mod Readers
-pub mod Worked

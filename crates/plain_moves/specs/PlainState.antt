@@ -1,5 +1,6 @@
 -- What plain moves have: the key, the words and the own view.
-use Rattle.std.specs.Prelude.{◌≡◌, ◌≢◌, ℕ, List, [], Some, vec_len, slice_get}
+use Rattle.std.specs.Prelude.{◌≡◌, ◌≢◌, ℕ, List, [], Some, length, vec_len, slice_get}
+use Rattle.std.specs.List.{All}
 use Rattle.frame_model.specs.declared.block.FrameBlock.{FrameBlock}
 use Rattle.frame_model.specs.declared.key.Key.{Key}
 use Rattle.frame_model.specs.declared.view.View.{View}
@@ -9,7 +10,7 @@ use Rattle.frame_model.specs.Steps.{after_loss}
 use Rattle.plain_moves.specs.declared.plain.PlainMoves.{PlainMoves}
 use Rattle.plain_moves.specs.declared.plain.party.Company.{Company}
 use Rattle.plain_moves.specs.declared.plain.party.Party.{Party}
-use Rattle.plain_moves.specs.Plain.{plain_key, plain_mover, plain_tick, plain_view}
+use Rattle.plain_moves.specs.Plain.{plain_key, plain_mover, plain_tick, plain_view, IsFresh, IsOutIn}
 
 -- the key of the memory
 abbrev pub key_by : PlainMoves → Key
@@ -33,6 +34,18 @@ view_by m =
 abbrev pub mover_by : PlainMoves → Mover Company FrameBlock
 mover_by m = plain_mover (key_by m) m.them (words_by m) m.outs.items (view_by m)
 
+-- how many moves the own view has made
+abbrev pub moves_by : PlainMoves → ℕ
+moves_by m = m.moves
+
+-- those who wait beside the own view
+abbrev pub parties_by : PlainMoves → List Party
+parties_by m = m.them.parties.items
+
+-- for each frame what of theirs is out there: one more than the order of the block that begins there, or 0
+abbrev pub their_outs_by : PlainMoves → List ℕ
+their_outs_by m = m.them.outs.items
+
 -- nobody waits beside the own view
 abbrev pub IsByItself : PlainMoves → Type 0
 IsByItself m = m.them.parties.items ≡ []
@@ -44,6 +57,17 @@ pub record Admits (company : Company) (old new : PlainMoves) : Type 0 where
   pub outs : new.outs ≡ old.outs
   pub view : view_by new ≡ view_by old
   pub them : new.them ≡ company
+
+-- eight strangers came beside the own view, each with one share and nothing in flight, who have handed
+-- out no block; nothing else has changed
+pub record AdmitsStrangers (old new : PlainMoves) : Type 0 where
+  pub key : key_by new ≡ key_by old
+  pub words : new.words ≡ old.words
+  pub outs : new.outs ≡ old.outs
+  pub view : view_by new ≡ view_by old
+  pub eight : length (parties_by new) ≡ 8
+  pub fresh : All IsFresh (parties_by new)
+  pub none_out : (b : FrameBlock) → IsOutIn (their_outs_by new) b → ⊥
 
 -- the party has what the one who steps has in flight
 pub record IsParked (p : Party) (m : PlainMoves) : Type 0 where

@@ -6,7 +6,7 @@ mod checks;
 mod contents;
 mod moves;
 mod others;
-pub(crate) mod party;
+mod party;
 mod strangers;
 mod tries;
 
@@ -33,6 +33,7 @@ ghost use Rattle.plain_moves.specs.Plain.{
 use frame_core::{Image, Moves};
 use frame_model::{Amount, FrameBlock};
 use frame_words::{CHILD_FRAMES, CHILD_WORDS, Fault, Geometry};
+pub use party::STRANGERS;
 use party::{Company, MOST_PIECES};
 use std::alloc::Global;
 use std::collections::VecDeque;
@@ -128,23 +129,16 @@ impl PlainMoves {
         self.moves
     }
 
-    // All words, in the order of a table's.
-    pub(crate) fn all_words(&self) -> &[u64]
-        ensures { result.now ≡ words_by self.now }
-    {
-        self.words.as_slice()
-    }
-
-    // The words as they stand, in place of what the image was.
-    pub(crate) fn copy_to(&self, image: &mut Image)
-        requires { length image.old.words ≡ vec_len self.now.words }
+    /// The words as they stand, in place of what the image was.
+    pub fn copy_to(&self, image: &mut Image)
+        requires { length image.old.words ≡ length (words_by self.now) }
         ensures { image.new ≡ image_by self.now }
     {
         image.copy_from(&self.geometry, self.words.as_slice());
     }
 
-    // An exchange is lost on purpose: of the own view only the counts change.
-    pub(crate) fn lose(&mut self)
+    /// An exchange is lost on purpose: of the own view only the counts change.
+    pub fn lose(&mut self)
         ensures { Loses self.old self.new }
     {
         self.moves = self.moves.saturating_add(1);

@@ -1,6 +1,7 @@
 //! What a script says of a move.
 
-use plain_moves::{Act, Cue, What};
+use plain_moves::Act;
+use script_moves::{Cue, What};
 
 pub(super) fn lose(at: u32) -> Cue {
     Cue {

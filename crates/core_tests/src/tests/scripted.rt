@@ -10,7 +10,8 @@ use super::cues::{lose, stop, stranger};
 use core_frames::{Habit, split_by, take_by};
 use frame_core::{HeldBlock, Image, Moves, PlainBlock};
 use frame_words::{Geometry, TakeFault};
-use plain_moves::{Act, Cue, PlainMoves, ScriptMoves};
+use plain_moves::{Act, PlainMoves};
+use script_moves::{Cue, ScriptMoves};
 use std::alloc::Global;
 use std::test::Fail;
 

@@ -1,9 +1,8 @@
 //! Takes in a tree between whose moves strangers step: which exchanges are lost, in how many moves a
 //! block is found, and the words before each move and afterwards.
 
-ghost use Rattle.std.specs.Prelude.{◌≡◌, ◌<◌, ◌≤◌, ◌^◌, [], None, true, IfOk};
-ghost use Rattle.frame_model.specs.Key.{tree_count};
-ghost use Rattle.frame_model.specs.View.{IsIdle, paid_on};
+ghost use Rattle.std.specs.Prelude.{◌≡◌, ◌<◌, ◌≤◌, [], None, true, IfOk};
+ghost use Rattle.frame_model.specs.View.{IsIdle};
 ghost use Rattle.plain_moves.specs.PlainState.{IsByItself};
 ghost use Rattle.low_frames.specs.Outcomes.{MayTakeOf};
 
@@ -11,7 +10,8 @@ use super::cues::{lose, stop, stranger};
 use frame_core::{HeldBlock, Image, Moves, Place};
 use frame_words::{Geometry, frames_of, tree_free};
 use low_frames::take_in_tree;
-use plain_moves::{Act, Cue, PlainMoves, ScriptMoves};
+use plain_moves::{Act, PlainMoves};
+use script_moves::{Cue, ScriptMoves};
 use std::alloc::Global;
 use std::process::Abort;
 use std::test::Fail;
@@ -76,11 +76,10 @@ fn pay(m: &mut PlainMoves, tree: u32, order: u8) -> bool
     requires order { order ≤ 9 }
     requires idle { IsIdle (⟦<PlainMoves as Moves>⟧.at m.old).view }
     ensures company { IsByItself m.old → IsByItself m.new }
-    ensures tree { result ≡ true → tree < tree_count (⟦<PlainMoves as Moves>⟧.at m.new).key }
     ensures share { 0 < (⟦<PlainMoves as Moves>⟧.at m.new).view.share }
     ensures charged { (⟦<PlainMoves as Moves>⟧.at m.new).view.charged ≡ None }
     ensures own { (⟦<PlainMoves as Moves>⟧.at m.new).view.own ≡ [] }
-    ensures paid { result ≡ true → 2 ^ order ≤ paid_on tree (⟦<PlainMoves as Moves>⟧.at m.new).view }
+    ensures paid { result ≡ true → MayTakeOf tree order (⟦<PlainMoves as Moves>⟧.at m.new) }
 {
     let geometry = m.geometry();
     if tree >= geometry.trees() {

@@ -1,6 +1,6 @@
 //! What the own view has in flight, read where a move's conditions are tested.
 
-ghost use Rattle.std.specs.Prelude.{◌≡◌, ◌*◌, ◌+◌, ◌/◌, ◌^◌, ◌<◌, ◌≤◌, ℕ, true, Some, slice_get, slice_index, vec_len, ◌≢◌, false};
+ghost use Rattle.std.specs.Prelude.{◌≡◌, ◌*◌, ◌+◌, ◌/◌, ◌^◌, ◌<◌, ◌≤◌, ℕ, true, Some, slice_get, slice_index, length, ◌≢◌, false};
 ghost use Rattle.frame_words.specs.Geometry.{most_children};
 ghost use Rattle.frame_model.specs.Block.{block, IsBlock, smalls, wholes};
 ghost use Rattle.frame_model.specs.Without.{without};
@@ -8,7 +8,7 @@ ghost use Rattle.frame_model.specs.Steps.Amounts.{Leaves};
 ghost use Rattle.frame_model.specs.Steps.Conditions.{IsUnfilled};
 ghost use Rattle.frame_core.specs.Moves.{place_of, IsPlace};
 ghost use Rattle.frame_model.specs.View.{IsAmount, IsIdle, LiesIn, NoneBut, count_in, names};
-ghost use Rattle.plain_moves.specs.PlainState.{key_by, view_by};
+ghost use Rattle.plain_moves.specs.PlainState.{key_by, words_by, view_by};
 
 use super::PlainMoves;
 use super::contents::{all_begin_in, all_of, count_smalls, count_wholes, none_of};
@@ -17,22 +17,22 @@ use frame_model::{Amount, Place};
 use frame_words::{HUGE_ORDER, child_of};
 
 impl PlainMoves {
-    // The word as it stands.
-    pub(crate) fn stands(&self, place: Place) -> u64
+    /// The word as it stands.
+    pub fn stands(&self, place: Place) -> u64
         requires { IsPlace (key_by self.now) place }
-        ensures value { slice_index self.now.words.items
+        ensures value { slice_index (words_by self.now)
             (place_of (key_by self.now) place) ≡ result }
-        ensures found { slice_get self.now.words.items
+        ensures found { slice_get (words_by self.now)
             (place_of (key_by self.now) place) ≡ Some result }
     {
         plain_word(&self.words, self.geometry, place)
     }
 
-    // The number of the word.
-    pub(crate) fn number_at(&self, place: Place) -> usize
+    /// The number of the word among all words.
+    pub fn number_at(&self, place: Place) -> usize
         requires { IsPlace (key_by self.now) place }
         ensures number { result ≡ place_of (key_by self.now) place }
-        ensures inside { result < vec_len self.now.words }
+        ensures inside { result < length (words_by self.now) }
     {
         number_of(self.geometry, place)
     }

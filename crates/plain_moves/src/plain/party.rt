@@ -10,7 +10,8 @@ use frame_words::{CHILD_FRAMES, CHILD_WORDS, Fault, Geometry};
 use std::alloc::Global;
 use std::collections::VecDeque;
 
-pub(crate) const STRANGERS: u32 = 8;
+/// How many strangers come beside a caller.
+pub const STRANGERS: u32 = 8;
 
 // While a block leaves, the blocks before and after stand in one queue: at most one a frame each.
 pub(crate) const MOST_PIECES: usize = 2 * CHILD_FRAMES as usize;

@@ -1,17 +1,18 @@
 //! What one of the company does between two moves of the own view.
 
-ghost use Rattle.std.specs.Prelude.{◌≡◌, true, false, ◌<◌, vec_len};
+ghost use Rattle.std.specs.Prelude.{◌≡◌, true, false, ◌<◌, length};
 ghost use Rattle.plain_moves.specs.Acts.{Acts, TheyAct};
 ghost use Rattle.plain_moves.specs.Allowed.{MayAct, TheyMayAct};
-ghost use Rattle.plain_moves.specs.PlainState.{IsStill, IsOwnStep, IsUnmoved};
+ghost use Rattle.plain_moves.specs.PlainState.{parties_by, IsStill, IsOwnStep, IsUnmoved};
 
 use super::PlainMoves;
 use crate::act::Act;
 
 impl PlainMoves {
-    // Party `who` makes this move of its own; answers whether its conditions allowed it.
-    pub(crate) fn stranger(&mut self, who: usize, act: Act) -> bool
-        requires { who < vec_len self.old.them.parties }
+    /// The stranger of this number makes this move of its own; answers whether its conditions
+    /// allowed it.
+    pub fn stranger(&mut self, who: usize, act: Act) -> bool
+        requires { who < length (parties_by self.old) }
         ensures still { IsStill self.old self.new }
         ensures allowed { result ≡ true → TheyMayAct who act self.old }
         ensures refused { result ≡ false → TheyMayAct who act self.old → ⊥ }

@@ -22,4 +22,11 @@ pub returns-clause-paid : goal.returns-clause-paid
 returns-clause-paid c made =
     let none = ap (λ (v : View). v.paid) c.load-seen.ensures.view ∙ c.requires.idle.paid in
     let paid = ap (λ (v : View). v.paid) c.if-not-tree_pay.ensures.view ∙ ap (more c.args.tree c.frames_of-n.result) none in
-    omega (arith, ap (count_in c.args.tree) paid, charged_here c.args.tree c.frames_of-n.result, c.frames_of-n.ensures.value)
+    record {
+      tree = search rules;
+      order = c.requires.order;
+      share = search rules;
+      charged = search rules;
+      own = search rules;
+      paid = omega (arith, ap (count_in c.args.tree) paid, charged_here c.args.tree c.frames_of-n.result, c.frames_of-n.ensures.value);
+    }

@@ -1,0 +1,4 @@
+mod Cues
+mod Scripts
+mod Stops
+mod Worked
