@@ -181,6 +181,20 @@ pub tried_as_far : (key : Key) (E : Type 0) (order from i to : ℕ) (old new : O
 tried_as_far key E order from i to None new h a = tt
 tried_as_far key E order from i to (Some ws) new h a = (a.0, λ e t l q. a.1 e t l (omega arith))
 
+-- up to a tree, and on from it
+pub tried_on : (key mid : Key) (E : Type 0) (order from i to : ℕ) (old one two : Option (List ℕ)) → mid ≡ key
+    → FindsOf (λ ws. E → WereTried key order from i ws) old one → FindsOf (λ ws. E → WereTried mid order i to ws) one two
+    → FindsOf (λ ws. E → WereTried key order from to ws) old two
+tried_on key mid E order from i to old one two k low high =
+    then_found (λ ws. E → WereTried key order from i ws) (λ ws. E → WereTried mid order i to ws)
+    (λ ws. E → WereTried key order from to ws) old one two
+    (λ ws a b e t l h.
+    ⊎_elim
+    (λ (below : t < i). a e t l below)
+    (λ above. subst (λ j. WasTried j order (2 ^ order) 4096 t ws) k (b e t above h))
+    (cases_lt t i))
+    low high
+
 -- from the core's first tree on, and up to it
 pub tried_all : (key mid : Key) (E : Type 0) (order start trees : ℕ) (old one two : Option (List ℕ)) → mid ≡ key → trees ≡ tree_count key
     → FindsOf (λ ws. E → WereTried key order start trees ws) old one → FindsOf (λ ws. E → WereTried mid order 0 start ws) one two

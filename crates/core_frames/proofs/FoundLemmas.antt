@@ -1,12 +1,12 @@
 -- A search in the own tree that found nothing, and one in the others.
-use Rattle.std.proofs.Common.{◌≡◌, ℕ, ◌+◌, ◌<◌, ◌≤◌, refl, ap, sym, subst, ◌∙◌, arith}
+use Rattle.std.proofs.Common.{◌≡◌, ℕ, ◌<◌, ◌≤◌, refl, ap, sym, subst, ◌∙◌, arith}
 use Rattle.std.specs.Prelude.{Bool, true, false, ◌||◌, nat_lt, MatchBool, pos, ◌+ℤ◌, Result, Ok, Err, IfOk, IfErr}
 use Rattle.std.proofs.lemmas.Bool.Decides.{nat_tests}
 use Rattle.frame_model.specs.Holding.{IsFreeBlock}
 use Rattle.frame_table.specs.Seats.{block_in}
-use Rattle.core_frames.specs.Cores.{memory_of, kept_by, lent_by, losses_by}
+use Rattle.core_frames.specs.Cores.{lent_by, losses_by}
 use Rattle.core_frames.specs.Found.{HasFound, HasLooked, FindsThrough}
-use Rattle.core_frames.specs.Uses.{HasTaken, HasMovedForEach}
+use Rattle.core_frames.specs.Uses.{HasMovedForEach}
 use Rattle.core_frames.specs.declared.shared.allocator.Allocator.{Allocator}
 use Rattle.core_frames.specs.declared.shared.allocator.Core.{Core}
 use Rattle.core_frames.specs.declared.shared.found.Found.{Found}

@@ -8,8 +8,13 @@ use Rattle.frame_table.specs.declared.block.Block.{Block}
 use Rattle.core_frames.specs.declared.shared.allocator.Allocator.{Allocator}
 use Rattle.core_frames.specs.declared.shared.allocator.Core.{Core}
 use Rattle.core_frames.specs.declared.shared.found.Found.{Found}
-use Rattle.core_frames.specs.Cores.{kept_by, lent_by, moves_by, losses_by}
+use Rattle.core_frames.specs.Cores.{kept_by, lent_by, moves_by, losses_by, IsOutOf}
 use Rattle.core_frames.specs.Uses.{HasTaken, IsRefusedFor}
+
+-- the seat owns exactly the block of this order, and that block is out
+pub record IsOutAs (a : Allocator) (n : ℕ) (f : Found) : Type 0 where
+  pub owns : f.seat.me ≡ (eye (holder f.seat.me.0.view.about (block f.frame n)) [], [])
+  pub is_out : (b : Block) → b.frame ≡ f.frame → b.order ≡ n → b.seat ≡ f.seat → IsOutOf a b
 
 -- the seat owns exactly the block of this order, and that block was taken
 pub record HasFound (a : Allocator) (n : ℕ) (f : Found) (c d : Core) : Type 0 where

@@ -48,6 +48,11 @@ IsRefusedAtDesk a n c d fault.NoBlock = HasMovedForEach a n c d × (losses_by d 
 IsRefusedAtDesk a n c d fault.Contended = HasMovedForEach a n c d × (losses_by c < losses_by d)
 IsRefusedAtDesk a n c d _ = ⊥
 
+-- the core lends as many blocks as before, and made at most so many moves
+pub record LendsAsMany (most : ℕ) (c d : Core) : Type 0 where
+  pub lent : lent_by d ≡ lent_by c
+  pub moves : moves_by d ≤ moves_by c + most
+
 -- a take of a block of the order: one is out and lent, or it is refused and nothing is; what the core
 -- keeps, and what it remembers of its gives, is as before
 pub record TakesThrough (a : Allocator) (n : ℕ) (answer : Result Block TakeFault) (c d : Core)

@@ -3,8 +3,8 @@
 ghost use Rattle.std.specs.Prelude.{◌≡◌, ◌<◌, ◌≤◌, ◌⊎◌, length, true, false};
 ghost use Rattle.std.specs.Prelude.{IfOk, IfErr, IfSome, IsErr, IsErrOf, OnErr, OnOk};
 ghost use Rattle.std.specs.Result.{is_err};
-ghost use Rattle.std.specs.Io.KnownBytes.{Appends, IsAtEnd};
-ghost use Rattle.frame_image.specs.Devices.{device_of, has_failed, WritesFront};
+ghost use Rattle.std.specs.Io.KnownBytes.{Appends};
+ghost use Rattle.frame_image.specs.Devices.{device_of, has_failed, IsReadOut, WritesFront};
 
 use super::watched::Watched;
 use frame_words::Fault;
@@ -23,9 +23,8 @@ const PIECE: usize = 8192;
 pub fn read_all<R: Read>(alloc: Global, input: &mut Watched<R>) -> Result<Vec<u8>, Fault>
     ensures all { IfOk result (λ text.
         IfSome (R.remaining (device_of input.old)) (λ bytes. text.items ≡ bytes)) }
-    ensures end { OnOk result (IsAtEnd (R.remaining (device_of input.new))) }
+    ensures end { OnOk result (IsReadOut (R.remaining (device_of input.new)) input.new) }
     ensures limit { IfOk result (λ text. length text.items ≤ MOST_BYTES) }
-    ensures sound { OnOk result (has_failed input.new ≡ false) }
 
     // The reader failed, or its text is too long.
     ensures failed { has_failed input.new ≡ true → IsErrOf result Fault.ReadFailed }

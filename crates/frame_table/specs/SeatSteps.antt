@@ -1,10 +1,14 @@
 -- What a step on a word asks of the seat of a core, and what it makes of it.
-use Rattle.std.specs.Prelude.{◌≡◌, ◌≢◌, ℕ, Bool, false, Some, MatchBool}
-use Rattle.frame_model.specs.Steps.{Kind, place, May, effect, after_loss, next}
+use Rattle.std.specs.Prelude.{◌≡◌, ◌≢◌, ℕ, [], Bool, false, Some, MatchBool}
+use Rattle.atomic_table.specs.declared.shared.Seat.{Seat}
+use Rattle.frame_model.specs.declared.view.Eye.{Eye}
+use Rattle.frame_model.specs.declared.view.View.{View}
+use Rattle.frame_model.specs.Seats.{Cut, Join, left_by, joined_by}
+use Rattle.frame_model.specs.Steps.{Kind, place, May, effect, after_load, after_loss, next}
 use Rattle.frame_core.specs.Moves.{ReadsBut}
 use Rattle.frame_core.specs.Mover.{IsApart}
-use Rattle.frame_table.specs.Rule.{IsFoundIn}
-use Rattle.frame_table.specs.Seats.{key_at, view_of, reads_of, Sits}
+use Rattle.frame_table.specs.Rule.{IsFoundIn, right_eye}
+use Rattle.frame_table.specs.Seats.{key_at, id_of, view_of, reads_of, Sits}
 use Rattle.frame_table.specs.declared.seats.CoreSeat.{CoreSeat}
 use Rattle.frame_table.specs.declared.table.FrameTable.{FrameTable}
 
@@ -19,6 +23,16 @@ pub record StaysBut (t : FrameTable) (kind : Kind) (old new : CoreSeat) : Type 0
   pub sits : Sits t new
   pub apart : IsApart (key_at t) (view_of new)
   pub reads : ReadsBut (place (key_at t) kind) (reads_of old) (reads_of new)
+
+-- the word was loaded and is known, one that may stand there; of the other words the seat knows what it
+-- did, and what it has is apart
+pub record LoadsOn (t : FrameTable) (i found : ℕ) (old new : CoreSeat) : Type 0 where
+  pub sits : Sits t new
+  pub view : view_of new ≡ after_load next (view_of old)
+  pub lawful : IsFoundIn (key_at t) i found
+  pub here : reads_of new i ≡ Some found
+  pub reads : ReadsBut i (reads_of old) (reads_of new)
+  pub apart : IsApart (key_at t) (view_of new)
 
 -- the exchange was made, or it was lost to another word, which is known then
 pub record ExchangesOn (t : FrameTable) (kind : Kind) (seen : ℕ) (made : Bool)
@@ -36,3 +50,18 @@ pub record ChangesOn (t : FrameTable) (kind : Kind) (found : ℕ) (old new : Cor
   pub stays : StaysBut t kind old new
   pub view : view_of new ≡ effect next kind found (view_of old)
   pub lawful : IsFoundIn (key_at t) (place (key_at t) kind) found
+
+-- a seat of the same table was cut off that of the core, which sits there still and knows what it knew
+pub record CutsOff (t : FrameTable) (cut : Cut) (part : Seat (Unit {0}) Eye) (old new : CoreSeat)
+    : Type 0 where
+  pub sits : Sits t new
+  pub view : view_of new ≡ left_by next cut (view_of old)
+  pub reads : reads_of new ≡ reads_of old
+  pub table : part.table_id ≡ id_of t
+  pub is_part : part.me ≡ (right_eye cut old.seat.me.0, [])
+
+-- a seat with this view was taken in by that of the core, which sits there still and knows what it knew
+pub record JoinsTo (t : FrameTable) (join : Join) (other : View) (old new : CoreSeat) : Type 0 where
+  pub sits : Sits t new
+  pub view : view_of new ≡ joined_by next join (view_of old) other
+  pub reads : reads_of new ≡ reads_of old

@@ -5,7 +5,8 @@ use crate::samples::{RANGES, SMALL};
 use frame_core::Image;
 use frame_image::held_frames;
 use frame_words::Fault;
-use plain_moves::{Cue, PlainMoves, ScriptMoves, What};
+use plain_moves::PlainMoves;
+use script_moves::{Cue, ScriptMoves, What};
 use std::alloc::Global;
 
 impl Calls {

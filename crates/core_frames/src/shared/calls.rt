@@ -1,12 +1,16 @@
 //! Takes and gives of cores.
 
 ghost use Rattle.std.specs.Prelude.{◌≡◌, ◌+◌, ◌≤◌};
+ghost use Rattle.frame_words.specs.Geometry.{huge_order};
 ghost use Rattle.core_frames.specs.Bounds.{most_moves, most_in_give};
 ghost use Rattle.core_frames.specs.Cores.{memory_of, moves_by, IsCoreOf, StaysCoreOf, IsOutOf};
+ghost use Rattle.core_frames.specs.Found.{IsOutAs};
 ghost use Rattle.core_frames.specs.Uses.{TakesThrough, HasGiven};
 
 use crate::gives::give_by;
 use crate::shared::allocator::{Allocator, Core};
+use crate::shared::found::Found;
+use frame_core::HeldBlock;
 use frame_table::{Block, SharedMoves};
 use frame_words::{HUGE_ORDER, TakeFault};
 
@@ -32,7 +36,48 @@ impl Allocator {
 
     /// Gives the block back, whichever core took it. It always succeeds. No memory is needed, and
     /// nobody waits.
+    // Huge frames have a body of their own, as in a search.
+    #[inline(always)]
     pub fn give(&self, core: &mut Core, block: Block)
+        requires core { IsCoreOf self.now core.old }
+        requires block { IsOutOf self.now block }
+        ensures core { StaysCoreOf self.now core.old core.new }
+        ensures gives { HasGiven core.old core.new }
+        ensures moves { moves_by core.new ≤ moves_by core.old + most_in_give }
+    {
+        let order = block.order();
+        let found = Found::of(block);
+        if order == HUGE_ORDER {
+            self.give_huge(core, found);
+        } else {
+            self.give_any(core, found, order);
+        }
+    }
+
+    #[inline(never)]
+    fn give_huge(&self, core: &mut Core, found: Found)
+        requires core { IsCoreOf self.now core.old }
+        requires found { IsOutAs self.now huge_order found }
+        ensures core { StaysCoreOf self.now core.old core.new }
+        ensures gives { HasGiven core.old core.new }
+        ensures moves { moves_by core.new ≤ moves_by core.old + most_in_give }
+    {
+        self.give_of(core, found.with_order(HUGE_ORDER));
+    }
+
+    #[inline(never)]
+    fn give_any(&self, core: &mut Core, found: Found, order: u8)
+        requires core { IsCoreOf self.now core.old }
+        requires found { IsOutAs self.now order found }
+        ensures core { StaysCoreOf self.now core.old core.new }
+        ensures gives { HasGiven core.old core.new }
+        ensures moves { moves_by core.new ≤ moves_by core.old + most_in_give }
+    {
+        self.give_of(core, found.with_order(order));
+    }
+
+    #[inline(always)]
+    fn give_of(&self, core: &mut Core, block: Block)
         requires core { IsCoreOf self.now core.old }
         requires block { IsOutOf self.now block }
         ensures core { StaysCoreOf self.now core.old core.new }

@@ -13,7 +13,7 @@ ghost use Rattle.low_frames.specs.Outcomes.{HasNoBootFrame};
 ghost use Rattle.core_frames.specs.Bounds.{most_moves, most_in_give};
 ghost use Rattle.core_frames.specs.Cores.{memory_of, view_in, kept_by, lent_by, moves_by};
 ghost use Rattle.core_frames.specs.Cores.{IsOutOf, IsCoreOf, StaysCoreOf};
-ghost use Rattle.core_frames.specs.Uses.{HasGiven, IsRefusedAtDesk};
+ghost use Rattle.core_frames.specs.Uses.{HasGiven, IsRefusedAtDesk, LendsAsMany};
 ghost use Rattle.core_frames.specs.Desks.{list_of, core_of, IsEntryAt, IsDeskOf, StaysDeskOf, IsLeftAlone};
 
 use crate::shared::allocator::{Allocator, Core};
@@ -80,11 +80,10 @@ impl Desk {
             HasNoBootFrame (memory_of allocator.now) (block_at b.0 b.1)) }
         ensures inside { IfOk result (λ b.
             LiesInside (memory_of allocator.now) (block_at b.0 b.1)) }
-        ensures lent { lent_by (core_of self.new) ≡ lent_by (core_of self.old) }
+        ensures core { LendsAsMany (most_moves (memory_of allocator.now) + 1)
+            (core_of self.old) (core_of self.new) }
         ensures why { IfErr result (IsRefusedAtDesk allocator.now order
             (core_of self.old) (core_of self.new)) }
-        ensures moves { moves_by (core_of self.new) ≤ moves_by (core_of self.old)
-            + most_moves (memory_of allocator.now) + 1 }
     {
         if order > HUGE_ORDER {
             return Err(Fault::BadOrder);
@@ -110,9 +109,7 @@ impl Desk {
         requires { IsDeskOf allocator.now self.old }
         ensures desk { StaysDeskOf allocator.now self.old self.new }
         ensures gives { GivesOldest (list_of self.old) label.now result (list_of self.new) }
-        ensures lent { lent_by (core_of self.new) ≡ lent_by (core_of self.old) }
-        ensures moves { moves_by (core_of self.new) ≤ moves_by (core_of self.old)
-            + most_in_give + 1 }
+        ensures core { LendsAsMany (most_in_give + 1) (core_of self.old) (core_of self.new) }
         ensures refused { IfErr result (λ e. IsLeftAlone self.old self.new) }
     {
         match self.lift(allocator, label) {
@@ -132,9 +129,7 @@ impl Desk {
         requires { IsDeskOf allocator.now self.old }
         ensures desk { StaysDeskOf allocator.now self.old self.new }
         ensures gives { GivesExactly (list_of self.old) frame order result (list_of self.new) }
-        ensures lent { lent_by (core_of self.new) ≡ lent_by (core_of self.old) }
-        ensures moves { moves_by (core_of self.new) ≤ moves_by (core_of self.old)
-            + most_in_give + 1 }
+        ensures core { LendsAsMany (most_in_give + 1) (core_of self.old) (core_of self.new) }
         ensures refused { IfErr result (λ e. IsLeftAlone self.old self.new) }
     {
         if order > HUGE_ORDER {

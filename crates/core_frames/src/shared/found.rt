@@ -16,7 +16,7 @@ use crate::takes::search_elsewhere;
 use atomic_table::Seat;
 use frame_core::{Eye, HeldBlock, Moves};
 use frame_table::{Block, SharedMoves};
-use frame_words::TakeFault;
+use frame_words::HUGE_ORDER;
 
 /// A block of an order that the caller knows: its first frame, and its seat, which has no bytes.
 // So the answer of a search is two numbers with what tells whether there is one, and comes back in
@@ -52,7 +52,61 @@ impl Found {
 impl Allocator {
     /// A take without the block's order. Where there is no block, the answer is whether an exchange
     /// was lost: 1, else 0, a number as wide as that of a frame.
+    // Kernels take mostly base frames and huge frames: each of these two has a body of its own, in
+    // which masks, shifts and the kind of the block are constants.
+    #[inline(always)]
     pub(crate) fn find(&self, core: &mut Core, order: u8) -> Result<Found, u32>
+        requires core { IsCoreOf self.now core.old }
+        requires order { order ≤ huge_order }
+        ensures core { StaysCoreOf self.now core.old core.new }
+        ensures finds { FindsThrough self.now order result core.old core.new }
+        ensures moves { moves_by core.new ≤ moves_by core.old
+            + most_moves (memory_of self.now) }
+    {
+        match order {
+            0 => self.find_base(core),
+            HUGE_ORDER => self.find_huge(core),
+            _ => self.find_any(core, order),
+        }
+    }
+
+    #[inline(never)]
+    fn find_base(&self, core: &mut Core) -> Result<Found, u32>
+        requires { IsCoreOf self.now core.old }
+        ensures core { StaysCoreOf self.now core.old core.new }
+        ensures finds { FindsThrough self.now 0 result core.old core.new }
+        ensures moves { moves_by core.new ≤ moves_by core.old
+            + most_moves (memory_of self.now) }
+    {
+        self.find_of(core, 0)
+    }
+
+    #[inline(never)]
+    fn find_huge(&self, core: &mut Core) -> Result<Found, u32>
+        requires { IsCoreOf self.now core.old }
+        ensures core { StaysCoreOf self.now core.old core.new }
+        ensures finds { FindsThrough self.now huge_order result core.old core.new }
+        ensures moves { moves_by core.new ≤ moves_by core.old
+            + most_moves (memory_of self.now) }
+    {
+        self.find_of(core, HUGE_ORDER)
+    }
+
+    #[inline(never)]
+    fn find_any(&self, core: &mut Core, order: u8) -> Result<Found, u32>
+        requires core { IsCoreOf self.now core.old }
+        requires order { order ≤ huge_order }
+        ensures core { StaysCoreOf self.now core.old core.new }
+        ensures finds { FindsThrough self.now order result core.old core.new }
+        ensures moves { moves_by core.new ≤ moves_by core.old
+            + most_moves (memory_of self.now) }
+    {
+        self.find_of(core, order)
+    }
+
+    // The own tree, and then the others.
+    #[inline(always)]
+    fn find_of(&self, core: &mut Core, order: u8) -> Result<Found, u32>
         requires core { IsCoreOf self.now core.old }
         requires order { order ≤ huge_order }
         ensures core { StaysCoreOf self.now core.old core.new }
@@ -84,7 +138,7 @@ impl Allocator {
 
     // In the other trees. These moves are not those in the own tree, so that those have no address and
     // stay in registers.
-    #[inline(always)]
+    #[inline(never)]
     fn find_elsewhere(&self, core: &mut Core, order: u8, lost: bool) -> Result<Found, u32>
         requires core { IsCoreOf self.now core.old }
         requires order { order ≤ huge_order }

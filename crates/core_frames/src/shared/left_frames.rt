@@ -19,15 +19,53 @@ pub(crate) struct LeftFrames {
     pub(crate) huge: Vec<bool>,
 }
 
-/// Those of the image. Refused only for want of memory.
-pub(crate) fn left_of(alloc: Global, image: &Image) -> Result<LeftFrames, Fault>
-    ensures bits { IfOk result (λ l. AreBitWordsOf (key_in image.now) image.now.words l.bits.items) }
-    ensures huge { IfOk result (λ l. AreFlagsOf (key_in image.now) image.now.words l.huge.items) }
-    ensures err { IfErr result (λ e. e ≡ Fault.NoMemory) }
-{
-    let bits = bits_of(alloc, image)?;
-    let huge = flags_of(alloc, image)?;
-    Ok(LeftFrames { bits, huge })
+impl LeftFrames {
+    /// Those of the image. Refused only for want of memory.
+    pub(crate) fn of(alloc: Global, image: &Image) -> Result<LeftFrames, Fault>
+        ensures bits { IfOk result (λ l. AreBitWordsOf (key_in image.now) image.now.words l.bits.items) }
+        ensures huge { IfOk result (λ l. AreFlagsOf (key_in image.now) image.now.words l.huge.items) }
+        ensures err { IfErr result (λ e. e ≡ Fault.NoMemory) }
+    {
+        let bits = bits_of(alloc, image)?;
+        let huge = flags_of(alloc, image)?;
+        Ok(LeftFrames { bits, huge })
+    }
+
+    /// Is it an aligned block of so many frames, held by itself?
+    pub(crate) fn shows(&self, frames: u32, frame: u32, order: u8) -> bool
+        requires order { order ≤ huge_order }
+        requires bits { frames ≤ word_bits * length self.now.bits.items }
+        requires huge { frames ≤ child_frames * length self.now.huge.items }
+        ensures { MatchBool result
+            (IsShown frames self.now.bits.items self.now.huge.items (block frame order))
+            (¬ IsShown frames self.now.bits.items self.now.huge.items (block frame order)) }
+    {
+        let n = frames_of(order);
+        if frame % n != 0 || n > frames || frame > frames - n {
+            return false;
+        }
+        if order == HUGE_ORDER {
+            return self.huge[child_of(frame) as usize];
+        }
+        are_set(self.bits.as_slice(), frame, frame + n)
+    }
+
+    /// The block is left no more.
+    pub(crate) fn clear_block(&mut self, frame: u32, order: u8)
+        requires order { order ≤ huge_order }
+        requires fits { frame + 2 ^ order < 2 ^ 32 }
+        requires huge { frame + 2 ^ order ≤ child_frames * length self.old.huge.items }
+        requires shown { IsShown (word_bits * length self.old.bits.items)
+            self.old.bits.items self.old.huge.items (block frame order) }
+        ensures { HasCleared (block frame order) self.old.bits.items self.old.huge.items
+            self.new.bits.items self.new.huge.items }
+    {
+        if order == HUGE_ORDER {
+            self.huge[child_of(frame) as usize] = false;
+            return;
+        }
+        clear_run(&mut self.bits, frame, frame + frames_of(order));
+    }
 }
 
 fn bits_of(alloc: Global, image: &Image) -> Result<Vec<u64>, Fault>
@@ -56,42 +94,6 @@ fn flags_of(alloc: Global, image: &Image) -> Result<Vec<bool>, Fault>
         huge.push_reserved(image.huge(child));
     }
     Ok(huge)
-}
-
-/// Is it an aligned block of so many frames, held by itself?
-pub(crate) fn is_shown(left: &LeftFrames, frames: u32, frame: u32, order: u8) -> bool
-    requires order { order ≤ huge_order }
-    requires bits { frames ≤ word_bits * length left.now.bits.items }
-    requires huge { frames ≤ child_frames * length left.now.huge.items }
-    ensures { MatchBool result
-        (IsShown frames left.now.bits.items left.now.huge.items (block frame order))
-        (¬ IsShown frames left.now.bits.items left.now.huge.items (block frame order)) }
-{
-    let n = frames_of(order);
-    if frame % n != 0 || n > frames || frame > frames - n {
-        return false;
-    }
-    if order == HUGE_ORDER {
-        return left.huge[child_of(frame) as usize];
-    }
-    are_set(left.bits.as_slice(), frame, frame + n)
-}
-
-/// The block is left no more.
-pub(crate) fn clear_block(left: &mut LeftFrames, frame: u32, order: u8)
-    requires order { order ≤ huge_order }
-    requires fits { frame + 2 ^ order < 2 ^ 32 }
-    requires huge { frame + 2 ^ order ≤ child_frames * length left.old.huge.items }
-    requires shown { IsShown (word_bits * length left.old.bits.items)
-        left.old.bits.items left.old.huge.items (block frame order) }
-    ensures { HasCleared (block frame order) left.old.bits.items left.old.huge.items
-        left.new.bits.items left.new.huge.items }
-{
-    if order == HUGE_ORDER {
-        left.huge[child_of(frame) as usize] = false;
-        return;
-    }
-    clear_run(&mut left.bits, frame, frame + frames_of(order));
 }
 
 // Are the bits of the frames from one to before another set?

@@ -8,7 +8,7 @@ ghost use Rattle.core_frames.specs.Cores.{IsOpened};
 ghost use Rattle.core_frames.specs.Left.{left_blocks, IsSurvivorsOf};
 
 use crate::shared::allocator::{Allocator, Core};
-use crate::shared::left_frames::left_of;
+use crate::shared::left_frames::LeftFrames;
 use crate::shared::openings::numbered;
 use crate::shared::survivors::Survivors;
 use frame_core::Image;
@@ -27,7 +27,7 @@ impl Allocator {
         ensures err { IfErr result (λ e. e ≡ Fault.NoMemory) }
     {
         let geometry = image.geometry();
-        let left = left_of(alloc, image)?;
+        let left = LeftFrames::of(alloc, image)?;
         let (table, seats, seat) = open_table_at(alloc, image)?;
         let cores = numbered(alloc, geometry, seats)?;
         let survivors = Survivors {

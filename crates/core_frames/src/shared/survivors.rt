@@ -4,7 +4,7 @@ ghost use Rattle.frame_model.specs.Block.{block};
 ghost use Rattle.core_frames.specs.Left.{left_blocks, IsSurvivorsOf, Adopts};
 
 use crate::shared::allocator::Allocator;
-use crate::shared::left_frames::{LeftFrames, clear_block, is_shown};
+use crate::shared::left_frames::LeftFrames;
 use frame_table::{Block, GroundSeat};
 use frame_words::{Fault, Geometry, HUGE_ORDER};
 
@@ -30,10 +30,10 @@ impl Survivors {
         if order > HUGE_ORDER {
             return Err(Fault::BadOrder);
         }
-        if !is_shown(&self.left, self.geometry.frames(), frame, order) {
+        if !self.left.shows(self.geometry.frames(), frame, order) {
             return Err(Fault::NotHeld);
         }
-        clear_block(&mut self.left, frame, order);
+        self.left.clear_block(frame, order);
         Ok(self.seat.part(&allocator.table, frame, order))
     }
 }

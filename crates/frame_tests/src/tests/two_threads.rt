@@ -90,6 +90,34 @@ fn both<R: Threads + Sync>(
     )
 }
 
+// Both cores run at once, and the second one gives the block first.
+fn give_and_run_both<R: Threads + Sync>(
+    rt: &R,
+    table: &FrameTable,
+    cores: (CoreSeat, CoreSeat),
+    block: Option<Block>,
+    task: Task,
+) -> (CoreSeat, CoreSeat)
+    requires tree { 0 < tree_count (key_at table.now) }
+    requires ready { (IsIdleSeat table.now cores.0 × IsIdleSeat table.now cores.1)
+        × IfSome block (IsOut table.now) }
+    ensures { IsIdleSeat table.entry.now result.0 × IsIdleSeat table.entry.now result.1 }
+{
+    let (first, second) = cores;
+    join(
+        rt,
+        move || -> CoreSeat
+            requires { IsIdleSeat table.now first × (0 < tree_count (key_at table.now)) }
+            ensures { IsIdleSeat table.entry.now result }
+        { run(table, first, task) },
+        move || -> CoreSeat
+            requires { IsIdleSeat table.now second × (0 < tree_count (key_at table.now))
+                × IfSome block (IsOut table.now) }
+            ensures { IsIdleSeat table.entry.now result }
+        { give_and_run(table, second, block, task) },
+    )
+}
+
 fn assert_all_free(rt: &impl Abort, image: &Image) {
     let geometry = image.geometry();
     for child in 0..geometry.children() {
@@ -169,18 +197,7 @@ fn a_block_crosses_to_the_other_thread(rt: HostRuntime) -> Result<(), Fail> {
             ensures { IsIdleSeat shared.entry.now result }
         { run(shared, second, task) },
     );
-    let cores = join(
-        &rt,
-        move || -> CoreSeat
-            requires { IsIdleSeat shared.now first × (0 < tree_count (key_at shared.now)) }
-            ensures { IsIdleSeat shared.entry.now result }
-        { run(shared, first, task) },
-        move || -> CoreSeat
-            requires { IsIdleSeat shared.now second × (0 < tree_count (key_at shared.now))
-                × IfSome block (IsOut shared.now) }
-            ensures { IsIdleSeat shared.entry.now result }
-        { give_and_run(shared, second, block, task) },
-    );
+    let cores = give_and_run_both(&rt, shared, (first, second), block, task);
     let image = closed(rt.alloc(), table, seats, cores)?;
     assert_all_free(&rt, &image);
     Ok(())

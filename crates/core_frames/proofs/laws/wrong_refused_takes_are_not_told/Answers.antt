@@ -1,4 +1,4 @@
-use Rattle.std.proofs.Common.{◌≡◌, ◌≤◌, List, ℕ, arith}
+use Rattle.std.proofs.Common.{arith}
 use Rattle.core_frames.proofs.laws.wrong_refused_takes_are_not_told.Goals as goal
 
 pub returns : goal.returns

@@ -1,4 +1,4 @@
-use Rattle.std.proofs.Common.{◌≡◌, ◌≤◌, ℕ, ◌*◌, ◌-◌, List, ap, ◌∙◌, arith}
+use Rattle.std.proofs.Common.{◌≡◌, ◌≤◌, ℕ, ◌*◌, ◌-◌, List, refl, ap, arith}
 use Rattle.frame_words.specs.Geometry.{trees_for}
 use Rattle.frame_model.specs.Key.{tree_count}
 use Rattle.low_frames.specs.Alone.{FindsOf}
@@ -11,15 +11,15 @@ use Rattle.core_frames.proofs.SearchSteps.{searched_twice}
 use Rattle.core_frames.proofs.AloneSearch.{tried_all}
 use Rattle.core_frames.proofs.search.trees.take_anywhere.Goals as goal
 
-pub take_between-requires : goal.take_between-requires
-take_between-requires g c =
+pub take_onward-requires : goal.take_onward-requires
+take_onward-requires g c =
     let m = g.M.Moves.at c.args.m.now in
-    let all : c.trees.result ≡ tree_count m.key = c.trees.ensures.value ∙ ap trees_for c.geometry-geometry.ensures.0 in
+    let all : trees_for c.geometry-geometry.result.children ≡ tree_count m.key = ap trees_for c.geometry-geometry.ensures.0 in
     record {
       core = c.requires.core;
       order = c.requires.order;
-      begins = omega (arith, c.first_tree-start.ensures, c.trees.ensures.value);
-      ends = omega (arith, all);
+      begins = omega (arith, c.first_tree-start.ensures, all);
+      ends = omega arith;
       idle = c.requires.idle;
     }
 
@@ -27,12 +27,11 @@ pub returns-in-Some : goal.returns-in-Some
 returns-in-Some g c =
     let M = g.M.Moves in
     let m = M.at c.args.m.now in
-    let all : c.trees.result ≡ tree_count m.key = c.trees.ensures.value ∙ ap trees_for c.geometry-geometry.ensures.0 in
     let now = c.in-Some.ensures in
     record {
       keeps = now.keeps;
-      counts = wider M.tick M.is_exact g.met.M.Moves.ticks (most_visit * (c.trees.result - c.first_tree-start.result)) (most_in_pass m.key)
-          (omega (arith, all)) now.counts;
+      counts = wider M.tick M.is_exact g.met.M.Moves.ticks (most_visit * (tree_count m.key - c.first_tree-start.result)) (most_in_pass m.key)
+          (omega arith) now.counts;
       sure = now.sure;
       some = now.some;
       none = tt;
@@ -42,19 +41,19 @@ pub returns : goal.returns
 returns g c =
     let M = g.M.Moves in
     let m = M.at c.args.m.now in
-    let u = M.at c.take_between.new.m in
-    let w = M.at c.take_between-2.new.m in
+    let u = M.at c.take_onward.new.m in
+    let w = M.at c.take_between.new.m in
     let E = c.args.pass ≡ AnyFree in
     let start = c.first_tree-start.result in
-    let trees = c.trees.result in
-    let all : trees ≡ tree_count m.key = c.trees.ensures.value ∙ ap trees_for c.geometry-geometry.ensures.0 in
-    let low : start ≤ trees = omega (arith, c.first_tree-start.ensures, c.trees.ensures.value) in
+    let trees = tree_count m.key in
+    let all : trees_for c.geometry-geometry.result.children ≡ tree_count m.key = ap trees_for c.geometry-geometry.ensures.0 in
+    let low : start ≤ trees = omega (arith, c.first_tree-start.ensures, all) in
     let one = c.in_default.ensures in
     searched_twice g.met.M.Moves.ticks {a = m} {b = u} {c = w} (trees - start)
-    (start - 0) (tree_count m.key) (most_visit * (trees - start)) (most_visit * (start - 0))
+    (start - 0) trees (most_visit * (trees - start)) (most_visit * (start - 0))
     (most_in_pass m.key)
-    (omega (arith, low, all)) (omega (arith, low, all)) one
+    (omega (arith, low)) (omega (arith, low)) one
     (λ alone. keeps_found m.key (λ (ws : List ℕ). E → WereTried m.key c.args.order start trees ws) m.words u.words (one.none.alone alone))
-    (FindsOf (λ (ws : List ℕ). E → WereTried m.key c.args.order 0 (tree_count m.key) ws))
-    (λ x y. tried_all m.key u.key E c.args.order start trees m.words u.words w.words one.keeps.same_key all x y)
-    c.take_between-2.ensures
+    (FindsOf (λ (ws : List ℕ). E → WereTried m.key c.args.order 0 trees ws))
+    (λ x y. tried_all m.key u.key E c.args.order start trees m.words u.words w.words one.keeps.same_key refl x y)
+    c.take_between.ensures

@@ -39,5 +39,5 @@ returns c =
         about = search rules;
         is_block = subst (IsBlock key) (sym is) (All-contains (IsBlock key) kept b blocks c.requires);
       };
-      reads = c.cut_as-seat.ensures.read;
+      reads = c.cut_as-seat.ensures.reads;
     }

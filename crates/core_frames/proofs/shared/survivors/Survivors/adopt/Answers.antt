@@ -11,8 +11,8 @@ use Rattle.core_frames.specs.LeftFrames.{Shows, IsShown}
 use Rattle.core_frames.proofs.LeftLemmas.{shown_is_left, left_is_shown, shows_without}
 use Rattle.core_frames.proofs.shared.survivors.Survivors.adopt.Goals as goal
 
-pub returns-then-not-is_shown-clause-adopts : goal.returns-then-not-is_shown-clause-adopts
-returns-then-not-is_shown-clause-adopts c =
+pub returns-then-not-shows-clause-adopts : goal.returns-then-not-shows-clause-adopts
+returns-then-not-shows-clause-adopts c =
     let s = c.args.self.now in
     let key = memory_of c.args.allocator.now in
     let b = block c.args.frame c.args.order in
@@ -23,7 +23,7 @@ returns-then-not-is_shown-clause-adopts c =
     (left_is_shown key (sizes_of key s.geometry is.sizes) s.left.bits.items s.left.huge.items (left_blocks s) is.shown b l) in
     record {
       ok = tt;
-      err = (inr (refl, omega (arith, c.if-order-gt-HUGE_ORDER.false), λ l. c.if-not-is_shown.ensures (shown l)), refl);
+      err = (inr (refl, omega (arith, c.if-order-gt-HUGE_ORDER.false), λ l. c.if-not-shows.ensures (shown l)), refl);
     }
 
 pub part-requires-clause-block : goal.part-requires-clause-block
@@ -35,7 +35,7 @@ part-requires-clause-block c =
     let frames = c.frames.ensures.value ∙ is.sizes.2 in
     shown_is_left key (sizes_of key s.geometry is.sizes) s.left.bits.items s.left.huge.items (left_blocks s) is.shown b
     (omega (arith, c.if-order-gt-HUGE_ORDER.false))
-    (subst (λ n. IsShown n s.left.bits.items s.left.huge.items b) frames c.if-not-is_shown.ensures)
+    (subst (λ n. IsShown n s.left.bits.items s.left.huge.items b) frames c.if-not-shows.ensures)
 
 pub returns-clause-survivors : goal.returns-clause-survivors
 returns-clause-survivors c =
@@ -45,10 +45,10 @@ returns-clause-survivors c =
     let is = c.requires in
     let frames = c.frames.ensures.value ∙ is.sizes.2 in
     let sizes = sizes_of key s.geometry is.sizes in
-    let new = c.clear_block.new.left in
+    let new = c.clear_block.new.self in
     let was = shown_is_left key sizes s.left.bits.items s.left.huge.items (left_blocks s) is.shown b
     (omega (arith, c.if-order-gt-HUGE_ORDER.false))
-    (subst (λ n. IsShown n s.left.bits.items s.left.huge.items b) frames c.if-not-is_shown.ensures) in
+    (subst (λ n. IsShown n s.left.bits.items s.left.huge.items b) frames c.if-not-shows.ensures) in
     let own : (ground_view c.part.new.self).own ≡ without b (left_blocks s) = ap (λ (v : View). v.own) c.part.ensures.view in
     record {
       seat = c.part.ensures.seat;
@@ -67,7 +67,7 @@ returns-clause-adopts c =
     let frames = c.frames.ensures.value ∙ is.sizes.2 in
     let was = shown_is_left key (sizes_of key s.geometry is.sizes) s.left.bits.items s.left.huge.items (left_blocks s) is.shown b
     (omega (arith, c.if-order-gt-HUGE_ORDER.false))
-    (subst (λ n. IsShown n s.left.bits.items s.left.huge.items b) frames c.if-not-is_shown.ensures) in
+    (subst (λ n. IsShown n s.left.bits.items s.left.huge.items b) frames c.if-not-shows.ensures) in
     record {
       ok = (
         record { was_left = was; is_block = c.part.ensures.block.0; is_out = c.part.ensures.block.1 },

@@ -1,4 +1,4 @@
-use Rattle.std.proofs.Common.{ℕ, ◌+◌, ◌%◌, ◌^◌, None, arith, sym, subst}
+use Rattle.std.proofs.Common.{ℕ, ◌+◌, ◌-◌, ◌%◌, ◌^◌, None, arith, sym, subst}
 use Rattle.atomic_table.specs.Table.{Allows, step}
 use Rattle.frame_model.specs.Steps.{effect, next}
 use Rattle.frame_table.specs.Rule.{Holds, IsChangedAs, IsFoundIn}
@@ -7,47 +7,47 @@ use Rattle.frame_model.proofs.Steps.Untouched.{untouched}
 use Rattle.frame_table.proofs.Effects.{place_inside}
 use Rattle.frame_table.proofs.Lifting.{change_allows}
 use Rattle.frame_table.proofs.Becoming.{Stepped, changed, stays}
-use Rattle.frame_table.proofs.steps.add_as.Given as given
-use Rattle.frame_table.proofs.steps.add_as.Goals as goal
+use Rattle.frame_table.proofs.seats.CoreSeat.sub_as.Given as given
+use Rattle.frame_table.proofs.seats.CoreSeat.sub_as.Goals as goal
 
-pub fetch_add-requires : goal.fetch_add-requires
-fetch_add-requires g c =
+pub fetch_sub-requires : goal.fetch_sub-requires
+fetch_sub-requires g c =
     let t = c.args.table.now in
-    let seat = c.args.seat.now.seat in
+    let seat = c.args.self.now.seat in
     let sits = c.requires.may.sits.at in
     let kind = g.P.Stepping.kind in
     let slots = t.grid.shared.table_id.slots in
-    let turn : ℕ → ℕ = λ old. (old + c.args.n) % 2 ^ 64 in
-    let inside = place_inside (key_at t) kind (view_of c.args.seat.now) c.requires.may.may in
+    let turn : ℕ → ℕ = λ old. (old + (2 ^ 64 - c.args.n)) % 2 ^ 64 in
+    let inside = place_inside (key_at t) kind (view_of c.args.self.now) c.requires.may.may in
     let At : ℕ → Type 0 = λ i. Allows (Holds t.grid.shared.key) slots seat.id seat.me i turn
     (IsChangedAs kind (step slots i c.args.n 0 mathlib.Core.Option.none) seat.me) in (
       sits.table,
       omega (arith, t.words, c.requires.may.word, inside),
       subst At (sym c.requires.may.word)
           (change_allows t.grid.shared.key slots seat.id seat.me sits.bare sits.about kind (omega (arith, c.requires.may.sits.one))
-          c.requires.may.may c.args.n turn c.requires.always (λ old h found. c.requires.left old h)),
+          c.requires.may.may c.args.n turn c.requires.always c.requires.left),
     )
 
-after : (g : given.Over) (c : goal.After-fetch_add g)
-    → Stepped (id_of c.args.table.now) (key_at c.args.table.now) c.fetch_add.new.seat.table_id c.args.seat.now.seat.me
-    c.fetch_add.new.seat.me c.args.word None (effect next g.P.Stepping.kind c.fetch_add.result (view_of c.args.seat.now))
+after : (g : given.Over) (c : goal.After-fetch_sub g)
+    → Stepped (id_of c.args.table.now) (key_at c.args.table.now) c.fetch_sub.new.seat.table_id c.args.self.now.seat.me
+    c.fetch_sub.new.seat.me c.args.word None (effect next g.P.Stepping.kind c.fetch_sub.result (view_of c.args.self.now))
 after g c =
     let t = c.args.table.now in
-    let seat = c.args.seat.now.seat in
-    changed (id_of t) (key_at t) seat.table_id c.fetch_add.new.seat.table_id seat.me c.fetch_add.new.seat.me c.requires.may.sits.at
-    c.fetch_add.ensures.0 c.args.word g.P.Stepping.kind t.grid.shared.table_id.slots c.args.n c.fetch_add.result c.fetch_add.ensures.2
+    let seat = c.args.self.now.seat in
+    changed (id_of t) (key_at t) seat.table_id c.fetch_sub.new.seat.table_id seat.me c.fetch_sub.new.seat.me c.requires.may.sits.at
+    c.fetch_sub.ensures.0 c.args.word g.P.Stepping.kind t.grid.shared.table_id.slots c.args.n c.fetch_sub.result c.fetch_sub.ensures.2
 
 pub returns : goal.returns
 returns g c =
     let t = c.args.table.now in
     let kind = g.P.Stepping.kind in
     let a = after g c in
-    let found = c.fetch_add.result in
-    let old = c.args.seat.now in record {
-      stays = stays t old c.requires.may.sits kind c.args.word c.requires.may.word c.fetch_add.new.seat None
+    let found = c.fetch_sub.result in
+    let old = c.args.self.now in record {
+      stays = stays t old c.requires.may.sits kind c.args.word c.requires.may.word c.fetch_sub.new.seat None
           (effect next kind found (view_of old)) (untouched next kind found (view_of old)).share
           (untouched next kind found (view_of old)).is_ground a;
       view = a.view;
       lawful = subst (λ i. IsFoundIn (key_at t) i found) c.requires.may.word
-          (c.fetch_add.ensures.2.0 (key_at t) c.requires.may.sits.at.about);
+          (c.fetch_sub.ensures.2.0 (key_at t) c.requires.may.sits.at.about);
     }

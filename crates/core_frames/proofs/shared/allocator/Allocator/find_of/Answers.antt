@@ -3,7 +3,7 @@ use Rattle.core_frames.specs.Bounds.{most_in_own_tree, most_elsewhere}
 use Rattle.core_frames.specs.Cores.{memory_of, lent_by, losses_by}
 use Rattle.std.specs.Prelude.{nat_lt, IfNone}
 use Rattle.core_frames.proofs.FoundLemmas.{found_elsewhere}
-use Rattle.core_frames.proofs.shared.allocator.Allocator.find.Goals as goal
+use Rattle.core_frames.proofs.shared.allocator.Allocator.find_of.Goals as goal
 
 pub returns-in-None-clause-finds : goal.returns-in-None-clause-finds
 returns-in-None-clause-finds c =
