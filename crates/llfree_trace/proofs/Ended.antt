@@ -209,18 +209,25 @@ module _ (a : Allocator) (ds : List Desk) (image : Contents) (sealed : (memory_o
       let under : memory_of a ≡ key_under lines image = is ∙ ap (λ (g : Geometry). sealed_key g (ranges_in lines)) (sym same) in
       subst (λ (k : Key). AddsUp k image.words) under closing.tells.adds_up
 
-  -- so the answers are those of a run of the records
+  -- so the answers of a run of the records are theirs
+  pub runs_answered : (geometry : Geometry) (lines : List Line) (old : List Desk) (answers : List Answer)
+      → memory_of a ≡ sealed_key geometry (ranges_in lines)
+      → Runs MayRefuse (memory_of a) 1 (lists_at old) lines answers (lists_at ds) → lists_at old ≡ replicate geometry.cores []
+      → IsAnsweredBy MayRefuse lines answers image
+  runs_answered geometry lines old answers is runs begins =
+      let same : image.geometry ≡ geometry = image_is geometry (ranges_in lines) is in
+      let under : memory_of a ≡ key_under lines image = is ∙ ap (λ (g : Geometry). sealed_key g (ranges_in lines)) (sym same) in
+      record {
+        lists = lists_at ds;
+        runs = subst (λ (k : Key). Runs MayRefuse k 1 (replicate image.geometry.cores []) lines answers (lists_at ds)) under
+            (rw (same, ← begins) runs);
+        disjoint = subst (λ (k : Key). IsHolding k (all_blocks (lists_at ds))) under lists_apart;
+        holds = subst (λ (k : Key). HoldsFrames k image.words (all_blocks (lists_at ds) ++ boot_blocks k)) under holds_lists;
+      }
+
   pub is_answered : (geometry : Geometry) (lines : List Line) (old new : Progress) → memory_of a ≡ sealed_key geometry (ranges_in lines)
       → GoesOn a 1 lines old new → new.desks.items ≡ ds → old.answers.items ≡ [] → lists_at old.desks.items ≡ replicate geometry.cores []
       → IsAnsweredBy MayRefuse lines new.answers.items image
   is_answered geometry lines old new is goes end empty begins =
-      let same : image.geometry ≡ geometry = image_is geometry (ranges_in lines) is in
-      let under : memory_of a ≡ key_under lines image = is ∙ ap (λ (g : Geometry). sealed_key g (ranges_in lines)) (sym same) in
       let answers : new.answers.items ≡ goes.answers = goes.grows ∙ ap (λ (l : List Answer). l ++ goes.answers) empty in
-      record {
-        lists = lists_at ds;
-        runs = subst (λ (k : Key). Runs MayRefuse k 1 (replicate image.geometry.cores []) lines new.answers.items (lists_at ds)) under
-            (rw (answers, same, ← begins, ← end) goes.runs);
-        disjoint = subst (λ (k : Key). IsHolding k (all_blocks (lists_at ds))) under lists_apart;
-        holds = subst (λ (k : Key). HoldsFrames k image.words (all_blocks (lists_at ds) ++ boot_blocks k)) under holds_lists;
-      }
+      runs_answered geometry lines old.desks.items new.answers.items is (rw (answers, ← end) goes.runs) begins

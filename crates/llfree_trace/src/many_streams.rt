@@ -1,6 +1,10 @@
 //! Runs on several cores from a reader to a writer.
 
-ghost use Rattle.std.specs.Prelude.{◌≡◌, IfErr, IfOk};
+ghost use Rattle.std.specs.Prelude.{◌≡◌, IfErr, IfOk, OnErr, OnOk};
+ghost use Rattle.std.specs.Io.KnownBytes.{Appends};
+ghost use Rattle.std.specs.List.{flat_map};
+ghost use Rattle.std.specs.Result.{is_err};
+ghost use Rattle.frame_image.specs.Devices.{WritesFront, device_of, has_failed};
 ghost use Rattle.held_blocks.specs.Desk.{MayRefuse};
 ghost use Rattle.llfree_trace.specs.RunText.{ExplainsRun, IsRunOf, shown_of};
 ghost use Rattle.llfree_trace.specs.Streams.{Filters};
@@ -8,7 +12,8 @@ ghost use Rattle.llfree_trace.specs.Streams.{Filters};
 use crate::gate::Gate;
 use crate::many_cores::run_trace;
 use crate::outcome::Outcome;
-use crate::streams::{Show, frames_at_end};
+use crate::round_in_parts::run_in_parts;
+use crate::streams::{Show, frames_in};
 use frame_image::{Watched, image_text, read_all, write_out};
 use frame_words::{Fault, Geometry};
 use std::alloc::Global;
@@ -36,10 +41,28 @@ pub fn run_many_over<Rt: Threads + Wait, G: Gate, R: Read, W: Write>(
 {
     let text = read_all(alloc, input)?;
     let shown = run_many_text(rt, alloc, geometry, show, gate, text.as_slice())?;
-    write_out(output, shown.as_slice())
+    write_pieces(output, shown.as_slice())
 }
 
-// What a run of the trace that the text spells shows.
+// Writes the pieces of a text, one behind the other.
+fn write_pieces<W: Write>(output: &mut Watched<W>, pieces: &[Vec<u8>]) -> Result<(), Fault>
+    ensures all { OnOk result (Appends (W.contents (device_of output.old))
+        (W.contents (device_of output.new)) (flat_map (λ t. t.items) pieces.now)) }
+    ensures sound { has_failed output.new ≡ is_err result }
+    ensures fault { IfErr result (λ e. e ≡ Fault.WriteFailed) }
+    ensures front { OnErr result (WritesFront (W.contents (device_of output.old))
+        (W.contents (device_of output.new)) (flat_map (λ t. t.items) pieces.now)) }
+{
+    if output.failed() {
+        return Err(Fault::WriteFailed);
+    }
+    for piece in pieces {
+        write_out(output, piece.as_slice())?;
+    }
+    Ok(())
+}
+
+// What a run of the trace that the text spells shows, in pieces.
 fn run_many_text<Rt: Threads + Wait, G: Gate>(
     rt: &Rt,
     alloc: Global,
@@ -47,13 +70,20 @@ fn run_many_text<Rt: Threads + Wait, G: Gate>(
     show: Show,
     gate: &G,
     text: &[u8],
-) -> Result<Vec<u8>, Fault>
-    ensures ok { IfOk result (λ out. IsRunOf MayRefuse geometry show text.now out.items) }
+) -> Result<Vec<Vec<u8>>, Fault>
+    ensures ok { IfOk result (λ out.
+        IsRunOf MayRefuse geometry show text.now (flat_map (λ t. t.items) out.items)) }
     ensures err { IfErr result (ExplainsRun geometry text.now) }
 {
-    let trace = parse_parts(rt, alloc, &geometry, text)?;
-    let outcome = run_trace(rt, alloc, geometry, &trace, gate)?;
-    shown_apart(rt, alloc, show, &outcome)
+    let parts = parse_parts(rt, alloc, &geometry, text)?;
+    if parts.len() != 1 {
+        return run_in_parts(rt, alloc, geometry, show, parts.as_slice(), gate);
+    }
+    let outcome = run_trace(rt, alloc, geometry, &parts[0], gate)?;
+    let text = shown_apart(rt, alloc, show, &outcome)?;
+    let mut pieces = Vec::new(alloc);
+    pieces.push(text)?;
+    Ok(pieces)
 }
 
 // What is shown of an outcome. The text of many answers is made on as many threads as there are cores.
@@ -69,7 +99,7 @@ fn shown_apart<Rt: Threads + Wait>(
 {
     match show {
         Show::Answers => {
-            let (held, free) = frames_at_end(outcome);
+            let (held, free) = frames_in(&outcome.image);
             let threads = outcome.image.geometry().cores() as usize;
             answers_apart(rt, alloc, outcome.answers.as_slice(), held, free, threads)
         }

@@ -48,8 +48,8 @@ pub fn run_program<Rt: Threads + Wait, I: Read, O: Write, E: Write>(
         × (has_failed input.new ≡ false) × (has_failed output.new ≡ false) }
 
     // The usage text comes for just the words that are no command, and nothing else is done.
-    ensures usage_text { (result ≡ 2) ↔ IsNoCommand (map string_bytes words.now) }
-    ensures usage { result ≡ 2 → (input.new ≡ input.old) × (output.new ≡ output.old) }
+    ensures usage { ((result ≡ 2) ↔ IsNoCommand (map string_bytes words.now))
+        × (result ≡ 2 → (input.new ≡ input.old) × (output.new ≡ output.old)) }
 
     // Sizes that no memory has are refused before anything is read.
     ensures bad_sizes { HasBadSizes (map string_bytes words.now)

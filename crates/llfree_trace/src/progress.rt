@@ -12,6 +12,7 @@ ghost use Rattle.trace_text.specs.declared.line.Line.{Line as OneLine};
 
 use crate::gate::Gate;
 use crate::merge::answer_round;
+use crate::stretches::Stretch;
 use crate::transfers::move_block;
 use core_frames::{Allocator, Desk};
 use frame_words::Fault;
@@ -45,7 +46,8 @@ pub(crate) fn run_all<G: Gate, R: Threads + Wait>(
     ensures fault { IfErr result (λ e. e ≡ Fault.NoMemory) }
 {
     if trace.is_one_round() {
-        return run_asks(rt, alloc, allocator, gate, start, 1, trace.lines());
+        let lines = trace.lines();
+        return run_asks(rt, alloc, allocator, gate, start, (1, lines));
     }
     run_rounds(rt, alloc, allocator, gate, start, trace.lines())
 }
@@ -93,8 +95,7 @@ fn run_part<G: Gate, R: Threads + Wait>(
     requires desks { All (IsDeskOf allocator.now) progress.desks.items }
     requires sealed { (memory_of allocator.now).sealed ≡ true }
     requires inside { All (λ l. cores_in l ≤ vec_len progress.desks) lines.now }
-    requires some { 0 < length lines.now }
-    requires end { number + length lines.now ≤ 2_000_000 }
+    requires lines { (0 < length lines.now) × (number + length lines.now ≤ 2_000_000) }
     ensures goes { IfOk result (λ r.
         GoesOnBy allocator.now number lines.now progress r.0 r.1) }
     ensures fault { IfErr result (λ e. e ≡ Fault.NoMemory) }
@@ -104,15 +105,8 @@ fn run_part<G: Gate, R: Threads + Wait>(
         let next = run_mark(allocator, progress, number, &lines[0])?;
         return Ok((next, 1));
     }
-    let next = run_asks(
-        rt,
-        alloc,
-        allocator,
-        gate,
-        progress,
-        number,
-        &lines[..count],
-    )?;
+    let stretch = (number, &lines[..count]);
+    let next = run_asks(rt, alloc, allocator, gate, progress, stretch)?;
     Ok((next, count))
 }
 
@@ -140,17 +134,17 @@ fn run_asks<G: Gate, R: Threads + Wait>(
     allocator: &Allocator,
     gate: &G,
     progress: Progress,
-    number: u32,
-    lines: &[Line],
+    stretch: Stretch,
 ) -> Result<Progress, Fault>
     requires few { vec_len progress.desks ≤ 64 }
-    requires all { MayRunAll allocator.now progress.desks.items number lines.now }
-    requires inside { All (λ l. cores_in l ≤ vec_len progress.desks) lines.now }
-    ensures goes { IfOk result (λ p. GoesOn allocator.now number lines.now progress p) }
+    requires all { MayRunAll allocator.now progress.desks.items (stretch ∷ []) }
+    requires inside { All (λ l. cores_in l ≤ vec_len progress.desks) stretch.1.now }
+    ensures goes { IfOk result (λ p.
+        GoesOn allocator.now stretch.entry.0 stretch.entry.1.now progress p) }
     ensures fault { IfErr result (λ e. e ≡ Fault.NoMemory) }
 {
     let Progress { desks, answers } = progress;
-    let (desks, more) = answer_round(rt, alloc, allocator, gate, desks, number, lines)?;
+    let (desks, more) = answer_round(rt, alloc, allocator, gate, desks, stretch)?;
     let answers = joined(answers, more)?;
     Ok(Progress { desks, answers })
 }

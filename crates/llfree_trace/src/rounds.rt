@@ -1,10 +1,11 @@
 //! A round: the requests of each core on a thread of their own.
 
 ghost use Rattle.std.specs.Prelude.{◌≡◌, ◌+◌, ◌≤◌, vec_len, IfOk, IfErr};
-ghost use Rattle.llfree_trace.specs.Rounds.{IsPromiseOf, MayRun, MayRunAll, asks_from, Ran, RanAll};
+ghost use Rattle.llfree_trace.specs.Rounds.{IsPromiseOf, MayRun, MayRunAll, Ran, RanAll};
 
 use crate::gate::Gate;
 use crate::lines::{Done, has_lines, run_lines};
+use crate::stretches::Stretch;
 use core_frames::{Allocator, Desk};
 use frame_words::Fault;
 use std::alloc::Global;
@@ -12,7 +13,6 @@ use std::snapshot::Snapshot;
 use std::sync::Wait;
 use std::thread;
 use std::thread::{Promise, PromisedHandle, Scope, Threads};
-use trace_text::Line;
 
 /// What a core's thread promises: that the core's requests ran, from the desk that it was given.
 #[derive(Drop)]
@@ -20,17 +20,16 @@ pub(crate) struct Running<'a> {
     allocator: &'a Allocator,
     core: u32,
     was: Snapshot<Desk>,
-    first: u32,
-    lines: &'a [Line],
+    stretches: &'a [Stretch<'a>],
 }
 
 impl<'a> Promise<Result<Done, Fault>> for Running<'a> {
     ghost use Rattle.std.specs.Prelude.{◌≡◌, IfOk, IfErr};
     ghost use Rattle.frame_words.specs.declared.fault.Fault.TheVariants.{NoMemory};
-    ghost use Rattle.llfree_trace.specs.Rounds.{asks_from, Ran};
+    ghost use Rattle.llfree_trace.specs.Rounds.{Ran};
 
     ghost kept_by = { λ p r.
-        IfOk r (λ d. Ran p.allocator.now p.core p.was.value (asks_from p.first p.lines.now) d)
+        IfOk r (λ d. Ran p.allocator.now p.core p.was.value p.stretches.now d)
         × IfErr r (λ e. e ≡ NoMemory) };
 }
 
@@ -42,27 +41,25 @@ fn start<'s, E, G: Gate>(
     gate: &'s G,
     core: u32,
     desk: Desk,
-    first: u32,
-    lines: &'s [Line],
+    stretches: &'s [Stretch<'s>],
 ) -> Result<PromisedHandle<Result<Done, Fault>, Running<'s>>, Fault>
-    requires run { MayRun allocator.now desk first lines.now }
+    requires run { MayRun allocator.now desk stretches.now }
     ensures promise { IfOk result (λ h.
-        IsPromiseOf allocator.now core desk first lines.now h.promise) }
+        IsPromiseOf allocator.now core desk stretches.now h.promise) }
     ensures fault { IfErr result (λ e. e ≡ Fault.NoMemory) }
 {
     let promise = Running {
         allocator,
         core,
         was: Snapshot::of(&desk),
-        first,
-        lines,
+        stretches,
     };
     let run = move || -> Result<Done, Fault>
-        requires { MayRun allocator.now desk first lines.now }
+        requires { MayRun allocator.now desk stretches.now }
         ensures ran { IfOk result (λ d.
-            Ran allocator.entry.now core desk (asks_from first lines.entry.now) d) }
+            Ran allocator.entry.now core desk stretches.entry.now d) }
         ensures fault { IfErr result (λ e. e ≡ Fault.NoMemory) }
-    { run_lines(alloc, allocator, gate, core, desk, first, lines) };
+    { run_lines(alloc, allocator, gate, core, desk, stretches) };
     match scope.spawn_with(promise, run) {
         Ok(child) => Ok(child),
         Err(_) => Err(Fault::NoMemory),
@@ -78,28 +75,27 @@ fn run_cores<'s, E, G: Gate, R: Threads>(
     allocator: &'s Allocator,
     gate: &'s G,
     mut desks: Vec<Desk>,
-    first: u32,
-    lines: &'s [Line],
+    stretches: &'s [Stretch<'s>],
 ) -> Result<Vec<Done>, Fault>
     requires few { vec_len desks ≤ 64 }
-    requires all { MayRunAll allocator.now desks.items first lines.now }
+    requires all { MayRunAll allocator.now desks.items stretches.now }
     ensures ran { IfOk result (λ all.
-        RanAll allocator.now 0 desks.items (asks_from first lines.now) all.items) }
+        RanAll allocator.now 0 desks.items stretches.now all.items) }
     ensures fault { IfErr result (λ e. e ≡ Fault.NoMemory) }
 {
     let Some(desk) = desks.pop() else {
         return Ok(Vec::new(alloc));
     };
     let core = desks.len() as u32;
-    if !has_lines(core, lines) {
-        let mut all = run_cores(scope, rt, alloc, allocator, gate, desks, first, lines)?;
+    if !has_lines(core, stretches) {
+        let mut all = run_cores(scope, rt, alloc, allocator, gate, desks, stretches)?;
         let answers = Vec::new(alloc);
         all.push(Done { desk, answers })?;
         return Ok(all);
     }
-    let child = start(scope, alloc, allocator, gate, core, desk, first, lines)?;
+    let child = start(scope, alloc, allocator, gate, core, desk, stretches)?;
     // No `?` here: the thread is joined first.
-    let others = run_cores(scope, rt, alloc, allocator, gate, desks, first, lines);
+    let others = run_cores(scope, rt, alloc, allocator, gate, desks, stretches);
     let done = child.join(rt);
     let mut all = others?;
     all.push(done?)?;
@@ -114,13 +110,12 @@ pub(crate) fn run_round<G: Gate, R: Threads + Wait>(
     allocator: &Allocator,
     gate: &G,
     desks: Vec<Desk>,
-    first: u32,
-    lines: &[Line],
+    stretches: &[Stretch],
 ) -> Result<Vec<Done>, Fault>
     requires few { vec_len desks ≤ 64 }
-    requires all { MayRunAll allocator.now desks.items first lines.now }
+    requires all { MayRunAll allocator.now desks.items stretches.now }
     ensures ran { IfOk result (λ all.
-        RanAll allocator.now 0 desks.items (asks_from first lines.now) all.items) }
+        RanAll allocator.now 0 desks.items stretches.now all.items) }
     ensures fault { IfErr result (λ e. e ≡ Fault.NoMemory) }
 {
     thread::scope(
@@ -128,10 +123,10 @@ pub(crate) fn run_round<G: Gate, R: Threads + Wait>(
         rt,
         |scope| -> Result<Vec<Done>, Fault>
             requires few { vec_len desks ≤ 64 }
-            requires all { MayRunAll allocator.now desks.items first lines.now }
+            requires all { MayRunAll allocator.now desks.items stretches.now }
             ensures ran { IfOk result (λ all. RanAll allocator.entry.now 0 desks.items
-                (asks_from first lines.entry.now) all.items) }
+                stretches.entry.now all.items) }
             ensures fault { IfErr result (λ e. e ≡ Fault.NoMemory) }
-        { run_cores(scope, rt, alloc, allocator, gate, desks, first, lines) },
+        { run_cores(scope, rt, alloc, allocator, gate, desks, stretches) },
     )
 }

@@ -9,6 +9,7 @@ ghost use Rattle.llfree_trace.specs.Streams.{Filters};
 
 use crate::one_core::run_one;
 use crate::outcome::Outcome;
+use frame_core::Image;
 use frame_image::{Watched, held_frames, image_text, read_all, write_out};
 use frame_words::{CHILD_FRAMES, Fault, Geometry};
 use std::alloc::Global;
@@ -72,16 +73,16 @@ fn outcome_text(alloc: Global, outcome: &Outcome) -> Result<Vec<u8>, Fault>
         outcome.now.image) }
     ensures fault { IfErr result (λ e. e ≡ Fault.NoMemory) }
 {
-    let (held, free) = frames_at_end(outcome);
+    let (held, free) = frames_in(&outcome.image);
     answers_text(alloc, outcome.answers.as_slice(), held, free)
 }
 
-/// How many frames are held and free at the end of a run.
-pub(crate) fn frames_at_end(outcome: &Outcome) -> (u32, u32)
-    ensures held { result.0 ≡ frames_held (key_in outcome.now.image) outcome.now.image.words }
-    ensures free { result.1 ≡ frames_free (key_in outcome.now.image) outcome.now.image.words }
+/// How many frames of an image are held and free.
+pub(crate) fn frames_in(image: &Image) -> (u32, u32)
+    ensures held { result.0 ≡ frames_held (key_in image.now) image.now.words }
+    ensures free { result.1 ≡ frames_free (key_in image.now) image.now.words }
 {
-    let held = held_frames(&outcome.image);
-    let free = CHILD_FRAMES * outcome.image.geometry().children() - held;
+    let held = held_frames(image);
+    let free = CHILD_FRAMES * image.geometry().children() - held;
     (held, free)
 }

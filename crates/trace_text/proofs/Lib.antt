@@ -5,5 +5,7 @@ pub mod Parsing
 pub mod Cutting
 pub mod Joining
 pub mod InParts
+pub mod RoundParts
 pub mod PlainRows
 pub mod AnswerRows
+pub mod Spelling

@@ -3,3 +3,4 @@ pub mod TraceText
 pub mod PlainRows
 pub mod Parts
 pub mod AnswerText
+pub mod Spelling

@@ -28,9 +28,9 @@ pub fn answers_text(
     Ok(text)
 }
 
-/// The text of answers, a record each.
+/// The text of answers, a record each, and no last one.
 #[tactic(auto, unfolding(crate::specs::AnswerText::answer_rows_text))]
-pub(crate) fn rows_text(alloc: Global, answers: &[Answer]) -> Result<Vec<u8>, Fault>
+pub fn rows_text(alloc: Global, answers: &[Answer]) -> Result<Vec<u8>, Fault>
     ensures text { IfOk result (λ text. text.items ≡ answer_rows_text answers.now) }
     ensures fault { IfErr result (λ e. e ≡ Fault.NoMemory) }
 {

@@ -4,6 +4,7 @@
 mod answer_parts;
 mod answers;
 mod in_flight;
+mod laws;
 mod line;
 mod parser;
 mod parts;
@@ -12,7 +13,8 @@ mod reply;
 mod row;
 
 pub use answer_parts::answers_apart;
-pub use answers::answers_text;
+pub use answers::{answers_text, rows_text};
+pub use laws::every_trace_reads_back;
 pub use line::{Line, Request, Trace, number_after};
 pub use parser::parse_trace;
 pub use parts::parse_parts;

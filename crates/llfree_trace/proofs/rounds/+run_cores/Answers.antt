@@ -1,5 +1,4 @@
 use Rattle.std.proofs.Common.{rules, ◌≡◌, length, refl}
-use Rattle.llfree_trace.specs.Rounds.{asks_from}
 use Rattle.llfree_trace.proofs.Workers.{front_desks, last_ran, none_ran}
 use Rattle.llfree_trace.proofs.rounds.+run_cores.Goals as goal
 
@@ -7,29 +6,27 @@ pub start-requires-clause-run : goal.start-requires-clause-run
 start-requires-clause-run g t c κs within =
     let all = c.requires.all in
     let desk = (front_desks _ _ _ _ c.in-Some.ensures.items all.desks).1 in
-    record { desk = desk; sealed = all.sealed; asks = all.asks; few = all.few }
+    record { desk = desk; sealed = all.sealed; runnable = all.runnable }
 
 pub run_cores-others-requires-clause-all : goal.run_cores-others-requires-clause-all
 run_cores-others-requires-clause-all g t c κs within =
     let all = c.requires.all in
     let desks = (front_desks _ _ _ _ c.in-Some.ensures.items all.desks).0 in
-    record { desks = desks; sealed = all.sealed; asks = all.asks; few = all.few }
+    record { desks = desks; sealed = all.sealed; runnable = all.runnable }
 
 pub returns-then-not-has_lines-clause-ran : goal.returns-then-not-has_lines-clause-ran
 returns-then-not-has_lines-clause-ran g t c =
-    let asks = asks_from c.args.first c.args.lines.now in
     let core = c.len-core.result in
     let place : core ≡ length c.pop.new.self.items = search rules in
     let desk = (front_desks _ _ _ _ c.in-Some.ensures.items c.requires.all.desks).1 in
-    let one = none_ran c.args.allocator.now core c.args.first c.args.lines.now c.in-Some.desk _ desk c.if-not-has_lines.ensures refl
+    let one = none_ran c.args.allocator.now core c.args.stretches.now c.in-Some.desk _ desk c.if-not-has_lines.ensures refl
     c.new-answers.ensures.items in
-    last_ran _ _ _ asks _ _ core _ _ c.in-Some.ensures.items place c.in_ok-push.ensures.items c.in_ok-all.ensures.ran one
+    last_ran _ _ _ c.args.stretches.now _ _ core _ _ c.in-Some.ensures.items place c.in_ok-push.ensures.items c.in_ok-all.ensures.ran one
 
 pub returns-clause-ran : goal.returns-clause-ran
 returns-clause-ran g t c =
-    let asks = asks_from c.args.first c.args.lines.now in
     let core = c.len-core.result in
     let place : core ≡ length c.pop.new.self.items = search rules in
     let is = c.in_ok-child.ensures.promise in
-    let one = rw (is.allocator, is.core, is.was, is.first, is.lines) at c.in_ok-done.ensures.0 in
-    last_ran _ _ _ asks _ _ core _ _ c.in-Some.ensures.items place c.in_ok-push-2.ensures.items c.in_ok-all-2.ensures.ran one
+    let one = rw (is.allocator, is.core, is.was, is.stretches) at c.in_ok-done.ensures.0 in
+    last_ran _ _ _ c.args.stretches.now _ _ core _ _ c.in-Some.ensures.items place c.in_ok-push-2.ensures.items c.in_ok-all-2.ensures.ran one

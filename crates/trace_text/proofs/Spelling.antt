@@ -1,0 +1,204 @@
+-- The text of records reads as these records.
+use Rattle.std.specs.Prelude.{◌≢◌, ◌≤◌, codes, decimal, nat_lt}
+use Rattle.std.specs.List.{All, flat_map}
+use Rattle.std.proofs.Common.{◌≡◌, ◌∙◌, ◌<◌, ◌+◌, ◌%◌, ◌^◌, ◌∷◌, ◌++◌, [], ℕ, List, Some, Ok, ap, append_assoc, append-nil, arith, get_or, length, refl, sym, true}
+use Rattle.std.proofs.lemmas.Bool.{ne_eqb}
+use Rattle.std.proofs.lemmas.Bool.Decides.{nat_tests}
+use Rattle.std.proofs.lemmas.Fmt.{decimal_by_steps}
+use Rattle.std.proofs.lemmas.List.{length_push, length-append}
+use Rattle.std.proofs.lemmas.List.Elements.{All-cons, All-head, All-nil, All-tail}
+use Rattle.std.specs.Fmt.{digits}
+use Rattle.csv.specs.Machine.{next_record}
+use Rattle.csv.specs.Reading.{records_from, strip_bom}
+use Rattle.csv.specs.Writing.{default_writer, fields_text, is_blank, row_text}
+use Rattle.frame_words.specs.Geometry.{most_cores}
+use Rattle.held_blocks.specs.Label.{is_label, is_label_byte, label_of}
+use Rattle.frame_image.specs.Records.{read_records, records_of}
+use Rattle.frame_image.proofs.NumberLemmas.{number_below-decimal}
+use Rattle.trace_text.specs.PlainRows.{BeginsWith}
+use Rattle.trace_text.specs.Spelling.{IsRecord, IsSampleSpelled, IsTraceFor, TracesReadBack, fields_of, sample, spelled}
+use Rattle.trace_text.specs.Trace.{most_records}
+use Rattle.trace_text.specs.TraceText.{ask_of, give_at_of, give_of, last_line, line_after, line_of, lines_with, may_follow, move_of}
+use Rattle.trace_text.specs.TraceText.{record_of, request_of, reserve_of, round_of, take_of, trace_of}
+use Rattle.trace_text.specs.declared.line.Line.{Line}
+use Rattle.trace_text.specs.declared.line.Line.TheVariants as line
+use Rattle.trace_text.specs.declared.line.Request.TheVariants as request
+use Rattle.trace_text.proofs.Cutting.{records_of_row}
+use Rattle.trace_text.proofs.Parsing.{read_all, read_more}
+use Rattle.trace_text.proofs.PlainRows.{number_is_plain}
+
+-- a text that begins with another byte begins with no byte order mark
+other_byte : (c : ℕ) (cs : List ℕ) → c ≢ 239 → strip_bom (c ∷ cs) ≡ c ∷ cs
+unfolding strip_bom
+other_byte c [] other = refl
+other_byte c (a ∷ []) other = refl
+other_byte c (a ∷ b ∷ cs) other = rw (ne_eqb c 239 other) refl
+
+-- nor does one that begins with a number
+number_first : (n : ℕ) → n < 2 ^ 64 → (behind : List ℕ) → strip_bom (decimal n ++ behind) ≡ decimal n ++ behind
+number_first n small =
+    decimal_by_steps (λ m ds. (behind : List ℕ) → strip_bom (ds ++ behind) ≡ ds ++ behind)
+    (λ m low behind. other_byte (48 + m) behind (λ e. omega arith))
+    (λ m ds high before behind.
+    rw (append_assoc ds ((48 + m % 10) ∷ []) behind) (before ((48 + m % 10) ∷ behind)))
+    n small
+
+-- nor one that begins with a record whose first field is a number
+row_with_number : (n : ℕ) → n < 2 ^ 64 → (b c d behind : List ℕ)
+    → strip_bom (row_text default_writer (decimal n ∷ b ∷ c ∷ d ∷ []) ++ behind)
+    ≡ row_text default_writer (decimal n ∷ b ∷ c ∷ d ∷ []) ++ behind
+unfolding is_blank
+row_with_number n small b c d behind =
+    let e : row_text default_writer (decimal n ∷ b ∷ c ∷ d ∷ []) ++ behind
+    ≡ decimal n ++ (fields_text default_writer (b ∷ c ∷ d ∷ []) ++ (10 ∷ behind)) =
+    rw (number_is_plain n small) (simp append_assoc) in
+    rw e (number_first n small _)
+
+-- a record of a trace is read as itself, by its fields
+line_read : (cores : ℕ) (line : Line) → cores ≤ most_cores → IsRecord cores line → line_of cores (fields_of line) ≡ Some line
+unfolding IsRecord fields_of line_of record_of ask_of move_of reserve_of round_of request_of take_of give_of give_at_of label_of
+line_read cores (line.Ask core (request.Take label order)) few is =
+    rw (
+      number_below-decimal cores core is.0 (omega (arith, few, is.0)),
+      is.1,
+      number_below-decimal 256 order is.2 (omega (arith, is.2)),
+    ) refl
+line_read cores (line.Ask core (request.Give label)) few is =
+    rw (number_below-decimal cores core is.0 (omega (arith, few, is.0)), is.1) refl
+line_read cores (line.Ask core (request.GiveAt frame order)) few is =
+    rw (
+      number_below-decimal cores core is.0 (omega (arith, few, is.0)),
+      number_below-decimal (2 ^ 32) frame is.1 (omega (arith, is.1)),
+      number_below-decimal 256 order is.2 (omega (arith, is.2)),
+    ) refl
+line_read cores (line.Move core label to) few is =
+    rw (
+      number_below-decimal cores core is.0 (omega (arith, few, is.0)),
+      is.1,
+      number_below-decimal cores to is.2 (omega (arith, few, is.2)),
+    ) refl
+line_read cores line.Round few is = refl
+line_read cores (line.Reserve frame count) few is =
+    rw (
+      number_below-decimal (2 ^ 32) frame is.0 (omega (arith, is.0)),
+      number_below-decimal (2 ^ 32) count is.1 (omega (arith, is.1)),
+    ) refl
+
+-- and goes behind others where it may
+line_goes : (cores : ℕ) (front : List Line) (line : Line) → cores ≤ most_cores → IsRecord cores line
+    → length front < most_records → may_follow (last_line front) line ≡ true
+    → Some line ≡ line_after cores front (fields_of line)
+unfolding line_after
+line_goes cores front line few is room may =
+    let low : nat_lt (length front) most_records ≡ true = grind (arith, nat_tests) in
+    rw (low, line_read cores line few is, may) refl
+
+-- no record begins with a byte order mark
+row_unmarked : (cores : ℕ) (line : Line) (behind : List ℕ) → cores ≤ most_cores → IsRecord cores line
+    → strip_bom (row_text default_writer (fields_of line) ++ behind) ≡ row_text default_writer (fields_of line) ++ behind
+unfolding IsRecord fields_of is_blank fields_text
+row_unmarked cores (line.Ask core (request.Take label order)) behind few is =
+    row_with_number core (omega (arith, few, is.0)) (codes "take") label (decimal order) behind
+row_unmarked cores (line.Ask core (request.Give label)) behind few is =
+    row_with_number core (omega (arith, few, is.0)) (codes "give") label [] behind
+row_unmarked cores (line.Ask core (request.GiveAt frame order)) behind few is =
+    row_with_number core (omega (arith, few, is.0)) (codes "giveat") (decimal frame) (decimal order) behind
+row_unmarked cores (line.Move core label to) behind few is =
+    row_with_number core (omega (arith, few, is.0)) (codes "move") label (decimal to) behind
+row_unmarked cores line.Round behind few is = other_byte 44 _ (λ e. omega arith)
+row_unmarked cores (line.Reserve frame count) behind few is = other_byte 44 _ (λ e. omega arith)
+
+-- so no text of records does
+text_unmarked : (cores : ℕ) (lines : List Line) → cores ≤ most_cores → All (IsRecord cores) lines
+    → strip_bom (spelled lines) ≡ spelled lines
+unfolding spelled strip_bom
+text_unmarked cores [] few each = refl
+text_unmarked cores (line ∷ lines) few each = row_unmarked cores line (spelled lines) few (All-head (IsRecord cores) line lines each)
+
+-- the record that a text begins with, and those behind it
+first_of_row : (line : Line) (text behind : List ℕ) → strip_bom text ≡ text → BeginsWith text (fields_of line) behind
+    → records_of text ≡ fields_of line ∷ records_of behind
+unfolding fields_of
+first_of_row (line.Ask core (request.Take label order)) text behind same begins = records_of_row _ _ _ text behind same begins
+first_of_row (line.Ask core (request.Give label)) text behind same begins = records_of_row _ _ _ text behind same begins
+first_of_row (line.Ask core (request.GiveAt frame order)) text behind same begins = records_of_row _ _ _ text behind same begins
+first_of_row (line.Move core label to) text behind same begins = records_of_row _ _ _ text behind same begins
+first_of_row line.Round text behind same begins = records_of_row _ _ _ text behind same begins
+first_of_row (line.Reserve frame count) text behind same begins = records_of_row _ _ _ text behind same begins
+
+-- the first record of a text of records, and those behind it
+first_of_text : (cores : ℕ) (line : Line) (lines : List Line) → cores ≤ most_cores → All (IsRecord cores) (line ∷ lines)
+    → records_of (spelled (line ∷ lines)) ≡ fields_of line ∷ records_of (spelled lines)
+unfolding spelled
+first_of_text cores line lines few each =
+    first_of_row line (spelled (line ∷ lines)) (spelled lines) (text_unmarked cores (line ∷ lines) few each)
+    record { whole = refl; unmarked = text_unmarked cores lines few (All-tail (IsRecord cores) line lines each) }
+
+-- nothing has no records
+none_in_nothing : records_of [] ≡ []
+unfolding strip_bom records_from next_record
+none_in_nothing = refl
+
+-- records behind others are read to their end
+read_to_end : (cores : ℕ) (lines front behind : List Line) → cores ≤ most_cores → IsTraceFor cores lines
+    → lines ≡ front ++ behind → All (IsRecord cores) behind
+    → read_records (lines_with cores) (length front + 1) front (records_of (spelled behind)) ≡ Ok lines
+unfolding spelled
+read_to_end cores lines front [] few trace whole each =
+    rw (none_in_nothing, whole, append-nil front) (read_all cores (length front + 1) front)
+read_to_end cores lines front (line ∷ behind) few trace whole each =
+    let room : length front < most_records =
+    omega (arith, trace.few, ap (λ (t : List Line). length t) whole, length-append front (line ∷ behind)) in
+    let goes = line_goes cores front line few (All-head (IsRecord cores) line behind each) room (trace.order front behind line whole) in
+    let more = read_more cores (length front + 1) front (fields_of line) (records_of (spelled behind)) line goes in
+    let others = read_to_end cores lines (front ++ line ∷ []) behind few trace
+    (whole ∙ sym (append_assoc front (line ∷ []) behind)) (All-tail (IsRecord cores) line behind each) in
+    rw (first_of_text cores line behind few each) (more ∙ (rw (length_push front line) at others))
+
+-- the text of each trace reads as that trace
+pub traces_read_back : TracesReadBack
+unfolding trace_of
+traces_read_back cores lines few trace = read_to_end cores lines [] lines few trace refl trace.each
+
+-- the sample may stand as it does
+sample_in_order : (front behind : List Line) (l : Line) → sample ≡ front ++ l ∷ behind → may_follow (last_line front) l ≡ true
+unfolding may_follow
+sample_in_order [] behind l e =
+    let here = ap (λ (t : List Line). get_or t 0 line.Round) e in
+    rw (← here) refl
+sample_in_order (x ∷ []) behind l e =
+    let last = ap (λ (t : List Line). get_or t 0 line.Round) e in
+    let here = ap (λ (t : List Line). get_or t 1 line.Round) e in
+    rw (← last, ← here) refl
+sample_in_order (x ∷ y ∷ []) behind l e =
+    let last = ap (λ (t : List Line). get_or t 1 line.Round) e in
+    let here = ap (λ (t : List Line). get_or t 2 line.Round) e in
+    rw (← last, ← here) refl
+sample_in_order (x ∷ y ∷ z ∷ []) behind l e =
+    let last = ap (λ (t : List Line). get_or t 2 line.Round) e in
+    let here = ap (λ (t : List Line). get_or t 3 line.Round) e in
+    rw (← last, ← here) refl
+sample_in_order (x ∷ y ∷ z ∷ w ∷ others) behind l e =
+    absurd (omega (arith, ap (λ (t : List Line). length t) e, length-append others (l ∷ behind)))
+
+-- the sample is a trace, and has this text
+pub sample_is_spelled : IsSampleSpelled
+unfolding IsRecord is_label is_label_byte spelled fields_of fields_text is_blank digits
+sample_is_spelled =
+    let a : Line = line.Reserve 512 4 in
+    let b : Line = line.Ask 0 (request.Take (codes "a") 3) in
+    let d : Line = line.Move 0 (codes "a") 1 in
+    let range : IsRecord 2 a = (omega arith, omega arith) in
+    let ask : IsRecord 2 b = (omega arith, refl, omega arith) in
+    let move : IsRecord 2 d = (omega arith, refl, omega arith) in
+    let last = All-cons (IsRecord 2) d [] move (All-nil (IsRecord 2)) in
+    let behind = All-cons (IsRecord 2) line.Round (d ∷ []) tt last in
+    record {
+      lawful = record {
+        few = omega arith;
+        each = All-cons (IsRecord 2) a (b ∷ line.Round ∷ d ∷ []) range
+            (All-cons (IsRecord 2) b (line.Round ∷ d ∷ []) ask behind);
+        order = sample_in_order;
+      };
+      text = refl;
+    }
