@@ -1,11 +1,13 @@
 -- What a core of all zones keeps.
-use Rattle.std.specs.Prelude.{ℕ, Contains}
+use Rattle.std.specs.Prelude.{◌≡◌, ℕ, Contains}
 use Rattle.frame_model.specs.declared.block.FrameBlock.{FrameBlock}
 use Rattle.frame_table.specs.Keeping.{HasKept, HasRecalled}
 use Rattle.core_frames.specs.declared.shared.allocator.Core.{Core}
 use Rattle.core_frames.specs.Cores.{view_in, kept_by}
-use Rattle.frame_zones.specs.Zones.{core_at}
+use Rattle.frame_table.specs.Seats.{block_in}
+use Rattle.frame_zones.specs.Zones.{core_at, IsOutIn}
 use Rattle.frame_zones.specs.Uses.{OthersStay}
+use Rattle.frame_zones.specs.declared.block.ZoneBlock.{ZoneBlock}
 use Rattle.frame_zones.specs.declared.zones.Zones.{Zones}
 use Rattle.frame_zones.specs.declared.zones.ZoneCore.{ZoneCore}
 
@@ -22,3 +24,9 @@ pub record KeepsIn (zs : Zones) (z : ℕ) (b : FrameBlock) (c d : ZoneCore) : Ty
 pub record RecallsIn (zs : Zones) (z : ℕ) (b : FrameBlock) (c d : ZoneCore) : Type 0 where
   pub here : (x : Core) → HasRecalled b (view_in (core_at c z x)) (view_in (core_at d z x))
   pub others : OthersStay zs z c d
+
+-- it is this block of the zone, and was handed out there
+pub record IsThisOut (zs : Zones) (z : ℕ) (b : FrameBlock) (taken : ZoneBlock) : Type 0 where
+  pub zone : taken.zone ≡ z
+  pub block : block_in taken.block ≡ b
+  pub is_out : IsOutIn zs taken

@@ -1,3 +1,4 @@
+pub mod Rows
 pub mod Spans
 pub mod Sizes
 pub mod Zones

@@ -9,6 +9,7 @@ ghost use Rattle.frame_zones.specs.Closing.{AreClosedFrom, AreLeft, AreAllLeft, 
 
 use crate::image::ZoneImage;
 use crate::last_zone::{gather, put_back};
+use crate::row::Row;
 use crate::zones::{ZoneCore, Zones};
 use frame_words::Fault;
 use std::alloc::Global;
@@ -99,12 +100,13 @@ impl Zones {
             return Err(self);
         };
         let Zones {
-            mut zones,
+            zones,
             mut firsts,
             mut frames,
             cores: count,
             ..
         } = self;
+        let mut zones = zones.into_list();
         let Some(zone) = zones.pop() else {
             unreachable!()
         };
@@ -118,7 +120,7 @@ impl Zones {
         match zone.close(alloc, parts) {
             Ok(image) => {
                 let left = Zones {
-                    zones,
+                    zones: Row::of(zones),
                     firsts,
                     frames,
                     cores: count,
@@ -131,7 +133,7 @@ impl Zones {
                 frames.push_reserved(last_frames);
                 put_back(cores, e.cores);
                 Err(Zones {
-                    zones,
+                    zones: Row::of(zones),
                     firsts,
                     frames,
                     cores: count,

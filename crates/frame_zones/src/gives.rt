@@ -10,6 +10,7 @@ use crate::zones::{ZoneCore, Zones};
 
 impl Zones {
     /// Gives the block back, whichever core took it. It always succeeds.
+    #[inline(always)]
     pub fn give(&self, core: &mut ZoneCore, block: ZoneBlock)
         requires core { AreCoresOf self.now core.old }
         requires block { IsOutIn self.now block }

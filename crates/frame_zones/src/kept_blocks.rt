@@ -3,7 +3,7 @@
 ghost use Rattle.std.specs.Prelude.{◌≡◌, ◌+◌, ◌<◌};
 ghost use Rattle.frame_model.specs.Block.{block as block_at};
 ghost use Rattle.frame_table.specs.Seats.{block_in};
-ghost use Rattle.frame_zones.specs.Keeping.{IsKeptIn, KeepsIn, RecallsIn};
+ghost use Rattle.frame_zones.specs.Keeping.{IsKeptIn, KeepsIn, RecallsIn, IsThisOut};
 ghost use Rattle.frame_zones.specs.Uses.{moves_through};
 ghost use Rattle.frame_zones.specs.Zones.{zone_count, AreCoresOf, StayCoresOf, IsOutIn};
 
@@ -36,8 +36,7 @@ impl Zones {
         ensures core { StayCoresOf self.now core.old core.new }
         ensures recalls { RecallsIn self.now zone (block_at frame order) core.old core.new }
         ensures all_moves { moves_through core.new ≡ moves_through core.old + 1 }
-        ensures block { (result.zone ≡ zone) × (block_in result.block ≡ block_at frame order) }
-        ensures out { IsOutIn self.now result }
+        ensures out { IsThisOut self.now zone (block_at frame order) result }
     {
         let place = zone as usize;
         let block = self.zones[place].recall(&mut core.cores[place], frame, order);

@@ -6,6 +6,7 @@ ghost use Rattle.frame_zones.specs.Openings.{IsLonger, AreDealt};
 ghost use Rattle.frame_zones.specs.Parting.{HasPart, HasRoom, PartsOff, KeepsFirsts};
 ghost use Rattle.frame_zones.specs.Zones.{zone_count, HasCoresIn};
 
+use crate::row::Row;
 use crate::zones::{ZoneCore, Zones};
 use core_frames::{Allocator, Core};
 use std::alloc::Global;
@@ -37,12 +38,13 @@ impl Zones {
             return Err(self);
         };
         let Zones {
-            mut zones,
+            zones,
             mut firsts,
             mut frames,
             cores: count,
             ..
         } = self;
+        let mut zones = zones.into_list();
         let Some(zone) = zones.pop() else {
             unreachable!()
         };
@@ -54,7 +56,7 @@ impl Zones {
         };
         let parts = gather(cores, parts);
         let left = Zones {
-            zones,
+            zones: Row::of(zones),
             firsts,
             frames,
             cores: count,

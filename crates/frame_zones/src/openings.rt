@@ -7,6 +7,7 @@ ghost use Rattle.core_frames.specs.Ranges.{IsUnopenedFor};
 ghost use Rattle.frame_zones.specs.Spans.{place_of, HoldsLawful};
 ghost use Rattle.frame_zones.specs.Openings.{IsLonger, AreDealt, IsBegun, AreOpened, AreUnopenedFor};
 
+use crate::row::Row;
 use crate::spans::{Span, may_be_zones};
 use crate::zones::{ZoneCore, Zones};
 use core_frames::{Allocator, Core};
@@ -38,7 +39,7 @@ impl Zones {
         }
         Ok((
             Zones {
-                zones,
+                zones: Row::of(zones),
                 firsts,
                 frames,
                 cores,

@@ -11,6 +11,7 @@ ghost use Rattle.frame_zones.specs.Zones.{zone_count, IsOutIn};
 use crate::block::ZoneBlock;
 use crate::image::ZoneImage;
 use crate::openings::{FIRSTS_APART, FRAMES_APART, ZONES_APART, begun, deal};
+use crate::row::Row;
 use crate::spans::may_be_zones_again;
 use crate::zones::{ZoneCore, Zones};
 use core_frames::{Allocator, Survivors};
@@ -48,7 +49,7 @@ impl Zones {
             frames.push_reserved(image.image.geometry().frames);
         }
         let zones = Zones {
-            zones,
+            zones: Row::of(zones),
             firsts,
             frames,
             cores,

@@ -29,7 +29,7 @@ impl Zones {
         let Ok(images) = Vec::with_capacity(alloc, self.zones.len()) else {
             return Err(Fault::NoMemory);
         };
-        for zone in &self.zones {
+        for zone in self.zones.as_slice() {
             let room = zone.make_room(alloc)?;
             words.push_reserved(room);
         }
@@ -44,7 +44,7 @@ impl Zones {
         ensures { AreStopped self core result.items }
     {
         let Zones {
-            mut zones,
+            zones,
             mut firsts,
             ..
         } = self;
@@ -53,6 +53,7 @@ impl Zones {
             mut words,
             mut images,
         } = room;
+        let mut zones = zones.into_list();
         while let Some(zone) = zones.pop() {
             let Some(first) = firsts.pop() else {
                 unreachable!()

@@ -12,6 +12,7 @@ use frame_words::{HUGE_ORDER, TakeFault};
 impl Zones {
     /// Takes a block of `2^order` frames: of the core's home zone, else of the next one that has
     /// such a block.
+    #[inline(always)]
     pub fn take(&self, core: &mut ZoneCore, order: u8) -> Result<ZoneBlock, TakeFault>
         requires { AreCoresOf self.now core.old }
         ensures core { StayCoresOf self.now core.old core.new }
@@ -44,6 +45,7 @@ impl Zones {
     }
 
     // Takes a block of this zone alone.
+    #[inline(always)]
     fn take_in(&self, core: &mut ZoneCore, zone: u32, order: u8) -> Result<ZoneBlock, TakeFault>
         requires core { AreCoresOf self.now core.old }
         requires zone { zone < zone_count self.now }

@@ -2,12 +2,13 @@
 
 ghost use Rattle.frame_zones.specs.Sizes.{AreLaidOut, AreSized, HaveCores};
 
+use crate::row::Row;
 use core_frames::{Allocator, Core};
 
 /// Gives out blocks of one memory, which may have more frames than one allocator, and holes.
 #[derive(Drop)]
 pub struct Zones {
-    pub zones: Vec<Allocator>,
+    pub zones: Row<Allocator>,
     /// The first frame of each among all of the memory.
     pub firsts: Vec<u64>,
     /// How many frames each has.

@@ -87,24 +87,27 @@ pub(crate) fn hand_over(handles: &mut [CoreHandle], mut cores: Vec<Box<CoreState
     ensures order { AreHandedTo cores.items handles.new }
 {
     for handle in handles {
-        set_next(handle, &mut cores);
+        handle.set_next(&mut cores);
     }
 }
 
-fn set_next(handle: &mut CoreHandle, cores: &mut Vec<Box<CoreState, Global>>)
-    requires { 0 < vec_len cores.old }
-    ensures set { (m : Memory) → All (BoxShares m) cores.old.items
-        → IsCoreBehind m handle.new }
-    ensures unused { All IsBoxUnused cores.old.items
-        → IsUnusedBehind handle.new × All IsBoxUnused cores.new.items }
-    ensures left { (m : Memory) → All (BoxShares m) cores.old.items
-        → All (BoxShares m) cores.new.items }
-    ensures last { IsTakenFor handle.new cores.old.items cores.new.items }
-    ensures count { vec_len cores.new + 1 ≡ vec_len cores.old }
-{
-    let Some(core) = cores.pop() else {
-        return;
-    };
-    *handle = CoreHandle::of(core);
-    may_cross(handle);
+impl CoreHandle {
+    // The last of these cores goes behind the handle.
+    fn set_next(&mut self, cores: &mut Vec<Box<CoreState, Global>>)
+        requires { 0 < vec_len cores.old }
+        ensures set { (m : Memory) → All (BoxShares m) cores.old.items
+            → IsCoreBehind m self.new }
+        ensures unused { All IsBoxUnused cores.old.items
+            → IsUnusedBehind self.new × All IsBoxUnused cores.new.items }
+        ensures left { (m : Memory) → All (BoxShares m) cores.old.items
+            → All (BoxShares m) cores.new.items }
+        ensures last { IsTakenFor self.new cores.old.items cores.new.items }
+        ensures count { vec_len cores.new + 1 ≡ vec_len cores.old }
+    {
+        let Some(core) = cores.pop() else {
+            return;
+        };
+        *self = CoreHandle::of(core);
+        may_cross(self);
+    }
 }

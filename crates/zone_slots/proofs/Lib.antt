@@ -7,5 +7,6 @@ pub mod Lifted
 pub mod WrongTakes
 pub mod Few
 pub mod Opened
+pub mod FirstZones
 pub mod Rights
 pub mod Reopened

@@ -25,7 +25,9 @@ use Rattle.frame_zones.specs.declared.block.ZoneBlock.{ZoneBlock}
 use Rattle.zone_slots.specs.Blocks.{HasTakenBlock, HasSplitBlock}
 use Rattle.zone_slots.specs.Calls.{zones_of, laid_down, SharesOne, TakesFor}
 use Rattle.zone_slots.specs.Layouts.{most_numbers}
-use Rattle.zone_slots.specs.Memories.{number_for, AreNumbered}
+use Rattle.frame_table.specs.declared.block.Block.{Block}
+use Rattle.frame_zones.specs.Frames.{IsFrameIn}
+use Rattle.zone_slots.specs.Memories.{number_for, AreNumbered, IsOutOfZone}
 use Rattle.zone_slots.specs.Uses.{TakesInZone, GivesInZone, SplitsInZone, GivesByNumber, SplitsByNumber, one_more}
 use Rattle.zone_slots.specs.Uses.{LendAsMany, FindsNoSlot, IsReceiptOf, HasTakenFor, IsRefusedBlock, IsRefusedTake}
 use Rattle.zone_slots.specs.declared.core_state.CoreState.{CoreState}
@@ -78,6 +80,22 @@ given_in zs b c d out gives = record {
   here = λ a x. record { block = (out.is_out a).is_block; lent = (gives.here x).lent };
   others = gives.others;
 }
+
+-- the same of a block as it was fetched in its zone
+pub given_there : (zs : Zones) (z local order : ℕ) (b : Block) (c d : ZoneCore) → z < zone_count zs
+    → IsOutOfZone zs z b → b.frame ≡ local → b.order ≡ order → GivesIn zs z c d → GivesInZone zs order c d z local
+given_there zs z local order b c d within out frame-is order-is gives =
+    subst (λ k. GivesInZone zs k c d z local) order-is
+    (subst (λ f. GivesInZone zs b.order c d z f) frame-is
+    (given_in zs (record { zone = z; block = b }) c d (record { zone = within; is_out = out }) gives))
+
+-- the same by the number of its frame
+pub given_by_number : {U : Type 0} {E : Type 0} (zs : Zones) (frame order z local : ℕ) (answer : Result U E)
+    (c d : ZoneCore) → IsFrameIn zs frame z local → IfOk answer (λ _. GivesInZone zs order c d z local)
+    → IfOk answer (λ _. GivesByNumber zs order frame c d)
+given_by_number zs frame order z local (Ok u) c d is gives =
+    record { zone = z; local = local; within = is.zone; number = sym is.sum; holds = gives }
+given_by_number zs frame order z local (Err e) c d is gives = tt
 
 pub given_among : (zs : Zones) (frame order : ℕ) (b : ZoneBlock) (c d : ZoneCore) → IsOutIn zs b
     → first_frame_in zs b ≡ frame → b.block.order ≡ order → GivesIn zs b.zone c d → GivesByNumber zs order frame c d

@@ -9,6 +9,7 @@ use Rattle.frame_zones.specs.Sizes.{end_from}
 use Rattle.frame_zones.specs.Zones.{zone_count, zone_at, first_frame_of}
 use Rattle.frame_zones.specs.declared.zones.Zones.{Zones}
 use Rattle.zone_slots.specs.Layouts.{most_numbers}
+use Rattle.zone_slots.specs.declared.first_zone.FirstZone.{FirstZone}
 use Rattle.zone_slots.specs.declared.zone_receipt.ZoneReceipt.{ZoneReceipt}
 
 -- there is a list of slots for each zone, of that zone's own blocks
@@ -21,6 +22,11 @@ pub record AreSlotted (zs : Zones) (lists : List SlotList) : Type 0 where
 abbrev pub AreNumbered : Zones → Type 0
 AreNumbered zs = (z : ℕ) (a : Allocator) → z < zone_count zs
     → end_from (first_frame_of zs z) (zone_at zs z a) ≤ most_numbers
+
+-- the first zone begins at this frame, and has so many
+pub record IsFirstOf (zs : Zones) (f : FirstZone) : Type 0 where
+  pub first : f.first ≡ first_frame_of zs 0
+  pub frames : f.frames ≡ slice_index_or zs.frames.items 0 0
 
 -- the number among those of all zones of the first frame of a block that was laid down
 abbrev pub number_for : Zones → ZoneReceipt → ℕ

@@ -12,7 +12,8 @@ use Rattle.frame_slots.specs.Reopenings.{KeepsRest, IsNoReplay}
 use Rattle.frame_slots.specs.Slots.{laid_down}
 use Rattle.frame_slots.specs.declared.receipt.Receipt.{Receipt}
 use Rattle.frame_zones.specs.Spans.{Place}
-use Rattle.frame_zones.specs.Zones.{zone_count, zone_at, core_at}
+use Rattle.frame_zones.specs.Uses.{OthersStay}
+use Rattle.frame_zones.specs.Zones.{zone_count, zone_at, core_at, AreCoresOf}
 use Rattle.frame_zones.specs.declared.spans.Span.{Span}
 use Rattle.frame_zones.specs.declared.zones.Zones.{Zones}
 use Rattle.frame_zones.specs.declared.zones.ZoneCore.{ZoneCore}
@@ -20,6 +21,11 @@ use Rattle.zone_slots.specs.ImageParts.{numbers_from}
 use Rattle.zone_slots.specs.Openings.{LieAt, Shares, IsUnusedState, IsNoOpening}
 use Rattle.zone_slots.specs.declared.core_state.CoreState.{CoreState}
 use Rattle.zone_slots.specs.declared.memory.Memory.{Memory}
+
+-- the core still has a part of each zone, and those of every other zone are as before
+pub record ChangesIn (zs : Zones) (z : ℕ) (c d : ZoneCore) : Type 0 where
+  pub are_cores : AreCoresOf zs d
+  pub others : OthersStay zs z c d
 
 -- the blocks of a zone that an opening is told to hold, counted from the zone's first frame
 abbrev pub claimed_in : List (Vec FrameBlock Global) → ℕ → Vec FrameBlock Global → List FrameBlock

@@ -38,7 +38,7 @@ fn no_lists(alloc: Global, zones: &Zones) -> Result<Vec<SlotList>, Fault>
     let Ok(mut lists) = Vec::with_capacity(alloc, zones.count() + LISTS_APART) else {
         return Err(Fault::NoMemory);
     };
-    for zone in &zones.zones {
+    for zone in zones.zones.as_slice() {
         lists.push_reserved(SlotList::none(alloc, zone));
     }
     Ok(lists)

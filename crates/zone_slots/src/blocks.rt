@@ -1,12 +1,15 @@
 //! Takes, gives and splits of blocks whose rights the caller keeps, by no slot.
 
-ghost use Rattle.std.specs.Prelude.{◌≡◌, IfOk, IfErr};
-ghost use Rattle.frame_zones.specs.Zones.{AreCoresOf, IsOutIn, first_frame_in};
+ghost use Rattle.std.specs.Prelude.{◌≡◌, ◌+◌, IfOk, IfErr};
+ghost use Rattle.frame_zones.specs.Frames.{IsLastFrom, BeginBehind};
+ghost use Rattle.frame_zones.specs.Zones.{AreCoresOf, IsOutIn, first_frame_of, first_frame_in};
 ghost use Rattle.zone_slots.specs.Blocks.{HasTakenBlock, HasSplitBlock, TakesBlockFor, SplitsBlockFor, IsOutFor, frame_for, IsRightFor, IsRightIn};
 ghost use Rattle.zone_slots.specs.Calls.{SharesOne, GivesFor, CountsNone, RemembersLast, KeepsCore, RefusesBlock};
+ghost use Rattle.zone_slots.specs.Memories.{IsFirstOf};
 ghost use Rattle.zone_slots.specs.Uses.{GivesInZone, IsRefusedBlock};
 
 use crate::core_state::CoreState;
+use crate::first_zone::FirstZone;
 use crate::memory::Memory;
 use atomic_table::Seat;
 use frame_core::{Eye, HeldBlock};
@@ -57,7 +60,7 @@ impl CoreState {
         requires { IsOutFor self.now held.now }
         ensures { result ≡ frame_for self.now held.now }
     {
-        self.shared.frame_at(held)
+        self.shared.frame_at(self.first, held)
     }
 
     /// The block of the order that begins at the frame of this number, whose right this seat is: its
@@ -69,7 +72,7 @@ impl CoreState {
         ensures order { result.block.order ≡ order }
         ensures seat { result.block.seat ≡ seat }
     {
-        self.shared.block_at(frame, order, seat)
+        self.shared.block_at(self.first, frame, order, seat)
     }
 }
 
@@ -112,30 +115,44 @@ impl Memory {
         self.zones.split(core, held)
     }
 
-    #[inline]
-    fn frame_at(&self, held: &ZoneBlock) -> u32
-        requires { IsOutIn self.now.zones held.now }
+    #[inline(always)]
+    fn frame_at(&self, known: FirstZone, held: &ZoneBlock) -> u32
+        requires known { IsFirstOf self.now.zones known }
+        requires out { IsOutIn self.now.zones held.now }
         ensures { result ≡ first_frame_in self.now.zones held.now }
     {
-        self.number_at(held.zone, held.block.frame())
+        self.number_at(known, held.zone, held.block.frame())
     }
 
-    #[inline]
-    fn block_at(&self, frame: u32, order: u8, seat: Seat<(), Eye>) -> ZoneBlock
-        requires { IsRightIn self.now.zones frame order seat.table_id seat.me }
+    #[inline(always)]
+    fn block_at(&self, known: FirstZone, frame: u32, order: u8, seat: Seat<(), Eye>) -> ZoneBlock
+        requires known { IsFirstOf self.now.zones known }
+        requires right { IsRightIn self.now.zones frame order seat.table_id seat.me }
         ensures out { IsOutIn self.now.zones result }
         ensures frame { first_frame_in self.now.zones result ≡ frame }
         ensures order { result.block.order ≡ order }
         ensures seat { result.block.seat ≡ seat }
     {
+        let (zone, local) = self.place_of(known, frame);
+        let block = Block::of(local, order, seat);
+        ZoneBlock { zone, block }
+    }
+
+    // The last zone that begins at the frame of this number or before it, and the frame's number there.
+    #[inline(always)]
+    fn place_of(&self, known: FirstZone, frame: u32) -> (u32, u32)
+        requires known { IsFirstOf self.now.zones known }
+        requires some { ¬ BeginBehind self.now.zones frame }
+        ensures zone { IsLastFrom self.now.zones frame result.0 }
+        ensures local { first_frame_of self.now.zones result.0 + result.1 ≡ frame }
+    {
+        if let Some(local) = known.number_of(frame) {
+            return (0, local);
+        }
         let Some(zone) = self.zones.last_from(u64::from(frame)) else {
             unreachable!()
         };
         let local = frame - self.zones.firsts[zone] as u32;
-        let block = Block::of(local, order, seat);
-        ZoneBlock {
-            zone: zone as u32,
-            block,
-        }
+        (zone as u32, local)
     }
 }

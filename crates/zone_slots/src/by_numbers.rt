@@ -1,11 +1,13 @@
 //! Takes, gives and splits of blocks whose rights rest at their slots.
 
-ghost use Rattle.std.specs.Prelude.{◌≡◌, ◌≢◌, IfOk, IfErr, IfSome, IfNone};
+ghost use Rattle.std.specs.Prelude.{◌≡◌, ◌≢◌, ◌<◌, IfOk, IfErr, IfSome, IfNone};
 ghost use Rattle.frame_zones.specs.Uses.{GivesIn};
-ghost use Rattle.frame_zones.specs.Zones.{AreCoresOf, IsOutIn};
+ghost use Rattle.frame_zones.specs.Zones.{zone_count, AreCoresOf, IsOutIn};
+ghost use Rattle.zone_slots.specs.Memories.{IsFirstOf};
 ghost use Rattle.zone_slots.specs.Refusals.{IsRefusedSplit};
-ghost use Rattle.zone_slots.specs.Uses.{HasTakenFor, IsReceiptOf, GivesByNumber, SplitsByNumber, IsRefusedTake};
+ghost use Rattle.zone_slots.specs.Uses.{HasTakenFor, IsReceiptOf, GivesInZone, GivesByNumber, SplitsByNumber, IsRefusedTake};
 
+use crate::first_zone::FirstZone;
 use crate::memory::Memory;
 use crate::refusal::Refusal;
 use crate::zone_receipt::ZoneReceipt;
@@ -40,20 +42,54 @@ impl Memory {
     #[inline]
     pub(crate) fn give_from_slot(
         &self,
+        known: FirstZone,
         core: &mut ZoneCore,
         frame: u32,
         order: u8,
     ) -> Result<(), Refusal>
+        requires known { IsFirstOf self.now.zones known }
+        requires core { AreCoresOf self.now.zones core.old }
+        ensures core { AreCoresOf self.now.zones core.new }
+        ensures given { IfOk result (λ _. GivesByNumber self.now.zones order frame core.old core.new) }
+        ensures same { IfErr result (λ _. core.new ≡ core.old) }
+        ensures refused { IfErr result (λ e. e ≡ Refusal.NotHeld) }
+    {
+        if let Some(local) = known.number_of(frame) {
+            return self.give_in(core, 0, local, order);
+        }
+        self.give_elsewhere(core, frame, order)
+    }
+
+    // The same of a block of any zone. It is looked for apart, so that in the first zone no number goes
+    // through memory.
+    fn give_elsewhere(&self, core: &mut ZoneCore, frame: u32, order: u8) -> Result<(), Refusal>
         requires { AreCoresOf self.now.zones core.old }
         ensures core { AreCoresOf self.now.zones core.new }
         ensures given { IfOk result (λ _. GivesByNumber self.now.zones order frame core.old core.new) }
         ensures same { IfErr result (λ _. core.new ≡ core.old) }
         ensures refused { IfErr result (λ e. e ≡ Refusal.NotHeld) }
     {
-        let Some(held) = self.fetch(core.home, frame, order) else {
+        let Some((zone, local)) = self.zones.zone_of(core.home, u64::from(frame)) else {
             return Err(Refusal::NotHeld);
         };
-        self.zones.give(core, held);
+        self.give_in(core, zone, local, order)
+    }
+
+    // The same in its zone, where it begins at this frame.
+    #[inline(always)]
+    fn give_in(&self, core: &mut ZoneCore, zone: u32, local: u32, order: u8) -> Result<(), Refusal>
+        requires core { AreCoresOf self.now.zones core.old }
+        requires zone { zone < zone_count self.now.zones }
+        ensures core { AreCoresOf self.now.zones core.new }
+        ensures given { IfOk result (λ _.
+            GivesInZone self.now.zones order core.old core.new zone local) }
+        ensures same { IfErr result (λ _. core.new ≡ core.old) }
+        ensures refused { IfErr result (λ e. e ≡ Refusal.NotHeld) }
+    {
+        let Some(block) = self.fetch_in(zone, local, order) else {
+            return Err(Refusal::NotHeld);
+        };
+        self.zones.give(core, ZoneBlock { zone, block });
         Ok(())
     }
 
@@ -61,12 +97,14 @@ impl Memory {
     #[inline]
     pub(crate) fn split_at_slot(
         &self,
+        known: FirstZone,
         core: &mut ZoneCore,
         slotless: &mut u64,
         frame: u32,
         order: u8,
     ) -> Result<(), Refusal>
-        requires { AreCoresOf self.now.zones core.old }
+        requires known { IsFirstOf self.now.zones known }
+        requires core { AreCoresOf self.now.zones core.old }
         ensures core { AreCoresOf self.now.zones core.new }
         ensures split { IfOk result (λ _. SplitsByNumber self.now.zones order frame core.old core.new) }
         ensures same { IfErr result (λ e. e ≢ Refusal.NoSlot → core.new ≡ core.old) }
@@ -76,7 +114,7 @@ impl Memory {
         if order == 0 {
             return Err(Refusal::NoHalves);
         }
-        let Some(held) = self.fetch(core.home, frame, order) else {
+        let Some(held) = self.fetch(known, core.home, frame, order) else {
             return Err(Refusal::NotHeld);
         };
         match self.zones.split(core, held) {

@@ -26,10 +26,11 @@ impl CoreState {
         ensures refused { IfErr result (RefusesTake order self.old self.new) }
         ensures last { IfErr result (λ _. RemembersLast self.old self.new) }
     {
+        let known = self.first;
         let receipt = self
             .shared
             .take_at_slot(&mut self.core, &mut self.slotless, order)?;
-        let frame = self.shared.number_of(&receipt);
+        let frame = self.shared.number_of(known, &receipt);
         self.last = Some(receipt);
         Ok(frame)
     }
@@ -44,7 +45,9 @@ impl CoreState {
         ensures refused { IfErr result (λ e. e ≡ Refusal.NotHeld) }
         ensures last { RemembersLast self.old self.new }
     {
-        self.shared.give_from_slot(&mut self.core, frame, order)
+        let first = self.first;
+        self.shared
+            .give_from_slot(first, &mut self.core, frame, order)
     }
 
     /// Splits exactly this block into its halves, where it is held, whichever core took it; any core
@@ -57,7 +60,6 @@ impl CoreState {
         ensures refused { IfErr result (RefusesSplit order self.old self.new) }
         ensures last { RemembersLast self.old self.new }
     {
-        self.shared
-            .split_at_slot(&mut self.core, &mut self.slotless, frame, order)
+        self.shared.split_at_slot(self.first, &mut self.core, &mut self.slotless, frame, order)
     }
 }

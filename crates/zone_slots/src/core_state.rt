@@ -2,7 +2,9 @@
 
 ghost use Rattle.std.specs.Arc.{arc_value};
 ghost use Rattle.frame_zones.specs.Zones.{AreCoresOf};
+ghost use Rattle.zone_slots.specs.Memories.{IsFirstOf};
 
+use crate::first_zone::FirstZone;
 use crate::memory::Memory;
 use crate::zone_receipt::ZoneReceipt;
 use frame_zones::ZoneCore;
@@ -18,7 +20,9 @@ pub struct CoreState {
     pub(crate) slotless: u64,
     // Of the block that its last take laid down.
     pub(crate) last: Option<ZoneReceipt>,
+    pub(crate) first: FirstZone,
     // No two cores share a cache line.
-    pub(crate) apart: [u64; 15],
+    pub(crate) apart: [u64; 14],
     pub ghost is_core: { AreCoresOf (arc_value shared).zones core },
+    pub ghost known: { IsFirstOf (arc_value shared).zones first },
 }

@@ -4,14 +4,16 @@ ghost use Rattle.std.specs.Prelude.{◌≡◌, ◌+◌, ◌<◌, IfOk, IfErr, If
 ghost use Rattle.frame_zones.specs.FreeCounts.{frames_among};
 ghost use Rattle.frame_zones.specs.Zones.{zone_count, first_frame_of, first_frame_in, IsOutIn};
 ghost use Rattle.zone_slots.specs.Layouts.{most_numbers};
-ghost use Rattle.zone_slots.specs.Memories.{number_for, AreSlotted, AreNumbered, IsOutOfZone};
+ghost use Rattle.frame_zones.specs.Frames.{IsFrameIn};
+ghost use Rattle.zone_slots.specs.Memories.{number_for, AreSlotted, AreNumbered, IsFirstOf, IsOutOfZone};
 ghost use Rattle.zone_slots.specs.Uses.{IsReceiptOf};
 
+use crate::first_zone::FirstZone;
 use crate::zone_receipt::ZoneReceipt;
 use frame_core::HeldBlock;
 use frame_slots::{Receipt, SlotList};
 use frame_table::Block;
-use frame_zones::{ZoneBlock, Zones};
+use frame_zones::{Row, ZoneBlock, Zones};
 use std::alloc::Global;
 
 /// What all cores share. Its frames are numbered by `u32` over all zones.
@@ -19,7 +21,7 @@ use std::alloc::Global;
 pub struct Memory {
     pub(crate) zones: Zones,
     // The slots of each zone's blocks.
-    pub(crate) slots: Vec<SlotList>,
+    pub(crate) slots: Row<SlotList>,
     // The frames of all zones.
     pub(crate) frames: u32,
     // Of the blocks that were laid down before any core was handed out, a list for each zone.
@@ -37,53 +39,89 @@ impl Memory {
         requires slots { AreSlotted zones slots.items }
         requires numbered { AreNumbered zones }
         ensures zones { result.zones ≡ zones }
-        ensures slots { result.slots ≡ slots }
+        ensures slots { result.slots.items ≡ slots.items }
     {
         let frames = zones.frames() as u32;
         Memory {
             zones,
-            slots,
+            slots: Row::of(slots),
             frames,
             reclaimed: Vec::new(alloc),
             apart: [0; 8],
         }
     }
 
+    /// What each core knows of the first zone.
+    pub(crate) fn first_zone(&self) -> FirstZone
+        requires { 0 < zone_count self.now.zones }
+        ensures { IsFirstOf self.now.zones result }
+    {
+        FirstZone {
+            first: self.zones.firsts[0] as u32,
+            frames: self.zones.frames[0],
+        }
+    }
+
     /// The number among those of all zones of the first frame of a block that was laid down.
-    #[inline]
-    pub(crate) fn number_of(&self, receipt: &ZoneReceipt) -> u32
+    #[inline(always)]
+    pub(crate) fn number_of(&self, known: FirstZone, receipt: &ZoneReceipt) -> u32
+        requires known { IsFirstOf self.now.zones known }
         requires zone { receipt.now.zone < zone_count self.now.zones }
         requires fits { number_for self.now.zones receipt.now < most_numbers }
         ensures { result ≡ number_for self.now.zones receipt.now }
     {
-        self.number_at(receipt.zone, receipt.receipt.frame())
+        self.number_at(known, receipt.zone, receipt.receipt.frame())
     }
 
     /// The number among those of all zones of this frame of the zone.
-    #[inline]
-    pub(crate) fn number_at(&self, zone: u32, frame: u32) -> u32
+    #[inline(always)]
+    pub(crate) fn number_at(&self, known: FirstZone, zone: u32, frame: u32) -> u32
+        requires known { IsFirstOf self.now.zones known }
         requires zone { zone < zone_count self.now.zones }
         requires fits { first_frame_of self.now.zones zone + frame < most_numbers }
         ensures { result ≡ first_frame_of self.now.zones zone + frame }
     {
+        if zone == 0 {
+            return known.first + frame;
+        }
         self.zones.firsts[zone as usize] as u32 + frame
     }
 
-    /// The block of these numbers, if it rests at its slot. Its zone is looked for at a hinted one first.
-    #[inline]
-    pub(crate) fn fetch(&self, hint: u32, frame: u32, order: u8) -> Option<ZoneBlock>
+    /// The block of these numbers, if it rests at its slot. Its zone is looked for at the first one, and then
+    /// at a hinted one.
+    #[inline(always)]
+    pub(crate) fn fetch(
+        &self,
+        known: FirstZone,
+        hint: u32,
+        frame: u32,
+        order: u8,
+    ) -> Option<ZoneBlock>
+        requires { IsFirstOf self.now.zones known }
         ensures out { IfSome result (IsOutIn self.now.zones) }
         ensures frame { IfSome result (λ b. first_frame_in self.now.zones b ≡ frame) }
         ensures order { IfSome result (λ b. b.block.order ≡ order) }
     {
-        let (zone, local) = self.zones.zone_of(hint, u64::from(frame))?;
+        let (zone, local) = self.zone_of(known, hint, frame)?;
         let block = self.fetch_in(zone, local, order)?;
         Some(ZoneBlock { zone, block })
     }
 
-    // The same in its zone, counted from the zone's first frame.
-    #[inline]
-    fn fetch_in(&self, zone: u32, frame: u32, order: u8) -> Option<Block>
+    // The zone that has the frame of this number, and the frame's number there.
+    #[inline(always)]
+    fn zone_of(&self, known: FirstZone, hint: u32, frame: u32) -> Option<(u32, u32)>
+        requires { IsFirstOf self.now.zones known }
+        ensures { IfSome result (λ r. IsFrameIn self.now.zones frame r.0 r.1) }
+    {
+        if let Some(local) = known.number_of(frame) {
+            return Some((0, local));
+        }
+        self.zones.zone_of(hint, u64::from(frame))
+    }
+
+    /// The same in its zone, counted from the zone's first frame.
+    #[inline(always)]
+    pub(crate) fn fetch_in(&self, zone: u32, frame: u32, order: u8) -> Option<Block>
         requires { zone < zone_count self.now.zones }
         ensures out { IfSome result (IsOutOfZone self.now.zones zone) }
         ensures same { IfSome result (λ b. (b.frame ≡ frame) × (b.order ≡ order)) }
@@ -94,7 +132,7 @@ impl Memory {
     }
 
     /// Lays the block down at its slot. Where one rests there, or there is none, it is handed back.
-    #[inline]
+    #[inline(always)]
     pub(crate) fn rest(&self, held: ZoneBlock) -> Result<ZoneReceipt, ZoneBlock>
         requires { IsOutIn self.now.zones held }
         ensures laid { IfOk result (IsReceiptOf held) }
@@ -109,7 +147,7 @@ impl Memory {
     }
 
     // The same in its zone.
-    #[inline]
+    #[inline(always)]
     fn rest_in(&self, zone: u32, block: Block) -> Result<Receipt, Block>
         requires zone { zone < zone_count self.now.zones }
         requires out { IsOutOfZone self.now.zones zone block }

@@ -189,11 +189,13 @@ pub(crate) fn state_over(shared: &Arc<Memory, Global>, core: ZoneCore) -> Result
     let Ok(shared) = Arc::try_clone(shared) else {
         return Err(Fault::NoMemory);
     };
+    let first = shared.first_zone();
     Ok(CoreState {
         shared,
         core,
         slotless: 0,
         last: None,
-        apart: [0; 15],
+        first,
+        apart: [0; 14],
     })
 }

@@ -7,10 +7,9 @@ ghost use Rattle.core_frames.specs.Cores.{memory_of};
 ghost use Rattle.frame_slots.specs.Reopenings.{KeepsRest, IsNoReplay};
 ghost use Rattle.frame_slots.specs.Slots.{IsUnused, laid_down};
 ghost use Rattle.frame_zones.specs.Spans.{place_of};
-ghost use Rattle.frame_zones.specs.Uses.{OthersStay};
 ghost use Rattle.frame_zones.specs.Zones.{zone_count, zone_at, core_at, AreCoresOf};
 ghost use Rattle.zone_slots.specs.Openings.{LieAt, IsUnusedCore, AreUnusedIn};
-ghost use Rattle.zone_slots.specs.Reopenings.{KeepsRests, HasLaidIn, HaveLaidDown, AreReopened, IsNoReopening};
+ghost use Rattle.zone_slots.specs.Reopenings.{ChangesIn, KeepsRests, HasLaidIn, HaveLaidDown, AreReopened, IsNoReopening};
 
 use crate::core_state::CoreState;
 use crate::memory::Memory;
@@ -120,11 +119,10 @@ impl Memory {
         requires core { AreCoresOf self.now.zones core.old }
         requires zone { zone < zone_count self.now.zones }
         requires unused { (x : Core) → IsUnused (core_at core.old zone x) }
-        ensures core { AreCoresOf self.now.zones core.new }
+        ensures core { ChangesIn self.now.zones zone core.old core.new }
         ensures rest { IfOk result (λ _. (a : Allocator) (x : Core)
             → KeepsRest (memory_of (zone_at self.now.zones zone a)).frames numbers.now claimed.now
             (core_at core.new zone x)) }
-        ensures others { OthersStay self.now.zones zone core.old core.new }
         ensures laid { IfOk result (λ row. map laid_down row.items ≡ claimed.now) }
         ensures err { IfErr result IsNoReplay }
     {

@@ -40,6 +40,7 @@ impl CoreState {
             core,
             slotless,
             last,
+            first,
             apart,
         } = self;
         match Arc::try_unwrap(shared) {
@@ -51,6 +52,7 @@ impl CoreState {
                     core,
                     slotless,
                     last,
+                    first,
                     apart,
                 },
             }),

@@ -10,17 +10,17 @@ loop-handle-preserved c =
     record {
       left = λ s all. c.set_next.ensures.left s (c.loop-handle.invariant.left s all);
       done = λ s all.
-          AllWithin-more_set c.loop-handle.handle-items c.loop-handle.handle-index c.set_next.new.handle inside
+          AllWithin-more_set c.loop-handle.handle-items c.loop-handle.handle-index c.set_next.new.self inside
           (IsCoreBehind s) (c.loop-handle.invariant.done s all)
           (c.set_next.ensures.set s (c.loop-handle.invariant.left s all));
       unused = λ all.
           let before = c.loop-handle.invariant.unused all in
           let next = c.set_next.ensures.unused before.0 in (
             next.1,
-            AllWithin-more_set c.loop-handle.handle-items c.loop-handle.handle-index c.set_next.new.handle inside
+            AllWithin-more_set c.loop-handle.handle-items c.loop-handle.handle-index c.set_next.new.self inside
                 IsUnusedBehind before.1 next.0,
           );
-      order = handed_more c.loop-handle.handle-items c.loop-handle.handle-index c.set_next.new.handle
+      order = handed_more c.loop-handle.handle-items c.loop-handle.handle-index c.set_next.new.self
           c.loop-handle.cores.items c.set_next.new.cores.items c.args.cores.items inside c.set_next.ensures.last
           c.loop-handle.invariant.order;
       count = search rules;

@@ -17,8 +17,8 @@ loop-zone-preserved c =
           → IsListIn false zs z (slice_index_or l z list)) (sym c.push_reserved.ensures.items)
           (list_more false zs c.loop-zone.lists.items c.loop-zone.zone-index c.none.result inv.count inv.each
           (list_here false zs c.loop-zone.zone-index (memory_of c.zone-item.result).frames c.zone-item.result c.none.result
-          (subst (λ (l : List Allocator). c.loop-zone.zone-index < length l) c.deref-zone-items.ensures.value c.loop-zone-test.true)
+          (subst (λ (l : List Allocator). c.loop-zone.zone-index < length l) c.as_slice-zone-items.ensures.value c.loop-zone-test.true)
           (subst (λ (l : List Allocator). c.zone-item.result ≡ slice_index_or l c.loop-zone.zone-index c.zone-item.result)
-          c.deref-zone-items.ensures.value c.zone-item.is) refl c.none.ensures.slots c.none.ensures.room));
+          c.as_slice-zone-items.ensures.value c.zone-item.is) refl c.none.ensures.slots c.none.ensures.room));
       room = search rules;
     }

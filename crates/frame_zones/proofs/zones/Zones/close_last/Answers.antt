@@ -1,4 +1,4 @@
-use Rattle.std.proofs.Common.{List, [], ◌∷◌, ◌++◌, refl, sym, ◌∙◌, ap, subst}
+use Rattle.std.proofs.Common.{◌≡◌, List, [], ◌∷◌, ◌++◌, refl, sym, ◌∙◌, ap, subst}
 use Rattle.core_frames.specs.declared.shared.allocator.Allocator.{Allocator}
 use Rattle.core_frames.specs.declared.shared.allocator.Core.{Core}
 use Rattle.frame_zones.specs.Openings.{AreDealt}
@@ -9,25 +9,33 @@ use Rattle.frame_zones.proofs.zones.Zones.close_last.Goals as goal
 pub close-requires : goal.close-requires
 close-requires c =
     (parts_off c.args.self.zones.items c.in-Some.zone c.pop.new.self.items c.args.cores.now.items
-    c.gather-parts.result.items c.gather-parts.new.cores.items c.in-Some.ensures.items c.requires.cores
+    c.gather-parts.result.items c.gather-parts.new.cores.items
+    (sym c.into_list-zones.ensures ∙ c.in-Some.ensures.items) c.requires.cores
     c.gather-parts.ensures.dealt c.gather-parts.ensures.count).parts_in
 
 pub invariant_of-left : goal.invariant_of-left
-invariant_of-left c = record {
-  laid_out = laid_less c.args.self.zones.items c.pop.new.self.items c.args.self.firsts.items c.pop-2.new.self.items
-      c.in-Some.zone c.in-Some-pop.first c.in-Some.ensures.items c.in-Some-pop.ensures.items c.args.self.laid_out;
-  sized = sized_less c.args.self.zones.items c.pop.new.self.items c.args.self.frames.items c.pop-3.new.self.items
-      c.in-Some.zone c.in-Some-pop-2.last_frames c.in-Some.ensures.items c.in-Some-pop-2.ensures.items c.args.self.sized;
-  same_cores = cores_less c.args.self.cores c.args.self.zones.items c.pop.new.self.items c.in-Some.zone
-      c.in-Some.ensures.items c.args.self.same_cores;
-}
+invariant_of-left c =
+    let zones : c.args.self.zones.items ≡ c.of.result.items ++ c.in-Some.zone ∷ [] =
+    sym c.into_list-zones.ensures ∙ c.in-Some.ensures.items
+    ∙ ap (λ (l : List Allocator). l ++ c.in-Some.zone ∷ []) (sym c.of.ensures) in
+    record {
+      laid_out = laid_less c.args.self.zones.items c.of.result.items c.args.self.firsts.items c.pop-2.new.self.items
+          c.in-Some.zone c.in-Some-pop.first zones c.in-Some-pop.ensures.items c.args.self.laid_out;
+      sized = sized_less c.args.self.zones.items c.of.result.items c.args.self.frames.items c.pop-3.new.self.items
+          c.in-Some.zone c.in-Some-pop-2.last_frames zones c.in-Some-pop-2.ensures.items c.args.self.sized;
+      same_cores = cores_less c.args.self.cores c.args.self.zones.items c.of.result.items c.in-Some.zone zones
+          c.args.self.same_cores;
+    }
 
 pub returns-in-Ok-close-clause-closed : goal.returns-in-Ok-close-clause-closed
 returns-in-Ok-close-clause-closed c =
+    let zones : c.args.self.zones.items ≡ c.of.result.items ++ c.in-Some.zone ∷ [] =
+    sym c.into_list-zones.ensures ∙ c.in-Some.ensures.items
+    ∙ ap (λ (l : List Allocator). l ++ c.in-Some.zone ∷ []) (sym c.of.ensures) in
     closed_last c.args.self _ c.in-Some.zone c.args.cores.now.items c.gather-parts.new.cores.items
     c.gather-parts.result.items _
-    (parts_off c.args.self.zones.items c.in-Some.zone c.pop.new.self.items c.args.cores.now.items
-    c.gather-parts.result.items c.gather-parts.new.cores.items c.in-Some.ensures.items c.requires.cores
+    (parts_off c.args.self.zones.items c.in-Some.zone c.of.result.items c.args.cores.now.items
+    c.gather-parts.result.items c.gather-parts.new.cores.items zones c.requires.cores
     c.gather-parts.ensures.dealt c.gather-parts.ensures.count)
     c.in-Some-pop.ensures.items refl c.in-Ok-close.ensures.ok
 
@@ -35,8 +43,9 @@ pub returns-in-Err-clause-same : goal.returns-in-Err-clause-same
 returns-in-Err-clause-same c =
     all_back c.args.self _ c.args.cores.now.items c.gather-parts.new.cores.items c.put_back.new.cores.items
     c.gather-parts.result.items
-    (c.push_reserved.ensures.items ∙ ap (λ (a : Allocator). c.pop.new.self.items ++ a ∷ []) c.in-Err.ensures.same.0
-    ∙ sym c.in-Some.ensures.items)
+    (c.of-in-Err.ensures ∙ c.push_reserved.ensures.items
+    ∙ ap (λ (a : Allocator). c.pop.new.self.items ++ a ∷ []) c.in-Err.ensures.same.0
+    ∙ sym c.in-Some.ensures.items ∙ c.into_list-zones.ensures)
     (c.push_reserved-in-Err.ensures.items ∙ sym c.in-Some-pop.ensures.items)
     refl c.gather-parts.ensures.dealt
     (subst (λ (l : List Core). AreDealt c.gather-parts.new.cores.items l c.put_back.new.cores.items)

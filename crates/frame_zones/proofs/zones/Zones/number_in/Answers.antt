@@ -7,7 +7,7 @@ use Rattle.frame_zones.proofs.zones.Zones.number_in.Goals as goal
 pub returns-then-local-from-clause-none : goal.returns-then-local-from-clause-none
 returns-then-local-from-clause-none c =
     let zs = c.args.self.now in
-    let within : c.args.zone < zone_count zs = omega (arith, c.if-zone-len.false, c.len.ensures, zs.zones.ok.0) in
+    let within : c.args.zone < zone_count zs = omega (arith, c.if-zone-len.false, c.len.ensures) in
     let first : c.index-first.result.now ≡ first_frame_of zs c.args.zone =
     c.index-first.ensures
     ∙ get_or_default zs.firsts.items c.args.zone c.index-first.result.now 0 (omega (arith, within, zs.laid_out.count)) in

@@ -62,20 +62,29 @@ loop-span-preserved c =
 
 pub invariant_of-result : goal.invariant_of-result
 invariant_of-result c =
-    let whole : length c.loop-span.zones.items ≡ length (map place_of c.args.spans.now) =
-    omega (arith, c.loop-span.invariant.count, c.loop-span.auto.span-index-end, c.loop-span-test.false, length-map c.args.spans.now place_of) in
+    let places : List Place = map place_of c.args.spans.now in
+    let inv = c.loop-span.invariant in
+    let whole : length c.of.result.items ≡ length places =
+    omega (arith, inv.count, c.loop-span.auto.span-index-end, c.loop-span-test.false, length-map c.args.spans.now place_of, ap length c.of.ensures) in
+    let opening : IsOpening (length c.args.spans.now) c.args.cores places c.of.result.items c.loop-span.firsts.items c.loop-span.all.items =
+    subst (λ (l : List Allocator). IsOpening (length c.args.spans.now) c.args.cores places l c.loop-span.firsts.items c.loop-span.all.items)
+    (sym c.of.ensures) inv.opening in
     record {
-      laid_out = laid_out _ _ _ _ _ _ c.loop-span.invariant.lawful c.loop-span.invariant.opening whole;
-      sized = c.loop-span.invariant.sized;
-      same_cores = have_cores _ _ _ _ _ _ c.loop-span.invariant.lawful c.loop-span.invariant.opening whole;
+      laid_out = laid_out _ _ _ _ _ _ inv.lawful opening whole;
+      sized = subst (λ (l : List Allocator). AreSized l c.loop-span.frames.items) (sym c.of.ensures) inv.sized;
+      same_cores = have_cores _ _ _ _ _ _ inv.lawful opening whole;
     }
 
 pub returns-clause-opened : goal.returns-clause-opened
 returns-clause-opened c =
-    let whole : length c.loop-span.zones.items ≡ length c.args.spans.now =
-    omega (arith, c.loop-span.invariant.count, c.loop-span.auto.span-index-end, c.loop-span-test.false) in
-    opening_all _ _ _ _ _ c.loop-span.invariant.lawful c.loop-span.invariant.opening whole
-    (whole ∙ sym (length-map c.args.spans.now place_of)) refl
+    let places : List Place = map place_of c.args.spans.now in
+    let inv = c.loop-span.invariant in
+    let whole : length c.of.result.items ≡ length c.args.spans.now =
+    omega (arith, inv.count, c.loop-span.auto.span-index-end, c.loop-span-test.false, ap length c.of.ensures) in
+    opening_all _ _ _ _ _ inv.lawful
+    (subst (λ (l : List Allocator). IsOpening (length c.args.spans.now) c.args.cores places l c.loop-span.firsts.items c.loop-span.all.items)
+    (sym c.of.ensures) inv.opening)
+    whole (whole ∙ sym (length-map c.args.spans.now place_of)) refl
 
 pub returns-clause-lawful : goal.returns-clause-lawful
 returns-clause-lawful c = λ k s within. c.loop-span.invariant.holds k s (omega (arith, within, c.loop-span-test.false))

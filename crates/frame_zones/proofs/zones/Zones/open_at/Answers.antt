@@ -76,17 +76,26 @@ loop-image-preserved c =
 
 pub invariant_of-zones : goal.invariant_of-zones
 invariant_of-zones c =
-    let whole : length c.loop-image.zones.items ≡ length (map place_at c.args.images.now) =
-    omega (arith, c.loop-image.invariant.count, c.loop-image.auto.image-index-end, c.loop-image-test.false, length-map c.args.images.now place_at) in
+    let places : List Place = map place_at c.args.images.now in
+    let inv = c.loop-image.invariant in
+    let whole : length c.of.result.items ≡ length places =
+    omega (arith, inv.count, c.loop-image.auto.image-index-end, c.loop-image-test.false, length-map c.args.images.now place_at, ap length c.of.ensures) in
+    let opening : IsOpening (length c.args.images.now) c.args.cores places c.of.result.items c.loop-image.firsts.items c.loop-image.all.items =
+    subst (λ (l : List Allocator). IsOpening (length c.args.images.now) c.args.cores places l c.loop-image.firsts.items c.loop-image.all.items)
+    (sym c.of.ensures) inv.opening in
     record {
-      laid_out = laid_out _ _ _ _ _ _ c.loop-image.invariant.lawful c.loop-image.invariant.opening whole;
-      sized = c.loop-image.invariant.sized;
-      same_cores = have_cores _ _ _ _ _ _ c.loop-image.invariant.lawful c.loop-image.invariant.opening whole;
+      laid_out = laid_out _ _ _ _ _ _ inv.lawful opening whole;
+      sized = subst (λ (l : List Allocator). AreSized l c.loop-image.frames.items) (sym c.of.ensures) inv.sized;
+      same_cores = have_cores _ _ _ _ _ _ inv.lawful opening whole;
     }
 
 pub returns-clause-opened : goal.returns-clause-opened
 returns-clause-opened c =
-    let whole : length c.loop-image.zones.items ≡ length c.args.images.now =
-    omega (arith, c.loop-image.invariant.count, c.loop-image.auto.image-index-end, c.loop-image-test.false) in
-    opening_all _ _ _ _ _ c.loop-image.invariant.lawful c.loop-image.invariant.opening whole
-    (whole ∙ sym (length-map c.args.images.now place_at)) refl
+    let places : List Place = map place_at c.args.images.now in
+    let inv = c.loop-image.invariant in
+    let whole : length c.of.result.items ≡ length c.args.images.now =
+    omega (arith, inv.count, c.loop-image.auto.image-index-end, c.loop-image-test.false, ap length c.of.ensures) in
+    opening_all _ _ _ _ _ inv.lawful
+    (subst (λ (l : List Allocator). IsOpening (length c.args.images.now) c.args.cores places l c.loop-image.firsts.items c.loop-image.all.items)
+    (sym c.of.ensures) inv.opening)
+    whole (whole ∙ sym (length-map c.args.images.now place_at)) refl

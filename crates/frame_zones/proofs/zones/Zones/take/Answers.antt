@@ -17,7 +17,7 @@ returns-in-Ok-clause-core c = stay_on _ _ _ _ c.loop-zone.invariant.stay c.in-Ok
 pub returns-in-Ok-clause-takes : goal.returns-in-Ok-clause-takes
 returns-in-Ok-clause-takes c =
     round_taken _ (λ k. (c.args.core.now.home ≤ k) × (k < c.loop-zone.zone)) _ _ _ c.loop-zone.zone _ _ _
-    (omega (arith, c.loop-zone-test.true, c.len-count.ensures, c.args.self.now.zones.ok.0))
+    (omega (arith, c.loop-zone-test.true, c.len-count.ensures))
     c.loop-zone.invariant c.in-Ok.ensures.takes (λ is. omega (arith, is.1))
 
 pub loop-zone-preserved : goal.loop-zone-preserved
@@ -26,7 +26,7 @@ loop-zone-preserved c =
     (sym c.or_contended-contended.ensures)
     (progress_more _ (λ k. (c.args.core.now.home ≤ k) × (k < c.loop-zone.zone)) (λ k. (c.args.core.now.home ≤ k) × (k < c.loop-zone.zone + 1))
     _ _ _ c.loop-zone.zone _ _ _ (omega arith)
-    (omega (arith, c.loop-zone-test.true, c.len-count.ensures, c.args.self.now.zones.ok.0))
+    (omega (arith, c.loop-zone-test.true, c.len-count.ensures))
     c.loop-zone.invariant c.in-Err.ensures.core c.in-Err.ensures.takes
     (λ is. omega (arith, is.1)) (omega arith, omega arith)
     (λ k is. elim (cases_eq k c.loop-zone.zone) as (λ _. ((c.args.core.now.home ≤ k) × (k < c.loop-zone.zone)) ⊎ (k ≡ c.loop-zone.zone)) [
@@ -86,7 +86,7 @@ pub returns-in-Ok-clause-all_moves : goal.returns-in-Ok-clause-all_moves
 returns-in-Ok-clause-all_moves c =
     within_all c.args.self.now c.args.core.now c.take_in.new.core c.requires c.in-Ok.ensures.core.are_cores
     (round_moves c.args.self.now (λ k. (c.args.core.now.home ≤ k) × (k < c.loop-zone.zone)) _ _ _ c.loop-zone.zone c.args.core.now c.loop-zone.core c.take_in.new.core
-    (omega (arith, c.loop-zone-test.true, c.len-count.ensures, c.args.self.now.zones.ok.0))
+    (omega (arith, c.loop-zone-test.true, c.len-count.ensures))
     c.loop-zone.invariant c.in-Ok.ensures.takes (λ is. omega (arith, is.1)))
 
 pub returns-in-Ok-take_in-clause-all_moves : goal.returns-in-Ok-take_in-clause-all_moves

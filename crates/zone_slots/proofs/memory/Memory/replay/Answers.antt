@@ -43,9 +43,9 @@ loop-zone-preserved c =
     children_of (zone_at zs i a) c.index.result.now frames in
     let few = (table_sizes (zone_at zs i a).table).few_children in
     record {
-      are_cores = c.replay_in.ensures.core;
-      rest = rest_more numbers claimed zs c.loop-zone.core d i within inv.rest c.replay_in.ensures.others here;
-      unused = unused_more zs c.loop-zone.core d i c.replay_in.ensures.others inv.unused;
+      are_cores = c.replay_in.ensures.core.are_cores;
+      rest = rest_more numbers claimed zs c.loop-zone.core d i within inv.rest c.replay_in.ensures.core.others here;
+      unused = unused_more zs c.loop-zone.core d i c.replay_in.ensures.core.others inv.unused;
       laid = subst (λ (l : List (Vec Receipt Global)). (z : ℕ) → z < i + 1 → HasLaidIn claimed l z)
           (sym c.push_reserved.ensures.items)
           (laid_more claimed c.loop-zone.rows.items i c.in_ok-row.row inv.count inv.laid

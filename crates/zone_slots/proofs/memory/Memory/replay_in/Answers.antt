@@ -17,6 +17,8 @@ replay-requires-clause-core c = record {
 }
 
 pub returns-clause-core : goal.returns-clause-core
-returns-clause-core c =
-    cores_still c.args.self.now.zones c.args.core.now _ c.args.zone _ _ _ c.requires.core c.requires.zone c.index-2.ensures
-    c.index_mut.ensures.value refl refl c.replay.ensures.core
+returns-clause-core c = record {
+  are_cores = cores_still c.args.self.now.zones c.args.core.now _ c.args.zone _ _ _ c.requires.core c.requires.zone c.index-2.ensures
+      c.index_mut.ensures.value refl refl c.replay.ensures.core;
+  others = search rules;
+}

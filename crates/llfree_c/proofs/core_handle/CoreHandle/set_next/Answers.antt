@@ -1,7 +1,7 @@
 use Rattle.std.proofs.Common.{[], ◌∷◌, ap, ◌∙◌, rules}
 use Rattle.std.proofs.lemmas.List.{map-append}
 use Rattle.llfree_c.specs.OpenCores.{states_in}
-use Rattle.llfree_c.proofs.core_openings.set_next.Goals as goal
+use Rattle.llfree_c.proofs.core_handle.CoreHandle.set_next.Goals as goal
 
 pub returns-clause-last : goal.returns-clause-last
 returns-clause-last c = record {

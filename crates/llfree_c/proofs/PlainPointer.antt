@@ -1,0 +1,15 @@
+-- How a `RawPlain` is read and made.
+use Rattle.std.proofs.Common.{refl}
+use Rattle.llfree_c.specs.contracts.plain.Plain as held
+use Rattle.llfree_c.specs.contracts.raw_plain.RawPlain.{the_type}
+use Rattle.llfree_c.proofs.RawPointers.{Pointer}
+
+abbrev pub pointer : Pointer held.the_row
+pointer = record {
+  struct = the_type;
+  at = λ d. d.at;
+  value = λ d. d.value;
+  make = λ p x. record { at = p; value = x };
+  at_made = λ p x. refl;
+  value_made = λ p x. refl;
+}
