@@ -1,8 +1,9 @@
 #!/usr/bin/env bash
 # Proves and builds a crate with all that it stands on, lowest first, tells on standard error how far it is, and
 # then runs the words that follow: tools/build.sh CRATE [WORD..]
-# One crate after the other: rt lib keeps all crates below its own to itself as long as it runs. Status 4 where
-# nothing was built; then nothing counts as proved but what rt keeps in each crate's out/.
+# Of crates that do not stand on each other the slowest is proved in the tree, and beside it the others in a copy,
+# since rt keeps all crates below its own to itself as long as it runs. Status 4 where nothing was built; then
+# nothing counts as proved but what rt keeps in each crate's out/.
 set -u
 top=$(cd "$(dirname "$0")/.." && pwd)
 . "$top/tools/sources.sh"
@@ -10,6 +11,7 @@ target=$1
 shift
 out=$top/crates/$target/out
 log=$out/build.log
+copy=$out/beside
 product=$out/lib$target.a
 hint=
 if [ -e "$top/crates/$target/src/main.rt" ]; then
@@ -25,7 +27,7 @@ frame_core 37 170
 low_frames 41 120
 held_blocks 43 250
 frame_table 55 290
-plain_moves 136 670
+plain_moves 85 340
 core_frames 110 480
 frame_image 85 440
 trace_text 86 360
@@ -41,13 +43,12 @@ stops() {
     exit 4
 }
 
-# what rt runs ends with rt
-child=
+# what rt runs ends with rt; the crates that are proved in the copy end with what proves them
 interrupted() {
     trap '' INT TERM HUP
-    [ -z "$child" ] || kill "$child" 2>/dev/null
+    kill $(jobs -p) 2>/dev/null
     wait
-    printf '\n%s: stopped; the next run goes on with the crate that was not done\n' "$target" >&2
+    printf '\n%s: stopped; the next run goes on with the crates that were not done\n' "$target" >&2
     exit "$1"
 }
 trap 'interrupted 130' INT
@@ -63,7 +64,8 @@ jobs=$(awk -v processors="$(nproc)" '
         print (jobs < 1 ? 1 : jobs)
     }' /proc/meminfo)
 
-# the crates that the target stands on and itself, lowest first, with the seconds and MB of each
+# the crates that the target stands on and itself, with the seconds and MB of each, behind a level: a crate stands
+# on crates of lower levels alone; lowest first, and of a level the slowest first
 crates() {
     { sed 's/#.*//' "$top/crates.txt"; echo costs; echo "$costs"; } | awk -F: -v target="$target" '
         $1 == "costs" { is_costs = 1 }
@@ -73,31 +75,89 @@ crates() {
             needed[target] = 1
             for (again = 1; again; ) {
                 again = 0
-                for (i = count; i > 0; i--) if (name[i] in needed) {
+                for (i = 1; i <= count; i++) if (name[i] in needed) {
                     many = split(uses[name[i]], use, " ")
-                    for (j = 1; j <= many; j++) if (!(use[j] in needed)) { needed[use[j]] = 1; again = 1 }
+                    for (j = 1; j <= many; j++) if (use[j] in uses) {
+                        if (!(use[j] in needed)) { needed[use[j]] = 1; again = 1 }
+                        if (level[name[i]] <= level[use[j]]) { level[name[i]] = level[use[j]] + 1; again = 1 }
+                    }
                 }
             }
             for (i = 1; i <= count; i++) if (name[i] in needed)
-                print name[i], name[i] in cost ? cost[name[i]] : "60 150"
-        }'
+                print level[name[i]] + 0, name[i], name[i] in cost ? cost[name[i]] : "60 150"
+        }' | sort -k1,1n -k3,3nr -k2,2
 }
 
-# as CRATE WORD..: in the crate's folder
-as() {
+# in_crate CRATES LOG CRATE WORD..: in the crate's folder among those
+in_crate() {
+    local folder=$1/$3 said=$2
+    shift 3
     (
-        cd "$top/crates/$1" || exit
-        shift
+        cd "$folder" || exit
         exec "$@"
-    ) </dev/null >>"$log" 2>&1 &
-    child=$!
-    wait "$child"
+    ) </dev/null >>"$said" 2>&1 &
+    wait $!
 }
 
-# one crate: a library is proved and built, the program is also run once, on no input
+# one crate in the tree: a library is proved and built, the program is also run once, on no input
 prove() {
-    as "$1" rt check --jobs "$jobs" || return
-    if [ "$1" = "$target" ] && [ -n "$hint" ]; then as "$1" rt run -- run 1 1; else as "$1" rt lib; fi
+    if [ "$1" = "$target" ] && [ -n "$hint" ]; then
+        in_crate "$top/crates" "$log" "$1" rt run --jobs "$2" -- run 1 1
+    else
+        in_crate "$top/crates" "$log" "$1" rt lib --jobs "$2"
+    fi
+}
+
+# a copy of the crates up to this level, with what was built of those below it
+make_copy() {
+    local level name
+    rm -rf "$copy"
+    mkdir -p "$copy/crates" && cp "$top/HANDLES" "$copy" || return
+    while read -r level name _; do
+        [ "$level" -le "$1" ] || continue
+        grep -E "^$name( [^:]*)?:" "$top/crates.txt" >>"$copy/crates.txt" && mkdir "$copy/crates/$name" &&
+            find "$top/crates/$name" -mindepth 1 -maxdepth 1 ! -name out -exec cp -a {} "$copy/crates/$name" \; &&
+            if [ -e "$top/crates/$name/out" ]; then cp -al "$top/crates/$name/out" "$copy/crates/$name"; fi || return
+    done <<<"$all"
+}
+
+# libraries in the copy, one after the other, up to one that fails
+prove_beside() {
+    local crate
+    trap 'kill $(jobs -p) 2>/dev/null; wait; exit 1' TERM
+    for crate; do
+        if ! in_crate "$copy/crates" "$log.beside" "$crate" rt lib --jobs $(((jobs + 1) / 2)); then
+            : >"$copy/failed"
+            exit 1
+        fi
+    done
+}
+
+# libraries that do not stand on each other, the first in the tree; the log ends with what one says that fails
+prove_level() {
+    local level=$1 first=$2 crate beside status=0
+    shift 2
+    if [ $# = 0 ] || [ "$jobs" = 1 ]; then
+        for crate in "$first" "$@"; do
+            prove "$crate" "$jobs" || return
+        done
+        return
+    fi
+    make_copy "$level" || return
+    : >"$log.beside"
+    prove_beside "$@" &
+    beside=$!
+    prove "$first" $(((jobs + 1) / 2)) || status=$?
+    [ "$status" = 0 ] || kill "$beside" 2>/dev/null
+    wait "$beside" || status=1
+    [ ! -e "$copy/failed" ] || cat "$log.beside" >>"$log"
+    for crate; do
+        [ -e "$copy/crates/$crate/out" ] || continue
+        rm -rf "${top:?}/crates/$crate/out"
+        mv "$copy/crates/$crate/out" "$top/crates/$crate/out"
+    done
+    rm -rf "$copy" "$log.beside"
+    return "$status"
 }
 
 # minutes SECONDS: in words
@@ -106,34 +166,51 @@ minutes() {
     if [ "$rounded" -le 1 ]; then echo 'a minute'; else echo "$rounded minutes"; fi
 }
 
+# seconds_of SLOWEST OTHERS: of a level, where the others are proved beside the slowest
+seconds_of() {
+    local longer=$1
+    [ "$2" -le "$1" ] || longer=$2
+    if [ "$2" = 0 ]; then echo "$1"; elif [ "$jobs" = 1 ]; then echo $(($1 + $2)); else echo $((longer * 5 / 4)); fi
+}
+
 # all of it is read before anything is built, so that an edit of this file in between does no harm
 main() {
-    local all count=0 seconds=0 megabytes=0 number=0 crate its_seconds its_megabytes start took left
+    local all count=0 seconds=0 megabytes=0 level crate its_seconds its_megabytes
+    local -a levels=() slowest=() others=()
     command -v rt >/dev/null 2>&1 || stops 'the command rt of the Rattle kit is not on the PATH'
     all=$(crates)
-    while read -r crate its_seconds its_megabytes; do
+    while read -r level crate its_seconds its_megabytes; do
         count=$((count + 1))
-        seconds=$((seconds + its_seconds))
         megabytes=$((megabytes + its_megabytes))
+        if [ -z "${levels[level]:-}" ]; then
+            levels[level]=$crate slowest[level]=$its_seconds others[level]=0
+        else
+            levels[level]+=" $crate" others[level]=$((others[level] + its_seconds))
+        fi
         mkdir -p "$top/crates/$crate/out" 2>/dev/null
         [ -w "$top/crates/$crate/out" ] ||
             stops "$top/crates/$crate/out cannot be written to: copy the repository to a folder of yours$hint"
     done <<<"$all"
+    for level in "${!levels[@]}"; do
+        seconds=$((seconds + $(seconds_of "${slowest[level]}" "${others[level]}")))
+    done
 
     lines=$product.sources.read.$$
-    trap 'rm -f "$lines"' EXIT
+    trap 'rm -rf "$lines" "$copy"' EXIT
     forget "$product" && : >"$log" && sources "$top" >"$lines" ||
         stops "$out cannot be written to: copy the repository to a folder of yours$hint"
     echo "$target: proving and building $count crates; with nothing kept that takes about $(minutes "$seconds") on 4" \
         "processors, and about $(((megabytes + 500) / 1000)) GB of disk" >&2
     SECONDS=0
-    # the seconds of the crates that were not kept, by the table and here
-    local built=0 built_here=0
-    while read -r crate its_seconds _; do
-        number=$((number + 1))
+    # the seconds of the levels that were not kept, by the table and here
+    local built=0 built_here=0 number=0 start took left names
+    for level in "${!levels[@]}"; do
+        read -ra names <<<"${levels[level]}"
+        number=$((number + ${#names[@]}))
+        its_seconds=$(seconds_of "${slowest[level]}" "${others[level]}")
         start=$SECONDS
-        printf '%s: %s (%d of %d) .. ' "$target" "$crate" "$number" "$count" >&2
-        if ! prove "$crate"; then
+        printf '%s: %s (%d of %d) .. ' "$target" "${levels[level]// /, }" "$number" "$count" >&2
+        if ! prove_level "$level" "${names[@]}"; then
             echo 'failed' >&2
             tail -n 20 "$log" >&2
             stops "not proved, so not built; the whole log is in $log"
@@ -149,7 +226,7 @@ main() {
             left=", about $(minutes $((seconds * built_here / built))) left"
         fi
         echo "$took s$left" >&2
-    done <<<"$all"
+    done
     echo "$target: proved and built in $SECONDS s" >&2
     touch "$product" || stops "rt left no $product"
     if sources "$top" | are_same "$lines"; then
@@ -158,7 +235,7 @@ main() {
         echo "$target: the sources changed while it was built; the next run builds again" >&2
     fi
     if [ $# -gt 0 ]; then
-        rm -f "$lines"
+        rm -rf "$lines" "$copy"
         exec "$@"
     fi
     exit

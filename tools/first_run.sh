@@ -209,6 +209,47 @@ changes() {
     done
 }
 
+# the calls of rt, which come in any order where two crates are proved beside each other
+sorted_calls() {
+    echo $(sort "$kit/calls")
+}
+
+# two libraries that do not stand on each other: one is proved in the tree, one in a copy
+two_beside() {
+    target program
+    makes_tree
+    printf '%s\n' 'low: std' 'mid: low' 'side: low' 'llfree: mid side low' >"$tree/crates.txt"
+    cp -r "$tree/crates/other" "$tree/crates/side"
+    local all='lib low lib mid lib side run llfree' signal
+    runs "${words[@]}"
+    holds 'beside: in a fresh clone' is "$status, $(sorted_calls)" "0, $all"
+    holds 'beside: what the copy left is in the tree' test -e "$tree/crates/side/out/libside.a"
+    holds 'beside: and the copy is gone' test ! -e "$tree/crates/llfree/out/beside"
+    builds_nothing 'beside: again'
+
+    echo 'exit 1' >"$kit/hook.side"
+    echo new >"$tree/crates/low/src/lib.rt"
+    runs "${words[@]}"
+    holds 'beside: one fails in the copy' is "$status, $(sorted_calls)" '4, lib low lib mid lib side'
+    holds 'beside: and it is said' says 'not proved'
+    # one that fails or is stopped does so behind the start of the other
+    local begun='until grep -q side "$kit/calls"; do sleep 0.1; done; '
+    echo "$begun"'exit 1' >"$kit/hook.mid"
+    echo 'sleep 5; echo "late $name" >>"$kit/calls"; exit 1' >"$kit/hook.side"
+    runs "${words[@]}"
+    holds 'beside: one fails in the tree, and nobody waits for the other' is "$status, $(sorted_calls)" '4, lib low lib mid lib side'
+    for signal in INT TERM; do
+        echo "${begun}kill -$signal"' "$PPID"; sleep 5; echo "late $name" >>"$kit/calls"; exit 1' >"$kit/hook.mid"
+        runs env --default-signal=INT "${words[@]}"
+        holds "beside: $signal" is "$status, $(sorted_calls)" "$([ $signal = INT ] && echo 130 || echo 143), lib low lib mid lib side"
+        holds "beside: $signal: and the copy is gone" test ! -e "$tree/crates/llfree/out/beside"
+    done
+    rm "$kit"/hook.*
+    runs "${words[@]}"
+    holds 'beside: next after all that' is "$status, $(sorted_calls)" "0, $all"
+    holds 'beside: the edit is in it' grep -q new "$work/output"
+}
+
 # a tree with the gate, whose other parts have a row each
 makes_gate() {
     local name
@@ -352,6 +393,7 @@ makes_kit
 changes program
 changes library
 if command -v make >/dev/null; then changes make; else echo 'make: not here'; fi
+two_beside
 after_ci
 words_alone
 unproved
