@@ -166,9 +166,9 @@ pictures() {
 }
 
 plots() {
-    local result=bench/results/allocator-2026-11-26.txt
+    local result=bench/results/allocator-2026-11-27.txt
     makes 'the plot of threads' "$result" docs/pictures/threads.svg bench/plot.py --only pairs,0 pairs,9 random,mixed
-    makes 'the plot from C' bench/results/c-2026-11-26.txt docs/pictures/from-c.svg bench/plot.py
+    makes 'the plot from C' bench/results/c-2026-11-27.txt docs/pictures/from-c.svg bench/plot.py
     makes 'the plot of a kernel replayed' bench/results/replay-2026-11-26.txt docs/pictures/replay.svg bench/plot.py
     printf '# machine: a\n# date: b\n# method: c\nthreads  llfree ns  buddy ns\n      1       50.6      27.1\n      2       53.8     274.8\n' |
         bench/plot.py >"$work/plot"
