@@ -9,7 +9,7 @@ use Rattle.core_frames.specs.Cores.{lent_by, losses_by, IsOutOf}
 use Rattle.core_frames.specs.Uses.{HasTaken, HasMovedForEach, IsRefusedFor}
 use Rattle.frame_zones.specs.Faults.{is_contended}
 use Rattle.frame_zones.specs.Zones.{zone_count, zone_at, core_at, InEach, AreCoresOf, StayCoresOf}
-use Rattle.frame_zones.specs.Uses.{OthersStay, KeepsAll, LendsAsMany, MovesWithin, LosesNone, LosesIn, TakesIn, AreRefusedFor, TakesAmong}
+use Rattle.frame_zones.specs.Uses.{OthersStay, KeepsAll, LendsAsMany, MovesWithin, LosesNone, LosesIn, TakesIn, AreRefusedFor, TakesAmong, HadNone}
 use Rattle.frame_zones.specs.declared.zones.Zones.{Zones}
 use Rattle.frame_zones.specs.declared.zones.ZoneCore.{ZoneCore}
 use Rattle.frame_zones.specs.declared.block.ZoneBlock.{ZoneBlock}
@@ -28,22 +28,9 @@ stay_at_all zs c are = record {
   same_numbers = λ z a x within. refl;
 }
 
--- the zones that were seen had no block, and the others were left alone
-pub record Progress (zs : Zones) (Seen : ℕ → Type 0) (n : ℕ) (contended : Bool) (c d : ZoneCore)
-    : Type 0 where
-  pub stay : StayCoresOf zs c d
-  pub kept : InEach zs KeepsAll c d
-  pub lent : InEach zs LendsAsMany c d
-  pub moves : InEach zs MovesWithin c d
-  pub seen : (z : ℕ) (a : Allocator) (x : Core) → Seen z → z < zone_count zs
-      → HasMovedForEach (zone_at zs z a) n (core_at c z x) (core_at d z x)
-  pub calm : contended ≡ false → InEach zs LosesNone c d
-  pub missed : contended ≡ true → (z : ℕ) × (z < zone_count zs) × LosesIn c d z
-  pub unseen : (z : ℕ) (x : Core) → z < zone_count zs → ¬ Seen z → core_at d z x ≡ core_at c z x
-
-pub no_progress : (zs : Zones) (Seen : ℕ → Type 0) (n : ℕ) (c : ZoneCore) → AreCoresOf zs c
-    → ((z : ℕ) → ¬ Seen z) → Progress zs Seen n false c c
-no_progress zs Seen n c are none = record {
+pub none_yet : (zs : Zones) (Seen : ℕ → Type 0) (n : ℕ) (c : ZoneCore) → AreCoresOf zs c
+    → ((z : ℕ) → ¬ Seen z) → HadNone zs Seen n false c c
+none_yet zs Seen n c are none = record {
   stay = stay_at_all zs c are;
   kept = λ z a x within. refl;
   lent = λ z a x within. refl;
@@ -113,19 +100,19 @@ some_core c z within = some_part c.cores.items (omega (arith, within))
 
 -- the moves of a step in the next zone, and those before it
 pub round_moves : (zs : Zones) (Seen : ℕ → Type 0) (n : ℕ) (contended : Bool) (answer : Result ZoneBlock TakeFault)
-    (z : ℕ) (c d e : ZoneCore) → z < zone_count zs → Progress zs Seen n contended c d
+    (z : ℕ) (c d e : ZoneCore) → z < zone_count zs → HadNone zs Seen n contended c d
     → TakesIn zs z n answer d e → ¬ Seen z → InEach zs MovesWithin c e
 round_moves zs Seen n contended answer z c d e within was step fresh k a x k-within =
     one_step MovesWithin zs z c d e (λ y. was.unseen z y within fresh) step.others (λ b y. step.moves b y) k a x k-within
     (λ _. was.moves k a x k-within)
 
 -- one zone more was seen
-pub progress_more : (zs : Zones) (Seen Now : ℕ → Type 0) (n : ℕ) (contended : Bool) (fault : TakeFault)
-    (z : ℕ) (c d e : ZoneCore) → n ≤ 9 → z < zone_count zs → Progress zs Seen n contended c d
+pub one_more_none : (zs : Zones) (Seen Now : ℕ → Type 0) (n : ℕ) (contended : Bool) (fault : TakeFault)
+    (z : ℕ) (c d e : ZoneCore) → n ≤ 9 → z < zone_count zs → HadNone zs Seen n contended c d
     → StayCoresOf zs d e → TakesIn zs z n (Err fault) d e
     → ¬ Seen z → Now z → ((k : ℕ) → Now k → Seen k ⊎ (k ≡ z)) → ((k : ℕ) → Seen k → Now k)
-    → Progress zs Now n (contended || is_contended fault) c e
-progress_more zs Seen Now n contended fault z c d e few within was stays step fresh now one_more all =
+    → HadNone zs Now n (contended || is_contended fault) c e
+one_more_none zs Seen Now n contended fault z c d e few within was stays step fresh now one_more all =
     let alone : (x : Core) → core_at d z x ≡ core_at c z x = λ x. was.unseen z x within fresh in
     record {
       stay = stay_on zs c d e was.stay stays;
@@ -171,11 +158,11 @@ progress_more zs Seen Now n contended fault z c d e few within was stays step fr
     }
 
 -- the same round, said in other words
-pub progress_same : (zs : Zones) (Seen Now : ℕ → Type 0) (n : ℕ) (contended : Bool) (c d : ZoneCore)
-    → Progress zs Seen n contended c d
+pub same_none : (zs : Zones) (Seen Now : ℕ → Type 0) (n : ℕ) (contended : Bool) (c d : ZoneCore)
+    → HadNone zs Seen n contended c d
     → ((k : ℕ) → k < zone_count zs → Now k → Seen k) → ((k : ℕ) → k < zone_count zs → ¬ Now k → ¬ Seen k)
-    → Progress zs Now n contended c d
-progress_same zs Seen Now n contended c d was some none = record {
+    → HadNone zs Now n contended c d
+same_none zs Seen Now n contended c d was some none = record {
   stay = was.stay;
   kept = was.kept;
   lent = was.lent;
@@ -188,7 +175,7 @@ progress_same zs Seen Now n contended c d was some none = record {
 
 -- a block was taken in the next zone
 pub round_taken : (zs : Zones) (Seen : ℕ → Type 0) (n : ℕ) (contended : Bool) (b : ZoneBlock)
-    (z : ℕ) (c d e : ZoneCore) → z < zone_count zs → Progress zs Seen n contended c d
+    (z : ℕ) (c d e : ZoneCore) → z < zone_count zs → HadNone zs Seen n contended c d
     → TakesIn zs z n (Ok b) d e → ¬ Seen z → TakesAmong zs n (Ok b) c e
 round_taken zs Seen n contended b z c d e within was step fresh =
     let alone : (x : Core) → core_at d z x ≡ core_at c z x = λ x. was.unseen z x within fresh in
@@ -213,7 +200,7 @@ round_taken zs Seen n contended b z c d e within was step fresh =
 
 -- each zone was seen, and none had a block
 pub round_ends : (zs : Zones) (Seen : ℕ → Type 0) (n : ℕ) (contended : Bool) (fault : TakeFault) (c d : ZoneCore)
-    → Progress zs Seen n contended c d → ((k : ℕ) → k < zone_count zs → Seen k)
+    → HadNone zs Seen n contended c d → ((k : ℕ) → k < zone_count zs → Seen k)
     → AreRefusedFor zs n c d fault → TakesAmong zs n (Err fault) c d
 round_ends zs Seen n contended fault c d was each why = record {
   kept = was.kept;

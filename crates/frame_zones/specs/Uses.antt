@@ -1,5 +1,5 @@
 -- What takes and gives through cores of all zones leave.
-use Rattle.std.specs.Prelude.{◌≡◌, ℕ, ◌+◌, ◌<◌, ◌≤◌, Result, IfOk, IfErr}
+use Rattle.std.specs.Prelude.{◌≡◌, ℕ, ◌+◌, ◌<◌, ◌≤◌, Bool, true, false, Result, IfOk, IfErr}
 use Rattle.std.specs.List.{sum_by}
 use Rattle.frame_words.specs.declared.fault.TakeFault.{TakeFault}
 use Rattle.frame_words.specs.declared.fault.TakeFault.TheVariants.{BadOrder, NoBlock, Contended}
@@ -8,7 +8,7 @@ use Rattle.core_frames.specs.declared.shared.allocator.Core.{Core}
 use Rattle.core_frames.specs.Bounds.{most_moves}
 use Rattle.core_frames.specs.Cores.{memory_of, kept_by, lent_by, moves_by, losses_by}
 use Rattle.core_frames.specs.Uses.{HasTaken, HasMovedForEach, IsRefusedFor, HasGiven}
-use Rattle.frame_zones.specs.Zones.{zone_count, zone_at, core_at, InEach, IsOutIn}
+use Rattle.frame_zones.specs.Zones.{zone_count, zone_at, core_at, InEach, IsOutIn, StayCoresOf}
 use Rattle.frame_zones.specs.declared.zones.Zones.{Zones}
 use Rattle.frame_zones.specs.declared.zones.ZoneCore.{ZoneCore}
 use Rattle.frame_zones.specs.declared.block.ZoneBlock.{ZoneBlock}
@@ -97,3 +97,21 @@ pub record TakesAmong (zs : Zones) (n : ℕ) (answer : Result ZoneBlock TakeFaul
   pub moves : InEach zs MovesWithin c d
   pub ok : IfOk answer (λ b. HasTakenIn zs n b c d)
   pub err : IfErr answer (λ fault. AreRefusedFor zs n c d fault × InEach zs LendsAsMany c d)
+
+-- of the zones that were looked at none had a block, an exchange was lost there or not, and the others
+-- were left alone
+pub record HadNone (zs : Zones) (Seen : ℕ → Type 0) (n : ℕ) (lost : Bool) (c d : ZoneCore) : Type 0 where
+  pub stay : StayCoresOf zs c d
+  pub kept : InEach zs KeepsAll c d
+  pub lent : InEach zs LendsAsMany c d
+  pub moves : InEach zs MovesWithin c d
+  pub seen : (z : ℕ) (a : Allocator) (x : Core) → Seen z → z < zone_count zs
+      → HasMovedForEach (zone_at zs z a) n (core_at c z x) (core_at d z x)
+  pub calm : lost ≡ false → InEach zs LosesNone c d
+  pub missed : lost ≡ true → (z : ℕ) × (z < zone_count zs) × LosesIn c d z
+  pub unseen : (z : ℕ) (x : Core) → z < zone_count zs → ¬ Seen z → core_at d z x ≡ core_at c z x
+
+-- with what came before, of which the home zone had no block, it is a take among all zones
+abbrev pub TakesOn : Zones → ℕ → Bool → Result ZoneBlock TakeFault → ZoneCore → ZoneCore → Type 0
+TakesOn zs n lost answer d e =
+    (c : ZoneCore) → HadNone zs (λ z. z ≡ c.home) n lost c d → TakesAmong zs n answer c e

@@ -1,9 +1,10 @@
 //! Takes of cores of all zones.
 
 ghost use Rattle.std.specs.Prelude.{◌≡◌, ◌+◌, ◌<◌, ◌≤◌, ◌||◌};
+ghost use Rattle.frame_words.specs.Geometry.{huge_order};
 ghost use Rattle.frame_zones.specs.Faults.{is_contended};
 ghost use Rattle.frame_zones.specs.Zones.{zone_count, AreCoresOf, StayCoresOf};
-ghost use Rattle.frame_zones.specs.Uses.{TakesAmong, TakesIn, moves_through, most_moves_among};
+ghost use Rattle.frame_zones.specs.Uses.{TakesAmong, TakesIn, TakesOn, moves_through, most_moves_among};
 
 use crate::block::ZoneBlock;
 use crate::zones::{ZoneCore, Zones};
@@ -23,9 +24,30 @@ impl Zones {
             return Err(TakeFault::BadOrder);
         }
         let home = core.home;
+        match self.take_in(core, home, order) {
+            Ok(block) => Ok(block),
+            Err(fault) => self.take_elsewhere(core, order, or_contended(false, fault)),
+        }
+    }
+
+    // The home zone had none, and an exchange was lost there or not: the others in turn. They stand apart, so
+    // that a take in the home zone keeps what it works with in registers.
+    #[inline(never)]
+    fn take_elsewhere(
+        &self,
+        core: &mut ZoneCore,
+        order: u8,
+        lost: bool,
+    ) -> Result<ZoneBlock, TakeFault>
+        requires core { AreCoresOf self.now core.old }
+        requires order { order ≤ huge_order }
+        ensures core { StayCoresOf self.now core.old core.new }
+        ensures takes { TakesOn self.now order lost result core.old core.new }
+    {
+        let home = core.home;
         let count = self.zones.len() as u32;
-        let mut contended = false;
-        for zone in home..count {
+        let mut contended = lost;
+        for zone in home + 1..count {
             match self.take_in(core, zone, order) {
                 Ok(block) => return Ok(block),
                 Err(fault) => contended = or_contended(contended, fault),

@@ -1,7 +1,6 @@
 -- The zone of a right, by the number of its block.
-use Rattle.std.proofs.Common.{◌≡◌, ℕ, ◌-◌, ◌*◌, ◌<◌, slice_index_or, inl, inr, sym, ◌∙◌, ap, subst, arith}
+use Rattle.std.proofs.Common.{◌≡◌, ℕ, ◌-◌, ◌*◌, ◌<◌, inl, inr, sym, ◌∙◌, ap, subst, arith}
 use Rattle.std.proofs.lemmas.Bool.{cases_order}
-use Rattle.std.proofs.lemmas.List.{get_or_default}
 use Rattle.std.proofs.Math.Nat.{one-le-pow}
 use Rattle.atomic_table.specs.declared.shared.Seat.{Seat}
 use Rattle.atomic_table.specs.Seated.{TableId}
@@ -66,19 +65,6 @@ pub out_fits : (zs : Zones) (b : ZoneBlock) → AreNumbered zs → IsOutIn zs b 
 out_fits zs b numbered out =
     let a : Allocator = some_zone zs b.zone out.zone in
     omega (arith, numbered b.zone a out.zone, (out.is_out a).is_block.inside, one-le-pow b.block.order 2 (omega arith))
-
--- its first frame, as it was read
-pub first_read : (zs : Zones) (z first : ℕ) → z < zone_count zs → first ≡ slice_index_or zs.firsts.items z first
-    → first ≡ first_frame_of zs z
-first_read zs z first within is =
-    is ∙ get_or_default zs.firsts.items z first 0 (subst (λ n. z < n) (sym zs.laid_out.count) within)
-
-pub right_read : (zs : Zones) (frame number order z first : ℕ) (id : TableId) (me : Me (Unit {0}) Eye)
-    → IsRightIn zs frame order id me → number ≡ frame → IsLastFrom zs number z
-    → first ≡ slice_index_or zs.firsts.items z first → IsRightAt zs order id me z (frame - first)
-right_read zs frame number order z first id me right same last is =
-    subst (λ k. IsRightAt zs order id me z (frame - k)) (sym (first_read zs z first last.zone is))
-    (right_found zs frame order z id me right (subst (λ k. IsLastFrom zs k z) same last))
 
 -- the block with the right is out in the zone
 pub right_out : (zs : Zones) (order z local : ℕ) (b : Block) (seat : Seat (Unit {0}) Eye) → z < zone_count zs
