@@ -146,25 +146,6 @@ module _ {T H : Type 0} (t : ℕ → ℕ) (m u w : Mover T H) (i word frames hug
         alone = still_read;
       }
 
--- Nothing was loaded yet.
-pub looks_none : {T H : Type 0} (t : ℕ → ℕ) (m : Mover T H) → Keeps m m → LooksBelow t 0 0 0 m m
-looks_none t m same = record {
-  keeps = same;
-  missed = refl;
-  view = refl;
-  each = λ c h. absurd (omega (arith, h));
-  frames = sym (ap (frames_read m.read) (none m.key));
-  huge = sym (ap (huge_read m.read) (none m.key));
-  alone = λ alone. nothing m.key m.read m.words;
-}
-  where
-    none : (key : Key) → entries_in key 0 ≡ 0
-    none key = omega arith
-
-    nothing : (key : Key) (read : ℕ → Option ℕ) (words : Option (List ℕ)) → IfSome words (AreReadStill (entries_in key 0) read words)
-    nothing key read None = tt
-    nothing key read (Some ws) = (refl, (λ c h. absurd (omega (arith, h))))
-
 -- Loads leave of a view all but its count of moves.
 
 -- after loads the view is as before, but for its count of moves

@@ -1,5 +1,5 @@
 -- Two buddies in flight, and the block of both.
-use Rattle.std.proofs.Common.{◌≡◌, ℕ, suc, ◌+◌, ◌-◌, ◌*◌, ◌/◌, ◌%◌, ◌^◌, ◌<◌, ◌≤◌, List, [], ◌∷◌, None, refl, ap, sym, subst, ◌∙◌, arith}
+use Rattle.std.proofs.Common.{◌≡◌, ℕ, suc, ◌+◌, ◌-◌, ◌*◌, ◌/◌, ◌%◌, ◌^◌, ◌<◌, ◌≤◌, List, [], ◌∷◌, None, ap, sym, subst, ◌∙◌, arith}
 use Rattle.std.specs.Prelude.{Some, ℤ, pos, ◌≢◌, ◌+ℤ◌, ◌-ℤ◌}
 use Rattle.std.proofs.lemmas.Bool.Decides.{nat_tests}
 use Rattle.std.proofs.lemmas.Int.{ints}
@@ -166,14 +166,6 @@ all_but f g h = record {
   same_key = h.same_key ∙ g.same_key ∙ f.same_key;
   stays_alone = λ a. h.stays_alone (g.stays_alone (f.stays_alone a));
   others_out = λ c x y i. h.stay_out c (g.others_out c y (f.others_out c x i));
-}
-
-pub all_but_none : {T H : Type 0} {block_of : H → FrameBlock} {b d : FrameBlock} (m : Mover T H) → KeepsAllBut block_of b d m m
-all_but_none m = record {
-  same_tie = refl;
-  same_key = refl;
-  stays_alone = λ a. a;
-  others_out = λ c x y i. i;
 }
 
 -- blocks of these numbers are these blocks

@@ -40,7 +40,7 @@ IsRefusedFor a n c d BadOrder = (huge_order < n) × (view_in d ≡ view_in c)
 IsRefusedFor a n c d NoBlock = HasMovedForEach a n c d × (losses_by d ≡ losses_by c)
 IsRefusedFor a n c d Contended = HasMovedForEach a n c d × (losses_by c < losses_by d)
 
--- why a take at a desk was refused: as the allocator's is; want of memory comes before any step
+-- why a take at a desk was refused: as the allocator's is; lack of memory comes before any step
 abbrev pub IsRefusedAtDesk : Allocator → ℕ → Core → Core → Fault → Type 0
 IsRefusedAtDesk a n c d fault.BadOrder = (huge_order < n) × (d ≡ c)
 IsRefusedAtDesk a n c d fault.NoMemory = (n ≤ huge_order) × (d ≡ c)

@@ -1,12 +1,10 @@
 -- Counters that are made from the bits: one entry and one tree after another, and what they say at the end.
-use Rattle.std.proofs.Common.{◌≡◌, ⊎_elim, ℕ, ◌+◌, ◌*◌, ◌/◌, ◌%◌, ◌^◌, ◌<◌, ◌≤◌, List, [], true, refl, ap, sym, subst, ◌∙◌, arith}
+use Rattle.std.proofs.Common.{◌≡◌, ⊎_elim, ℕ, ◌+◌, ◌*◌, ◌/◌, ◌^◌, ◌<◌, ◌≤◌, List, [], true, refl, ap, sym, subst, ◌∙◌, arith}
 use Rattle.std.specs.Prelude.{if◌then◌else◌, ◌||◌, nat_le}
 use Rattle.std.specs.List.{sum_by, list_any}
 use Rattle.std.specs.Option.{ForSome}
-use Rattle.std.specs.Int.{bit_at}
 use Rattle.std.proofs.lemmas.Bool.{cases_eq}
 use Rattle.std.proofs.lemmas.Bool.Decides.{nat_tests}
-use Rattle.std.proofs.lemmas.Nat.Bits.{bit_at-zero}
 use Rattle.frame_words.specs.Words.{entry_word, free_in, flag_in}
 use Rattle.frame_words.proofs.WordLemmas.{free_in-entry_word, flag_in-entry_word, entry_word-lt}
 use Rattle.frame_model.proofs.HeldBack.{in_range_held_back}
@@ -107,16 +105,6 @@ uncounted_bits key ws w n f h fits =
       resting = λ k q. rest_of-with_bits key ws w n k q ∙ f.resting k q;
     }
 
--- words that are not counted yet count nothing below the first child, and are an image where the frames past the end are set
-pub uncounted_below : (key : Key) (ws : List ℕ) → IsUncounted key ws → IsCountedBelow key ws 0 0
-uncounted_below key ws f = record {
-  free = λ d q. absurd (omega arith);
-  huge = f.huge;
-  trees = λ u q. absurd (omega arith);
-  unreserved = f.unreserved;
-  resting = f.resting;
-}
-
 pub uncounted_image : (key : Key) (ws : List ℕ) → IsUncounted key ws
     → ((x : ℕ) → key.frames ≤ x → x < frame_count key → bit_of key ws x ≡ 1) → IsImage key ws
 uncounted_image key ws f past = record {
@@ -171,24 +159,6 @@ module _ (key : Key) (ws : List ℕ) (r : AreInRange key ws) (f : IsCountedBelow
         unreserved = f.unreserved;
         resting = f.resting;
       }
-
--- words of which no frame is held equal their own rebuilding
-pub all_free_exact : (key : Key) (ws : List ℕ) → AreInRange key ws → IsAllFree key ws → IsRebuilt key ws ws
-unfolding bit_of
-all_free_exact key ws r f =
-    let clear : (x : ℕ) → x < frame_count key → bit_of key ws x ≡ 0 =
-    λ x h. ap (λ n. bit_at n (x % 64)) (f.bits (x / 64) (omega arith)) ∙ bit_at-zero (x % 64) in
-    counted_exact key ws r (record {
-      free = λ c h. omega (arith, f.free c h, set_none key ws c r h (λ x e. clear x (omega arith)));
-      huge = f.huge;
-      trees = λ t h. omega (
-        arith,
-        f.trees t h,
-        range_all (free_of ws) 512 (8 * t) (children_in key t) (λ c l u. f.free c (omega arith)),
-      );
-      unreserved = f.unreserved;
-      resting = f.resting;
-    })
 
 no_boot_by : (end x : ℕ) → x < end
     → ◌≡◌ {A = ℕ} (if nat_le end x || list_any (is_in_range x) [] then 1 else 0) 0

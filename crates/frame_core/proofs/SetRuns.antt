@@ -60,14 +60,6 @@ runs_set key from middle end ws mid new l g a b = record {
   above = λ x ge. b.above x ge ∙ a.above x (omega arith);
 }
 
--- an empty run
-pub none_set : (key : Key) (from end : ℕ) (ws : List ℕ) → end ≤ from → SetsRun key from end ws ws
-none_set key from end ws h = record {
-  inside = λ x l g. absurd (omega arith);
-  below = λ x l. refl;
-  above = λ x g. refl;
-}
-
 -- the word of a run, put where it stands
 pub run_put : (key : Key) (ws : List ℕ) (place w low high found mask : ℕ) → place ≡ bits_place key w
     → found ≡ get_or ws place 0 → mask ≡ run low (high - low)

@@ -13,7 +13,7 @@ use frame_words::Fault;
 use std::alloc::Global;
 
 /// An allocator at the words of the image once it is rebuilt, its cores, and what the image holds.
-/// Refused only for want of memory.
+/// Refused only for lack of memory.
 pub fn reopen(alloc: Global, image: &Image) -> Result<(Allocator, Vec<Core>, Survivors), Fault>
     ensures opened { IfOk result (λ r. IsOpened (unsealed_key image.now.geometry) r.0 r.1.items) }
     ensures survivors { IfOk result (λ r. IsSurvivorsOf r.0 r.2) }

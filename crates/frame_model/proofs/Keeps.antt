@@ -148,9 +148,6 @@ kept key shares ws views outs new after ins fit r b all =
 pub sum_one : (f : View → ℕ) (v : View) → sum_by f (v ∷ []) ≡ f v
 sum_one f v = omega arith
 
-pub sum_two : (f : View → ℕ) (v w : View) → sum_by f (v ∷ w ∷ []) ≡ f v + f w
-sum_two f v w = omega arith
-
 -- one view becomes another
 one_replaced : (views : List View) (id : ℕ) (v w : View) → get_elem? views id ≡ some v
     → Replaces views (v ∷ []) (set views id w) (w ∷ [])

@@ -1,6 +1,7 @@
 -- What an opening gives.
 use Rattle.std.specs.Prelude.{◌≡◌, ℕ, ◌+◌, ◌^◌, ◌≤◌, List, length, false, true}
 use Rattle.std.specs.List.{All}
+use Rattle.frame_words.specs.Geometry.{most_cores}
 use Rattle.frame_words.specs.declared.geometry.Geometry.{Geometry}
 use Rattle.frame_model.specs.declared.block.FrameBlock.{FrameBlock}
 use Rattle.frame_model.specs.declared.key.Key.{Key}
@@ -26,7 +27,7 @@ moved n v = record v { moves = n }
 -- a seat as an opening gives it: idle, with one share, nothing lent and nothing kept
 pub record IsNew (t : FrameTable) (s : CoreSeat) : Type 0 where
   pub sits : Sits t s
-  pub moves : (view_of s).moves ≤ 64
+  pub moves : (view_of s).moves ≤ most_cores
   pub view : view_of s ≡ moved (view_of s).moves (idle (key_at t) 1)
 
 -- the table is of this memory, and each of its cores has a seat there, in order and as an opening gives it

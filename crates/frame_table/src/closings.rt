@@ -28,7 +28,7 @@ pub struct TableFault<S> {
 
 /// The words of a table, once the seat of every core is handed in, idle. All that the seats keep is
 /// held and apart. That blocks which are still out are held too is by the body, which writes none.
-/// Refused as `MissingCores` where a seat is missing, else for want of memory.
+/// Refused as `MissingCores` where a seat is missing, else for lack of memory.
 pub fn close_table<S: Seated + Drop>(
     alloc: Global,
     table: FrameTable,

@@ -28,7 +28,7 @@ use std::marker::Brand;
 use std::snapshot::Snapshot;
 
 /// Opens a table at the words of an image that equals its own rebuilding: one idle seat for each
-/// core, in order, and what the image holds. Refused only for want of memory.
+/// core, in order, and what the image holds. Refused only for lack of memory.
 pub fn open_table_at(
     alloc: Global,
     image: &Image,
@@ -58,7 +58,7 @@ pub fn open_table_at(
 }
 
 /// Opens a table of a memory of which no frame is held but those past the end: one idle seat for
-/// each core, in order. Refused only for want of memory.
+/// each core, in order. Refused only for lack of memory.
 pub fn open_table(alloc: Global, geometry: &Geometry) -> Result<(FrameTable, Vec<CoreSeat>), Fault>
     ensures opened { IfOk result (λ r. IsOpenedAt (key_of geometry.now) r.0 r.1.items) }
     ensures err { IfErr result (λ e. e ≡ Fault.NoMemory) }

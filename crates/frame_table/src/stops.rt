@@ -12,7 +12,7 @@ use frame_words::Fault;
 use std::alloc::Global;
 
 impl FrameTable {
-    /// A list with room for all words, for a stop. Refused only for want of memory.
+    /// A list with room for all words, for a stop. Refused only for lack of memory.
     pub fn make_room(&self, alloc: Global) -> Result<Vec<u64>, Fault>
         ensures room { IfOk result (IsRoomFor (key_at self.now)) }
         ensures err { IfErr result (λ e. e ≡ Fault.NoMemory) }

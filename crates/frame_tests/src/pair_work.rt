@@ -14,10 +14,7 @@ ghost use Rattle.frame_tests.specs.Work.{
 use frame_core::{Moves, Place};
 use frame_table::{CoreSeat, FrameTable, SharedMoves};
 use frame_words::{frames_of, tree_free};
-use low_frames::{give_low, take_in_tree};
-
-/// How often an exchange on a tree word is tried.
-const TRIES: u32 = 4;
+use low_frames::{TRIES, give_low, take_in_tree};
 
 /// Pays the frames of a block of the order; false where the tree has too few, or all tries were
 /// lost.

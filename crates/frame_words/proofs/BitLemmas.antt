@@ -6,8 +6,8 @@ use Rattle.std.specs.Int.Bits.{bit_and, bit_or, or_step, and_step}
 use Rattle.std.proofs.Math.Nat.{pow-suc}
 use Rattle.std.proofs.Math.Pow.{pow_mono}
 use Rattle.std.proofs.lemmas.Bool.{cases_lt}
-use Rattle.std.proofs.lemmas.Nat.{pow_pos, and_le_l, or_lt, shr-shr}
-use Rattle.std.proofs.lemmas.Nat.Bits.{bit_at_not, bit_at_or, bit_at_and, bit_at-lt, bit_at-zero, same_from_bits_below}
+use Rattle.std.proofs.lemmas.Nat.{pow_pos, and_le_l, shr-shr}
+use Rattle.std.proofs.lemmas.Nat.Bits.{bit_at_and, bit_at-lt, bit_at-zero, same_from_bits_below}
 use lib.Pow.{high_ones}
 
 -- a bit of a word that was moved down
@@ -62,39 +62,9 @@ and-zero a b fits apart =
     (λ (set : 1 ≤ bit_at b i). omega (arith, apart i inside (omega (arith, bit_at-lt b i)), bit_at_and a b i, bit_at-zero i))
     (cases_lt (bit_at b i) 1))
 
--- the bits of two words that share none
-pub bit_at-or_apart : (a b i : ℕ) → bit_and a b ≡ 0 → bit_at (bit_or a b) i ≡ bit_at a i + bit_at b i
-bit_at-or_apart a b i apart =
-    omega (arith, bit_at_or a b i, bit_at_and a b i, ap (λ n. bit_at n i) apart, bit_at-zero i, bit_at-lt a i, bit_at-lt b i)
-
--- the second word has no bit that the first lacks
-abbrev pub IsPartOf : ℕ → ℕ → Type 0
-IsPartOf part whole = (i : ℕ) → i < 64 → bit_at part i ≤ bit_at whole i
-
--- the bits of a word whose part was cleared
-pub bit_at-clear : (whole part : ℕ) → whole < 2 ^ 64 → part < 2 ^ 64 → IsPartOf part whole
-    → (i : ℕ) → i < 64 → bit_at (bit_and whole (bit_not w64 part)) i + bit_at part i ≡ bit_at whole i
-bit_at-clear whole part fits small of i inside =
-    let both = bit_at_and whole (bit_not w64 part) i in
-    omega (arith, both, bit_at_not w64 part i small inside, of i inside, bit_at-lt whole i, bit_at-lt part i)
-
 -- what is left of a word is a word
 pub clear-lt : (whole part : ℕ) → whole < 2 ^ 64 → bit_and whole (bit_not w64 part) < 2 ^ 64
 clear-lt whole part fits = omega (arith, and_le_l whole (bit_not w64 part))
-
--- the ones of a word whose part was cleared
-pub ones-clear : (whole part : ℕ) → whole < 2 ^ 64 → part < 2 ^ 64 → IsPartOf part whole
-    → ones (bit_and whole (bit_not w64 part)) + ones part ≡ ones whole
-ones-clear whole part fits small of =
-    let left : ℕ = bit_and whole (bit_not w64 part) in
-    let still : left < 2 ^ 64 = clear-lt whole part fits in
-    let apart : bit_and left part ≡ 0 = and-zero left part still
-    (λ i inside set. omega (arith, bit_at-clear whole part fits small of i inside, bit_at-lt whole i))
-    in
-    let joined : bit_or left part ≡ whole = same_from_bits_below 64 (bit_or left part) whole (or_lt 64 left part still small) fits
-    (λ i inside. omega (arith, bit_at-or_apart left part i apart, bit_at-clear whole part fits small of i inside))
-    in
-    omega (arith, ones-or_apart left part still small apart, ap ones joined)
 
 -- a run at a multiple of its length ends inside the word
 pub aligned_inside : (order bit : ℕ) → order ≤ 6 → bit % 2 ^ order ≡ 0 → bit < 64 → bit + 2 ^ order ≤ 64

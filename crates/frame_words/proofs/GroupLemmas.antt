@@ -1,14 +1,8 @@
 -- Groups of clear words in a list: how they are told, and how many bits they leave.
-use Rattle.std.proofs.Common.{◌≡◌, ⊎_elim, ℕ, zero, suc, ◌+◌, ◌*◌, ◌^◌, ◌<◌, ◌≤◌, List, [], ◌∷◌, length, get_or, ap, arith}
+use Rattle.std.proofs.Common.{◌≡◌, ⊎_elim, ℕ, ◌+◌, ◌<◌, ◌≤◌, List, get_or, ap, arith}
 use Rattle.std.proofs.lemmas.Bool.{cases_eq, cases_lt}
 use Rattle.std.proofs.lemmas.Nat.{le_or_l, le_or_r}
 use Rattle.std.specs.Int.Bits.{bit_or}
-use Rattle.std.specs.Int.Count.{ones}
-use Rattle.std.specs.List.{sum_by}
-use Rattle.std.proofs.lemmas.List.Sums.{sum_by-cons}
-use Rattle.std.proofs.lemmas.Nat.{ones-le}
-use Rattle.frame_words.specs.Runs.{IsClearGroup, HasNoClearGroup, group_size}
-use Rattle.frame_words.proofs.BitLemmas.{ones-zero}
 
 -- two words in a row
 pub two_clear : (words : List ℕ) (first : ℕ)
@@ -46,43 +40,3 @@ four_clear words first none i from before =
     omega (arith, ap (λ k. get_or words k 0) last, le_or_r (bit_or (bit_or a b) c) d, none))
     (cases_eq i (first + 2)))
     (cases_lt i (first + 2))
-
--- words that each have at most 64 bits set, n of them in a row none
-sum_room : (words : List ℕ) (from n : ℕ)
-    → ((i : ℕ) → i < length words → ones (get_or words i 0) ≤ 64)
-    → from + n ≤ length words
-    → ((i : ℕ) → from ≤ i → i < from + n → get_or words i 0 ≡ 0)
-    → sum_by ones words + 64 * n ≤ 64 * length words
-sum_room [] from n each inside clear = omega arith
-sum_room (x ∷ xs) (suc from) n each inside clear =
-    let here : ones x ≤ 64 = each 0 (omega arith) in
-    let rest = sum_room xs from n (λ i below. each (suc i) (omega arith)) (omega arith)
-    (λ i low high. clear (suc i) (omega arith) (omega arith))
-    in
-    omega (arith, here, sum_by-cons ones x xs, rest)
-sum_room (x ∷ xs) zero zero each inside clear =
-    let here : ones x ≤ 64 = each 0 (omega arith) in
-    let rest = sum_room xs 0 0 (λ i below. each (suc i) (omega arith)) (omega arith) (λ i low high. absurd (omega arith)) in
-    omega (arith, here, sum_by-cons ones x xs, rest)
-sum_room (x ∷ xs) zero (suc n) each inside clear =
-    let none : x ≡ 0 = clear 0 (omega arith) (omega arith) in
-    let rest = sum_room xs 0 n (λ i below. each (suc i) (omega arith)) (omega arith)
-    (λ i low high. clear (suc i) (omega arith) (omega arith))
-    in
-    omega (arith, sum_by-cons ones x xs, ap ones none, ones-zero, rest)
-
--- words with a clear group have room for it beside their set bits
-pub group_counts : (words : List ℕ) (order first : ℕ) → length words ≡ 8
-    → ((i : ℕ) → i < 8 → get_or words i 0 < 2 ^ 64) → IsClearGroup words order first
-    → sum_by ones words + 64 * group_size order ≤ 512
-group_counts words order first eight fit group =
-    let each : (i : ℕ) → i < length words → ones (get_or words i 0) ≤ 64 =
-    λ i below. ones-le 64 (get_or words i 0) (fit i (omega arith))
-    in
-    omega (arith, sum_room words first (group_size order) each (omega (arith, group.inside)) group.clear)
-
--- words with too few clear bits have no clear group
-pub group_in_few : (words : List ℕ) (order : ℕ) → length words ≡ 8
-    → ((i : ℕ) → i < 8 → get_or words i 0 < 2 ^ 64)
-    → 512 < sum_by ones words + 64 * group_size order → HasNoClearGroup words order
-group_in_few words order eight fit few first group = omega (arith, group_counts words order first eight fit group)

@@ -83,11 +83,6 @@ unfolding lane_in lane_put
 lane_put-lt w c e fits small =
     by_lane (λ s. written w s e < 2 ^ 64) c (omega arith) (omega arith) (omega arith) (omega arith)
 
--- an entry alone in its word is the amount to add at its lane
-pub lane_put-zero : (c e : ℕ) → lane_put 0 c e ≡ e * lane_shift c
-unfolding lane_put
-lane_put-zero c e = omega (arith, ap (λ n. n * lane_shift c) (lane_in-zero c))
-
 -- the last of two writes to a lane
 pub lane_put-twice : (w c d e : ℕ) → d < 2 ^ 16 → lane_put (lane_put w c d) c e ≡ lane_put w c e
 unfolding lane_put

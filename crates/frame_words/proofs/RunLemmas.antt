@@ -1,15 +1,14 @@
 -- Where runs of clear bits begin, as the bits of a word.
 use Rattle.std.proofs.Common.{◌≡◌, ◌≢◌, ◌↔◌, ⊎_elim, ℕ, ◌+◌, ◌-◌, ◌/◌, ◌%◌, ◌^◌, ◌<◌, ◌≤◌, ap, subst, arith}
 use Rattle.std.specs.Int.{bit_at, bit_not, w64, trailing_zeros}
-use Rattle.std.specs.Int.Bits.{bit_and, bit_or}
-use Rattle.std.specs.Int.Count.{ones}
+use Rattle.std.specs.Int.Bits.{bit_and}
 use Rattle.std.proofs.lemmas.Bool.{cases_lt}
-use Rattle.std.proofs.lemmas.Nat.{ones-le, or_lt, pow_pos, and_le_l}
+use Rattle.std.proofs.lemmas.Nat.{pow_pos, and_le_l}
 use Rattle.std.proofs.lemmas.Nat.Bits.{bit_at_mask_above, bit_at_mask_below, bit_at_and, bit_at-lt, bit_at-zero, bit_at_not, bit_at_above, bit_at-trailing_zeros}
 use Rattle.std.proofs.Math.Nat.{pow-suc}
 use Rattle.std.proofs.Math.Numerals.{add-one}
 use Rattle.frame_words.specs.Runs.{IsClearFrom, IsClearRun, IsLowestClearRun, HasNoClearRun}
-use Rattle.frame_words.proofs.BitLemmas.{bit_at-shr, and-zero, mask-lt, ones-mask, ones-or_apart}
+use Rattle.frame_words.proofs.BitLemmas.{bit_at-shr, and-zero}
 
 -- the bits of a number are the places from which on so many bits of the word are clear
 abbrev pub Marks : ℕ → ℕ → ℕ → Type 0
@@ -116,16 +115,3 @@ run_apart word order bit fits run =
     (λ (above : bit + 2 ^ order ≤ i). absurd (omega (arith, bit_at_mask_above bit (bit + 2 ^ order) i above)))
     (cases_lt i (bit + 2 ^ order)))
     (cases_lt i bit))
-
--- a word with a clear run has room for it beside its set bits
-pub run_counts : (word order bit : ℕ) → word < 2 ^ 64 → IsClearRun word order bit
-    → ones word + 2 ^ order ≤ 64
-run_counts word order bit fits run =
-    let mask : ℕ = 2 ^ (bit + 2 ^ order) - 2 ^ bit in
-    let small : mask < 2 ^ 64 = mask-lt bit (2 ^ order) run.bits.inside in
-    let both = ones-or_apart word mask fits small (run_apart word order bit fits run) in
-    omega (arith, both, ones-mask bit (2 ^ order), ones-le 64 (bit_or word mask) (or_lt 64 word mask fits small))
-
--- a word with too few clear bits has no clear run
-pub run_in_few : (word order : ℕ) → word < 2 ^ 64 → 64 < ones word + 2 ^ order → HasNoClearRun word order
-run_in_few word order fits few bit run = omega (arith, run_counts word order bit fits run)

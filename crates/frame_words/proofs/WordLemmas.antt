@@ -1,5 +1,5 @@
 -- The readers of entries, tree words and local words give what the writers put.
-use Rattle.std.proofs.Common.{◌≡◌, ℕ, Bool, true, false, Some, None, ◌+◌, ◌-◌, ◌^◌, ◌<◌, ◌≤◌, refl, arith}
+use Rattle.std.proofs.Common.{◌≡◌, ℕ, Bool, true, false, Some, None, ◌-◌, ◌^◌, ◌<◌, ◌≤◌, refl, arith}
 use Rattle.std.proofs.lemmas.Bool.Decides.{nat_tests}
 use Rattle.frame_words.specs.Words.{flag, entry_word, free_in, flag_in, local_word, rest_in}
 
@@ -33,45 +33,6 @@ pub entry_word-lt : (free up : ℕ) → free < 2 ^ 15 → up ≤ 1 → entry_wor
 unfolding entry_word
 entry_word-lt free up fits one = omega arith
 
--- n more free frames under a flag that stays
-pub entry_word-add : (free up n : ℕ) → entry_word free up + n ≡ entry_word (free + n) up
-unfolding entry_word
-entry_word-add free up n = omega arith
-
--- n less free frames under a flag that stays
-pub entry_word-sub : (free up n : ℕ) → n ≤ free → entry_word free up - n ≡ entry_word (free - n) up
-unfolding entry_word
-entry_word-sub free up n enough = omega arith
-
--- n more free frames leave the flag as it is
-pub free_in-add : (word n : ℕ) → free_in word + n < 2 ^ 15 → free_in (word + n) ≡ free_in word + n
-unfolding free_in
-free_in-add word n room = omega arith
-
-pub flag_in-add : (word n : ℕ) → free_in word + n < 2 ^ 15 → flag_in (word + n) ≡ flag_in word
-unfolding free_in flag_in
-flag_in-add word n room = omega arith
-
--- n less free frames leave the flag as it is
-pub free_in-sub : (word n : ℕ) → n ≤ free_in word → free_in (word - n) ≡ free_in word - n
-unfolding free_in
-free_in-sub word n enough = omega arith
-
-pub flag_in-sub : (word n : ℕ) → n ≤ free_in word → flag_in (word - n) ≡ flag_in word
-unfolding free_in flag_in
-flag_in-sub word n enough = omega arith
-
--- n more free frames, and the flag dropped, in one subtraction
-pub entry_word-drop_flag : (free n : ℕ) → n ≤ 2 ^ 15
-    → entry_word free 1 - (2 ^ 15 - n) ≡ entry_word (free + n) 0
-unfolding entry_word
-entry_word-drop_flag free n few = omega arith
-
--- a word of neither free frames nor a flag is 0
-pub entry_word-zero : entry_word 0 0 ≡ 0
-unfolding entry_word
-entry_word-zero = refl
-
 -- a word of 0 tells no free frames
 pub free_in-zero : free_in 0 ≡ 0
 unfolding free_in
@@ -97,26 +58,3 @@ rest_in-local_none = refl
 pub rest_in-zero : rest_in 0 ≡ None
 unfolding rest_in
 rest_in-zero = refl
-
--- a local word fits its 64 bits
-pub local_word-lt : (tree free : ℕ) → tree < 2 ^ 31 → free < 2 ^ 32
-    → local_word (Some (tree, free)) < 2 ^ 64
-unfolding local_word
-local_word-lt tree free low fits = omega arith
-
--- a word with the highest bit set is that of the reservation that it tells
-pub local_word-rest_in : (word : ℕ) → 2 ^ 63 ≤ word → word < 2 ^ 64 → local_word (rest_in word) ≡ word
-unfolding rest_in local_word
-local_word-rest_in word set fits = grind (arith, nat_tests)
-
--- n more resting frames
-pub local_word-add : (tree free n : ℕ)
-    → local_word (Some (tree, free)) + n ≡ local_word (Some (tree, free + n))
-unfolding local_word
-local_word-add tree free n = omega arith
-
--- n less resting frames
-pub local_word-sub : (tree free n : ℕ) → n ≤ free
-    → local_word (Some (tree, free)) - n ≡ local_word (Some (tree, free - n))
-unfolding local_word
-local_word-sub tree free n enough = omega arith

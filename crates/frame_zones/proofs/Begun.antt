@@ -1,6 +1,5 @@
 -- Zones are opened, one after another.
 use Rattle.std.proofs.Common.{◌≡◌, ℕ, ◌+◌, ◌<◌, List, [], ◌∷◌, ◌++◌, length, slice_index_or, refl, sym, ◌∙◌, ap, subst, arith, inl, inr, ◌%◌}
-use Rattle.std.specs.List.{All}
 use Rattle.frame_model.specs.declared.key.Key.{Key}
 use Rattle.std.proofs.lemmas.Bool.{cases_lt}
 use Rattle.std.proofs.lemmas.List.{get_or_append_left, get_or_push, length_push, get_or_default}
@@ -10,7 +9,7 @@ use Rattle.core_frames.specs.Cores.{memory_of, IsNewCore, IsOpened}
 use Rattle.frame_zones.specs.Sizes.{AreLaidOut, AreSized, HaveCores}
 use Rattle.frame_zones.specs.Spans.{Place, MayComeAfter, MayBeZones, HoldsLawful}
 use Rattle.frame_zones.specs.declared.spans.Span.{Span}
-use Rattle.frame_zones.specs.Openings.{AreNewCoresIn, IsLonger, IsAt, AreAt, AreDealt, IsBegun, AreOpened}
+use Rattle.frame_zones.specs.Openings.{AreNewCoresIn, IsLonger, IsAt, AreAt, AreDealt, AreOpened}
 use Rattle.frame_zones.specs.Zones.{zone_count}
 use Rattle.frame_zones.specs.declared.zones.Zones.{Zones}
 use Rattle.frame_zones.specs.declared.zones.ZoneCore.{ZoneCore}
@@ -28,19 +27,6 @@ pub record IsOpening (total cores : ℕ) (places : List Place) (zones : List All
   pub as_many : length all ≡ cores
   pub homes : (k : ℕ) (c : ZoneCore) → k < length all → (slice_index_or all k c).home < total
   pub each : (k : ℕ) (c : ZoneCore) → k < length all → AreNewCoresIn zones (slice_index_or all k c)
-
-pub opening_none : (total cores : ℕ) (places : List Place) (all : List ZoneCore) → length all ≡ cores
-    → All (IsBegun total) all → IsOpening total cores places [] [] all
-opening_none total cores places all count begun = record {
-  are_at = λ z s a within. absurd (omega (arith, within));
-  count = omega arith;
-  as_many = count;
-  homes = λ k c within. (begun k c within).1;
-  each = λ k c within. record {
-    count = ap length (begun k c within).0;
-    each = λ z a x none. absurd (omega (arith, none));
-  };
-}
 
 -- an item of a list with one more at its end
 pub more_at : {A B : Type 0} (P : A → B → Type 0) (xs : List A) (ys : List B) (x : A) (y : B) → length ys ≡ length xs
@@ -173,12 +159,6 @@ holds_one spans i s within is before holds k d below =
           subst (λ (t : Span). HoldsLawful t)
           (is ∙ get_or_default spans i s d within ∙ ap (λ j. slice_index_or spans j d) here) holds
     ]
-
-pub sized_none : AreSized [] []
-sized_none = record {
-  count = omega arith;
-  each = λ z a within. absurd (omega (arith, within));
-}
 
 -- the frames of one zone more
 pub sized_one : (zones : List Allocator) (frames : List ℕ) (a : Allocator) (n : ℕ) → AreSized zones frames

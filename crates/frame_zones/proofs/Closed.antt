@@ -146,18 +146,6 @@ pub record IsClosing (zs : Zones) (cores : List ZoneCore) (left : ℕ) (images :
   pub each : (z k : ℕ) (d : ZoneImage) → z + k + 1 ≡ zone_count zs → k < length images
       → IsZoneClosed zs cores z (slice_index_or images k d)
 
-pub closing_none : (zs : Zones) (cores : List ZoneCore) → IsClosing zs cores (zone_count zs) []
-closing_none zs cores = record {
-  count = omega arith;
-  each = λ z k d at within. absurd (omega (arith, within));
-}
-
-pub none_closed : (zs : Zones) (cores : List ZoneCore) → AreClosedFrom (zone_count zs) zs cores []
-none_closed zs cores = record {
-  count = omega arith;
-  each = λ k d within. absurd (omega (arith, within));
-}
-
 -- what was left of the zones, and then of these
 pub left_then : (zs now next : Zones) (cores mid left : List ZoneCore) → AreLeft zs cores now mid
     → AreLeft now mid next left → zone_count next ≤ zone_count now → AreLeft zs cores next left

@@ -18,7 +18,7 @@ use Rattle.frame_zones.specs.Zones.{zone_count, zone_at, core_at, AreCoresOf, St
 use Rattle.frame_zones.specs.declared.zones.Zones.{Zones}
 use Rattle.frame_zones.specs.declared.zones.ZoneCore.{ZoneCore}
 use Rattle.frame_zones.proofs.Placing.{at_any_zone}
-use Rattle.frame_zones.proofs.Rounds.{stay_on, stay_at_all, one_step, some_zone, some_core}
+use Rattle.frame_zones.proofs.Rounds.{stay_on, one_step, some_zone, some_core}
 
 -- the zones below one were looked over, the others were left alone, and so much was counted
 pub record Counted (count : Allocator → Core → ℕ) (zs : Zones) (z n : ℕ) (c d : ZoneCore) : Type 0 where
@@ -29,16 +29,6 @@ pub record Counted (count : Allocator → Core → ℕ) (zs : Zones) (z n : ℕ)
   pub sum : (a : Allocator) (x : Core)
       → n ≡ sum_by (λ k. count (zone_at zs k a) (core_at d k x)) (range_with_len 0 z)
   pub small : n ≤ 2 ^ 32 * z
-
-pub none_counted : (count : Allocator → Core → ℕ) (zs : Zones) (c : ZoneCore) → AreCoresOf zs c
-    → Counted count zs 0 0 c c
-none_counted count zs c are = record {
-  stay = stay_at_all zs c are;
-  seen = λ k a x below within. absurd (omega (arith, below));
-  unseen = λ k x within above. refl;
-  sum = λ a x. refl;
-  small = omega arith;
-}
 
 -- what is counted of a zone's core once it was read and written is counted in that zone
 pub counted_here : (count : Allocator → Core → ℕ) (zs : Zones) (c : ZoneCore) (z n : ℕ) (b : Allocator) (x y : Core)

@@ -7,7 +7,7 @@ use Rattle.core_frames.specs.declared.shared.allocator.Allocator.{Allocator}
 use Rattle.core_frames.specs.declared.shared.allocator.Core.{Core}
 use Rattle.core_frames.specs.Cores.{memory_of, IsCoreOf}
 use Rattle.frame_zones.specs.Openings.{IsLonger, AreDealt}
-use Rattle.frame_zones.specs.Parting.{PartsOff, KeepsFirsts}
+use Rattle.frame_zones.specs.Parting.{PartsOff}
 use Rattle.frame_zones.specs.Zones.{HasCoresIn}
 use Rattle.frame_zones.specs.Sizes.{AreLaidOut, AreSized, HaveCores, end_from}
 use Rattle.frame_zones.specs.Spans.{most_zone_frames}
@@ -112,7 +112,3 @@ cores_less n zones us a is have z b within =
     subst (λ (e : Allocator). (memory_of e).cores ≡ n)
     (ap (λ (l : List Allocator). slice_index_or l z b) is ∙ get_or_append_left us (a ∷ []) b z within)
     (have z b (omega (arith, within, ap length is, length_push us a)))
-
-pub keeps_firsts : (firsts gs : List ℕ) (first : ℕ) → firsts ≡ gs ++ first ∷ [] → KeepsFirsts firsts gs
-keeps_firsts firsts gs first is z within =
-    sym (ap (λ (l : List ℕ). slice_index_or l z 0) is ∙ get_or_append_left gs (first ∷ []) 0 z within)

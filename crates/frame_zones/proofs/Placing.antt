@@ -4,12 +4,11 @@ use Rattle.std.proofs.lemmas.Bool.{cases_eq}
 use Rattle.std.proofs.lemmas.List.{get_or_default}
 use Rattle.core_frames.specs.declared.shared.allocator.Allocator.{Allocator}
 use Rattle.core_frames.specs.declared.shared.allocator.Core.{Core}
-use Rattle.core_frames.specs.Cores.{IsCoreOf, StaysCoreOf, IsOutOf}
-use Rattle.frame_zones.specs.Zones.{zone_count, zone_at, core_at, InEach, AreCoresOf, StayCoresOf, IsOutIn}
+use Rattle.core_frames.specs.Cores.{IsCoreOf, StaysCoreOf}
+use Rattle.frame_zones.specs.Zones.{zone_count, zone_at, core_at, InEach, AreCoresOf, StayCoresOf}
 use Rattle.frame_zones.specs.Uses.{OthersStay}
 use Rattle.frame_zones.specs.declared.zones.Zones.{Zones}
 use Rattle.frame_zones.specs.declared.zones.ZoneCore.{ZoneCore}
-use Rattle.frame_zones.specs.declared.block.ZoneBlock.{ZoneBlock}
 
 -- the core of a zone belongs to it, as both were read
 pub core_read : (zs : Zones) (c : ZoneCore) (z : ℕ) (a : Allocator) (x : Core) → AreCoresOf zs c
@@ -17,11 +16,6 @@ pub core_read : (zs : Zones) (c : ZoneCore) (z : ℕ) (a : Allocator) (x : Core)
 core_read zs c z a x are within a-is x-is =
     subst (λ (b : Allocator). IsCoreOf b x) (sym a-is)
     (subst (λ (y : Core). IsCoreOf (zone_at zs z a) y) (sym x-is) (are.parts.each z a x within))
-
--- the block is out of its zone, as it was read
-pub block_read : (zs : Zones) (b : ZoneBlock) (a : Allocator) → IsOutIn zs b
-    → a ≡ zone_at zs b.zone a → IsOutOf a b.block
-block_read zs b a out a-is = subst (λ (e : Allocator). IsOutOf e b.block) (sym a-is) (out.is_out a)
 
 -- the core that was written, at each default
 written : (c d : ZoneCore) (z : ℕ) (y x : Core) → z < length c.cores.items

@@ -21,9 +21,6 @@ left_one zones left a s was here = record {
   each = more_at IsSurvivorsOf zones left a s was.count was.each here;
 }
 
-pub held_none : (images : List ZoneImage) → AreHeldAt 0 images []
-held_none images z i s within = absurd (omega (arith, within))
-
 pub held_one : (n : ℕ) (images : List ZoneImage) (left : List Survivors) (i : ZoneImage) (s : Survivors)
     → length left ≡ n → n < length images → i ≡ slice_index_or images n i → AreHeldAt n images left
     → left_blocks s ≡ held_at i → AreHeldAt (n + 1) images (left ++ s ∷ [])
@@ -63,16 +60,3 @@ left_written zs left new z a s are within a-is new-is here = record {
             (sym (get_or-set_other left z k s t other)) (are.each k b t k-within)
       ]);
 }
-
--- what holds of a zone as it was read and written holds at each default
-pub left_at_any : (P : Allocator → Survivors → Survivors → Type 0) (zs : Zones) (left new : List Survivors) (z : ℕ)
-    (a b : Allocator) (s t other : Survivors) → AreSurvivorsOf zs left → z < zone_count zs → a ≡ zone_at zs z a
-    → s ≡ slice_index_or left z s → new ≡ slice_set left z t → P a s t
-    → P (zone_at zs z b) (slice_index_or left z other) (slice_index_or new z other)
-left_at_any P zs left new z a b s t other are within a-is s-is new-is holds =
-    let here : z < length left = subst (λ n. z < n) (sym are.count) within in
-    subst (λ (e : Allocator). P e (slice_index_or left z other) (slice_index_or new z other))
-    (a-is ∙ get_or_default zs.zones.items z a b within)
-    (subst (λ (u : Survivors). P a u (slice_index_or new z other)) (s-is ∙ get_or_default left z s other here)
-    (subst (λ (u : Survivors). P a s u)
-    (sym (ap (λ (l : List Survivors). slice_index_or l z other) new-is ∙ get_or-set_same left z t other here)) holds))

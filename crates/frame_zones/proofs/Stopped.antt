@@ -1,5 +1,5 @@
 -- Zones are stopped, one after another, the last first.
-use Rattle.std.proofs.Common.{◌≡◌, ℕ, ◌+◌, ◌-◌, ◌<◌, List, [], ◌∷◌, ◌++◌, length, reverse, slice_index_or, refl, sym, ◌∙◌, ap, subst, arith, inl, inr}
+use Rattle.std.proofs.Common.{◌≡◌, ℕ, ◌+◌, ◌-◌, ◌<◌, List, [], ◌∷◌, ◌++◌, length, reverse, slice_index_or, sym, ◌∙◌, ap, subst, arith, inl, inr}
 use Rattle.std.specs.declared.alloc.Global.{Global}
 use Rattle.std.specs.declared.vec.Vec.{Vec}
 use Rattle.std.proofs.lemmas.Bool.{cases_lt}
@@ -37,9 +37,6 @@ pub record IsFront {X : Type 0} (n : ℕ) (xs all : List X) : Type 0 where
   pub count : length xs ≡ n
   pub same : (k : ℕ) (d : X) → k < n → slice_index_or xs k d ≡ slice_index_or all k d
 
-pub whole_front : {X : Type 0} (n : ℕ) (xs : List X) → length xs ≡ n → IsFront n xs xs
-whole_front n xs count = record { count = count; same = λ k d within. refl }
-
 -- without the last of them
 pub less_front : {X : Type 0} (n m : ℕ) (xs ys all : List X) (y : X) → IsFront n xs all → n ≡ m + 1
     → xs ≡ ys ++ y ∷ [] → IsFront m ys all
@@ -71,18 +68,6 @@ pub record IsStopping (zs : Zones) (c : ZoneCore) (all : List (Vec ℕ Global)) 
   pub words_left : IsFront (length zones) words all
   pub each : (z k : ℕ) (d : ZoneImage) → z + k + 1 ≡ zone_count zs → k < length images
       → IsZoneStopped zs c z (slice_index_or images k d)
-
-pub stopping_none : (zs : Zones) (c : ZoneCore) (all : List (Vec ℕ Global)) (images : List ZoneImage)
-    → AreCoresOf zs c → HaveRoomIn zs.zones.items all → images ≡ []
-    → IsStopping zs c all zs.zones.items zs.firsts.items c.cores.items all images
-stopping_none zs c all images are room none = record {
-  count = omega (arith, ap length none);
-  zones_left = whole_front (zone_count zs) zs.zones.items refl;
-  firsts_left = whole_front (zone_count zs) zs.firsts.items zs.laid_out.count;
-  cores_left = whole_front (zone_count zs) c.cores.items are.parts.count;
-  words_left = whole_front (zone_count zs) all room.count;
-  each = λ z k d at within. absurd (omega (arith, within, ap length none));
-}
 
 -- the last core of those that are left belongs to the last zone, and there is room for its words
 pub core_of_last : (zs : Zones) (c : ZoneCore) (all : List (Vec ℕ Global)) (zones us : List Allocator)

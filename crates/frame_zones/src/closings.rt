@@ -28,7 +28,7 @@ pub struct ZonesFault {
 
 impl Zones {
     /// An image of each zone, in order, once all cores are handed in. Refused as `MissingCores`, with
-    /// no zone closed, else for want of memory: then some of the last zones may have been closed, and
+    /// no zone closed, else for lack of memory: then some of the last zones may have been closed, and
     /// the others can still be.
     pub fn close(
         self,
@@ -82,7 +82,7 @@ impl Zones {
         Ok(images)
     }
 
-    // Closes the last zone. For want of memory all is as it was.
+    // Closes the last zone. For lack of memory all is as it was.
     fn close_last(
         self,
         alloc: Global,

@@ -24,6 +24,6 @@ pub use closings::ZonesFault;
 pub use image::ZoneImage;
 pub use laws::blocks_lie_in_zones;
 pub use row::Row;
-pub use spans::{Span, may_be_zones};
+pub use spans::{MOST_ZONES, Span, may_be_zones};
 pub use stops::StopRoom;
 pub use zones::{ZoneCore, Zones};

@@ -17,7 +17,7 @@ use std::alloc::Global;
 impl Zones {
     /// A zone for each span, and so many cores of all zones, of which no frame is held but those past
     /// the end of each zone and in its ranges. Refused as `BadRange` where zones may not lie so or
-    /// hold that back, else for want of memory.
+    /// hold that back, else for lack of memory.
     pub fn open(alloc: Global, cores: u32, spans: &[Span]) -> Result<(Zones, Vec<ZoneCore>), Fault>
         ensures opened { IfOk result (λ r. AreOpened cores (map place_of spans.now) r.0 r.1.items) }
         ensures lawful { IfOk result (λ _. All HoldsLawful spans.now) }
@@ -90,7 +90,7 @@ pub(crate) fn begun(alloc: Global, cores: u32, zones: u32) -> Result<Vec<ZoneCor
     Ok(all)
 }
 
-/// A part to each core, in order. Refused only for want of memory.
+/// A part to each core, in order. Refused only for lack of memory.
 pub(crate) fn deal(cores: &mut Vec<ZoneCore>, mut parts: Vec<Core>) -> Result<(), Fault>
     requires { vec_len parts ≡ vec_len cores.old }
     ensures dealt { OnOk result (AreDealt cores.old.items parts.items cores.new.items) }

@@ -20,7 +20,7 @@ use std::alloc::Global;
 
 impl Zones {
     /// A zone at each image that equals its own rebuilding, so many cores of all zones, and what each
-    /// image holds. Refused as `BadRange` where zones may not lie so, else for want of memory.
+    /// image holds. Refused as `BadRange` where zones may not lie so, else for lack of memory.
     pub fn open_at(
         alloc: Global,
         cores: u32,

@@ -6,7 +6,9 @@ ghost use Rattle.frame_zones.specs.Spans.{most_zone_frames, place_of, place_at, 
 use crate::image::ZoneImage;
 use frame_words::Geometry;
 
-const MOST_ZONES: usize = 1024;
+/// The most zones of a memory.
+pub const MOST_ZONES: usize = 1024;
+
 // 64 bits address so many frames of 4 KiB.
 const MOST_FRAMES: u64 = 4503599627370496;
 

@@ -18,7 +18,7 @@ pub struct StopRoom {
 }
 
 impl Zones {
-    /// Room for the words of all zones, for a stop. Refused only for want of memory.
+    /// Room for the words of all zones, for a stop. Refused only for lack of memory.
     pub fn make_room(&self, alloc: Global) -> Result<StopRoom, Fault>
         ensures room { IfOk result (IsRoomForAll self.now) }
         ensures err { IfErr result (λ e. e ≡ Fault.NoMemory) }

@@ -1,34 +1,22 @@
 -- Blocks of zones, as C carries them.
-use Rattle.std.proofs.Common.{◌≡◌, ℕ, List, [], ◌∷◌, Option, Some, refl, ap, sym, subst, ◌∙◌}
+use Rattle.std.proofs.Common.{◌≡◌, ℕ, [], refl, ap, sym, subst}
 use Rattle.std.specs.Arc.{arc_value}
 use Rattle.atomic_table.specs.Seated.{TableId}
 use Rattle.atomic_table.specs.Table.{Me}
-use Rattle.atomic_table.specs.declared.shared.Seat.{Seat}
 use Rattle.frame_model.specs.Block.{block}
 use Rattle.frame_model.specs.Events.{eye}
-use Rattle.frame_model.specs.View.{holder}
 use Rattle.frame_model.specs.declared.view.Eye.{Eye}
 use Rattle.frame_zones.specs.Zones.{first_frame_in, IsOutIn}
 use Rattle.frame_zones.specs.declared.block.ZoneBlock.{ZoneBlock}
 use Rattle.frame_zones.specs.declared.zones.Zones.{Zones}
-use Rattle.zone_slots.specs.Blocks.{IsRightIn, IsRightFor}
+use Rattle.zone_slots.specs.Blocks.{IsRightIn}
 use Rattle.frame_words.specs.declared.fault.TakeFault.TheVariants.{NoBlock}
 use Rattle.frame_zones.specs.declared.zones.ZoneCore.{ZoneCore}
 use Rattle.zone_slots.specs.Calls.{zones_of}
 use Rattle.zone_slots.specs.Uses.{FindNothing, IsRefusedBlock}
 use Rattle.zone_slots.specs.declared.core_state.CoreState.{CoreState}
 use Rattle.llfree_c.specs.Blocks.{Carries, IsOutOfOne}
-use Rattle.llfree_c.specs.SeenCores.{OnCores}
-use Rattle.llfree_c.specs.Rights.{IsRightTo, first_frame}
 use Rattle.llfree_c.specs.declared.block_handle.BlockHandle.{BlockHandle}
-
--- a seat of one block is a right to it
-pub right_to : (views : List Eye) (e : Eye) (frame order : ℕ) → views ≡ e ∷ []
-    → e ≡ eye (holder e.view.about (block frame order)) [] → IsRightTo order views
-right_to views e frame order one owns =
-    let local : first_frame e.view.own ≡ frame = ap (λ (x : Eye). first_frame x.view.own) owns in
-    subst (IsRightTo order) (sym one)
-    (ap (λ (x : Eye). x ∷ []) (owns ∙ ap (λ k. eye (holder e.view.about (block k order)) []) (sym local)))
 
 -- the seat of a block that is out is the right to it
 pub right_of : (zs : Zones) (b : ZoneBlock) → IsOutIn zs b
@@ -60,17 +48,6 @@ carried_out s b h out is =
           (subst (λ (t : TableId). IsRightIn zs (first_frame_in zs b) b.block.order t me) (sym is.table) right));
     }
 
--- what was carried is the right to the block of the number
-pub carried_right : (s : CoreState) (h : BlockHandle) (frame order : ℕ) (seat : Seat (Unit {0}) Eye)
-    → Carries h frame order seat → IsOutOfOne s h → IsRightFor s frame order seat.table_id seat.me
-carried_right s h frame order seat is out =
-    let first : out.eye ≡ seat.me.0 = (let e : out.eye ∷ [] ≡ seat.me.0 ∷ [] = sym out.views ∙ is.views in cc) in
-    let me : (out.eye, []) ≡ seat.me = λ i. (first i, sym is.bare i) in
-    subst (λ (k : ℕ). IsRightFor s k order seat.table_id seat.me) is.frame
-    (subst (λ (k : ℕ). IsRightFor s h.frame k seat.table_id seat.me) is.order
-    (subst (λ (t : TableId). IsRightFor s h.frame h.order t seat.me) is.table
-    (subst (λ (m : Me (Unit {0}) Eye). IsRightFor s h.frame h.order h.right.badge.table_id m) me out.right)))
-
 -- cores of one memory have the same blocks out
 pub out_still : (s t : CoreState) (h : BlockHandle) → t.shared ≡ s.shared → IsOutOfOne t h → IsOutOfOne s h
 out_still s t h same out = record {
@@ -88,10 +65,3 @@ found_nothing zs order c d refused z a x less = record {
   unlost = refused.0.1 z a x less;
   lent = refused.1 z a x less;
 }
-
--- what is so of two cores is so of them behind handles
-pub on_cores : (relates : CoreState → CoreState → Type 0) (old new : Option CoreState) (s t : CoreState) → old ≡ Some s
-    → new ≡ Some t → relates s t → OnCores relates old new
-on_cores relates old new s t was is so =
-    subst (λ (o : Option CoreState). OnCores relates o new) (sym was)
-    (subst (λ (o : Option CoreState). OnCores relates (Some s) o) (sym is) so)

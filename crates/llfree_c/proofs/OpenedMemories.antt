@@ -1,24 +1,12 @@
 -- Sizes and ranges, as C passes them and as an allocator reads them.
-use Rattle.std.proofs.Common.{◌≡◌, inl, inr, ℕ, ◌+◌, ◌/◌, ◌≤◌, List, length, ap, sym, subst, ◌∙◌, arith}
+use Rattle.std.proofs.Common.{◌≡◌, ℕ, ◌≤◌, List, length, ap, subst, ◌∙◌, arith}
 use Rattle.std.proofs.lemmas.List.{length-map}
-use Rattle.frame_words.specs.Geometry.{IsWithinLimits, EndsInLastChild}
-use Rattle.frame_words.specs.declared.fault.Fault.TheVariants.{BadRange, NoMemory}
 use Rattle.frame_words.specs.declared.geometry.Geometry.{Geometry}
 use Rattle.frame_model.specs.declared.key.Key.{Key}
 use Rattle.frame_model.specs.Key.{most_ranges, AreRanges, sealed_key}
-use Rattle.core_frames.specs.Ranges.{MayHoldBack, IsUnopenedFor}
-use Rattle.llfree_c.specs.Openings.{AreMemorySizes, pair_of, pairs_of, MayLieBack, IsMemoryOf}
+use Rattle.core_frames.specs.Ranges.{MayHoldBack}
+use Rattle.llfree_c.specs.Openings.{pair_of, pairs_of, MayLieBack, IsMemoryOf}
 use Rattle.llfree_c.specs.declared.ranges.FrameRange.{FrameRange}
-
--- sizes that there are make a geometry
-pub sizes_fit : (frames cores children : ℕ) → children ≡ (frames + 511) / 512 → AreMemorySizes frames cores
-    → IsWithinLimits children cores × EndsInLastChild children frames
-sizes_fit frames cores children e sizes =
-    let some = sizes.some_frames in
-    let few = sizes.few_frames in (
-      (omega (arith, e, some), omega (arith, e, few), sizes.some_cores, sizes.few_cores),
-      (omega (arith, e, some), omega (arith, e, some)),
-    )
 
 -- as many pairs as ranges
 pub as_many : (ranges : List FrameRange) (pairs : List (ℕ × ℕ)) → pairs ≡ pairs_of ranges
@@ -34,15 +22,6 @@ lies_back g frames ranges pairs size e may = record {
       (subst (λ (ps : List (ℕ × ℕ)). AreRanges 0 g.frames ps) e may.apart);
 }
 
--- ranges that may lie back are held back by an allocator
-pub holds_back : (g : Geometry) (frames : ℕ) (ranges : List FrameRange) (pairs : List (ℕ × ℕ)) → g.frames ≡ frames
-    → pairs ≡ pairs_of ranges → MayLieBack frames ranges → MayHoldBack g pairs
-holds_back g frames ranges pairs size e may = record {
-  few = subst (λ (n : ℕ). n ≤ most_ranges) (sym (as_many ranges pairs e)) may.few;
-  apart = subst (λ (n : ℕ). AreRanges 0 n pairs) (sym size)
-      (subst (λ (ps : List (ℕ × ℕ)). AreRanges 0 frames ps) (sym e) may.apart);
-}
-
 -- the key of an opening is that of the memory that was asked for
 pub memory_of_key : (g : Geometry) (frames : ℕ) (ranges : List FrameRange) (pairs : List (ℕ × ℕ)) (key : Key)
     → g.frames ≡ frames → pairs ≡ pairs_of ranges → MayHoldBack g pairs → key ≡ sealed_key g pairs
@@ -53,9 +32,3 @@ memory_of_key g frames ranges pairs key size e may is = record {
   sealed = ap (λ (k : Key). k.sealed) is;
   lawful = lies_back g frames ranges pairs size e may;
 }
-
--- a refusal of the ranges says that they may not lie back
-pub refuses_ranges : (g : Geometry) (frames : ℕ) (ranges : List FrameRange) (pairs : List (ℕ × ℕ))
-    → g.frames ≡ frames → pairs ≡ pairs_of ranges → IsUnopenedFor g pairs BadRange → ¬ MayLieBack frames ranges
-refuses_ranges g frames ranges pairs size e (inl refused) may = refused.1 (holds_back g frames ranges pairs size e may)
-refuses_ranges g frames ranges pairs size e (inr refused) may = absurd (let f : BadRange ≡ NoMemory = refused.0 in cc)

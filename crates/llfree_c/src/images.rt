@@ -11,7 +11,7 @@ ghost use Rattle.zone_slots.specs.Layouts.{Stretch, AreEven, MayBeLaidOut};
 use frame_core::Image;
 use frame_slots::CHILD_NUMBERS;
 use frame_words::{CHILD_FRAMES, CHILD_WORDS, MOST_FRAMES, entry};
-use zone_slots::MOST_ZONES;
+use frame_zones::MOST_ZONES;
 
 /// How many numbers the image of so many frames has, in one zone or in even ones; none where there is no
 /// such memory.

@@ -18,9 +18,9 @@ use crate::core_openings::boxed;
 use crate::ranges::{FrameRange, as_pairs, pairs_in};
 use crate::statuses::{BAD_GEOMETRY, BAD_RANGE, NO_MEMORY, NOT_CLOSED};
 use frame_words::{Fault, MOST_CORES};
-use frame_zones::Span;
+use frame_zones::{MOST_ZONES, Span};
 use std::alloc::Global;
-use zone_slots::{CoreState, MOST_ZONES, even_zones, open_bare_cores, open_cores, spans_of};
+use zone_slots::{CoreState, even_zones, open_bare_cores, open_cores, spans_of};
 
 // All frames of the most zones.
 const MOST_ZONE_FRAMES: u32 = 2147483648;

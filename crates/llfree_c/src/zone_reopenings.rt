@@ -13,8 +13,9 @@ use crate::ranges::{FrameRange, as_pairs};
 use crate::reopened::reopened_states;
 use crate::statuses::{BAD_GEOMETRY, OK};
 use crate::zone_cores::cores_for;
+use frame_zones::MOST_ZONES;
 use std::alloc::Global;
-use zone_slots::{CoreState, MOST_ZONES, may_be_laid_out};
+use zone_slots::{CoreState, may_be_laid_out};
 
 /// As `llfree_reopen`, of these zones. The numbers are those of their image, zone after zone.
 #[unsafe(no_mangle)]

@@ -129,13 +129,13 @@ pub record MayAnswer (a : Allocator) (own : Desk) (s : Stretch) : Type 0 where
   pub sealed : (memory_of a).sealed ≡ true
   pub runnable : IsRunnable s
 
--- and those of stretches
+-- the requests of stretches may run from a desk of a sealed memory
 pub record MayRun (a : Allocator) (own : Desk) (stretches : List Stretch) : Type 0 where
   pub desk : IsDeskOf a own
   pub sealed : (memory_of a).sealed ≡ true
   pub runnable : All IsRunnable stretches
 
--- they may run from these desks
+-- the requests of stretches may run from desks of a sealed memory
 pub record MayRunAll (a : Allocator) (all : List Desk) (stretches : List Stretch) : Type 0 where
   pub desks : All (IsDeskOf a) all
   pub sealed : (memory_of a).sealed ≡ true

@@ -104,7 +104,7 @@ WrongSuccess = (input input' output output' : Watched (Option (List ℕ))) (text
     × (has_failed output' ≡ true → ¬ Rebuilds input input' output output' (Ok tt))
 
 -- a failed read is told as no other fault, and none is told where the reader works and its text isn't too long; a text
--- that is too long is told as nothing else but want of memory
+-- that is too long is told as nothing else but lack of memory
 abbrev pub WrongReading : Type 0
 WrongReading = (input input' output output' : Watched (Option (List ℕ))) (text : List ℕ) (f : Fault)
     → (has_failed input' ≡ true → f ≢ fault.ReadFailed → ¬ Rebuilds input input' output output' (Err f))
@@ -114,7 +114,7 @@ WrongReading = (input input' output output' : Watched (Option (List ℕ))) (text
     → ¬ Rebuilds input input' output output' (Err f))
     × (device_of input ≡ Some text → MOST_BYTES < length text → ¬ Rebuilds input input' output output' (Ok tt))
 
--- no fault is told but want of memory, that of a device, or one that the text explains; a failed write is told only where
+-- no fault is told but lack of memory, that of a device, or one that the text explains; a failed write is told only where
 -- one failed and a front of the right bytes was written, and with any other fault nothing was written
 abbrev pub WrongFault : Type 0
 WrongFault = (input input' output output' : Watched (Option (List ℕ))) (text : List ℕ) (f : Fault)

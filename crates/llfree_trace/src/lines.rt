@@ -109,7 +109,7 @@ fn request_of(core: u32, line: &Line) -> Option<&Request>
 }
 
 // Answers the request of the record with this number, between the calls of the gate. Refused only
-// for want of memory.
+// for lack of memory.
 fn answer_at<G: Gate>(
     desk: &mut Desk,
     allocator: &Allocator,
@@ -137,7 +137,7 @@ fn answer_at<G: Gate>(
     })
 }
 
-// Answers a request. Refused only for want of memory.
+// Answers a request. Refused only for lack of memory.
 fn answer(desk: &mut Desk, allocator: &Allocator, request: &Request) -> Result<Reply, Fault>
     requires desk { IsDeskOf allocator.now desk.old }
     requires sealed { (memory_of allocator.now).sealed ≡ true }

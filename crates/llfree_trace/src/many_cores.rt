@@ -22,7 +22,7 @@ use trace_text::Trace;
 /// all threads are started before the first is joined. Moves and ends of rounds stand between.
 ///
 /// Answers may differ from run to run; each fits the trace. `BadRange` where the ranges of its
-/// records may not be held back, before anything is run; else refused only for want of memory or of
+/// records may not be held back, before anything is run; else refused only for lack of memory or of
 /// a thread.
 pub fn run_trace<G: Gate, R: Threads + Wait>(
     rt: &R,

@@ -103,7 +103,7 @@ fn run_cores<'s, E, G: Gate, R: Threads>(
 }
 
 /// Runs a round: the requests of each core that has any on a thread of their own. All threads are
-/// started before the first is joined. Refused only for want of memory or of a thread.
+/// started before the first is joined. Refused only for lack of memory or of a thread.
 pub(crate) fn run_round<G: Gate, R: Threads + Wait>(
     rt: &R,
     alloc: Global,

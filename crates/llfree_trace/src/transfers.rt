@@ -11,7 +11,7 @@ use frame_words::Fault;
 use trace_text::Reply;
 
 /// The oldest block under the label goes from a core's desk to the end of another's. Refused only
-/// for want of memory.
+/// for lack of memory.
 pub(crate) fn move_block(
     allocator: &Allocator,
     desks: &mut Vec<Desk>,

@@ -31,10 +31,6 @@ use Rattle.low_frames.proofs.HeldLemmas.{claimed_run, block_as_words, words_as_b
 abbrev pub AreFirstOf : Key → ℕ → ℕ → List ℕ → List ℕ → Type 0
 AreFirstOf key child i list words = (j : ℕ) → j < i → slice_index list j ≡ bit_word_of key words (8 * child + j)
 
-pub none_loaded : (key : Key) (child : ℕ) (list : List ℕ) (old : Option (List ℕ)) → FindsOf (AreFirstOf key child 0 list) old old
-none_loaded key child list None = tt
-none_loaded key child list (Some ws) = (refl, λ j h. absurd (omega arith))
-
 -- one word more was loaded
 pub loaded_more : (key was : Key) (child i found : ℕ) (list : List ℕ) (old mid new : Option (List ℕ)) → key ≡ was → i < 8
     → length list ≡ 8 → IfSome mid (λ ws. (slice_index ws (bits_place key (8 * child + i)) ≡ found) × (new ≡ Some ws))

@@ -1,5 +1,5 @@
 -- What takes and gives find and leave where nobody else steps.
-use Rattle.std.specs.Prelude.{◌≡◌, ◌≢◌, ◌⊎◌, ℕ, ◌+◌, ◌/◌, ◌%◌, ◌<◌, ◌≤◌, List, Option, Some, IfSome, Bool, MatchBool, slice_index}
+use Rattle.std.specs.Prelude.{◌≡◌, ◌≢◌, ◌⊎◌, ℕ, ◌+◌, ◌/◌, ◌%◌, ◌<◌, ◌≤◌, List, Option, Some, IfSome, slice_index}
 use Rattle.frame_words.specs.Geometry.{child_frames}
 use Rattle.frame_words.specs.Runs.{word_bits, IsClearRun, HasNoClearRun}
 use Rattle.frame_model.specs.declared.block.FrameBlock.{FrameBlock}
@@ -59,11 +59,6 @@ pub record IsCharged (key : Key) (child n : ℕ) (old new : List ℕ) : Type 0 w
 -- the entry of the child shows a huge frame, or fewer free frames than n
 abbrev pub HasTooFew : ℕ → ℕ → List ℕ → Type 0
 HasTooFew child n words = (huge_of words child ≡ 1) ⊎ (free_of words child < n)
-
--- what charging does where the words are known
-abbrev pub ChargesOf : ℕ → ℕ → Key → Bool → Option (List ℕ) → Option (List ℕ) → Type 0
-ChargesOf child n key made old new =
-    MatchBool made (Turns (IsCharged key child n) old new) (FindsOf (HasTooFew child n) old new)
 
 -- a run of 2 ^ order bits of the bit word, clear before, is set
 pub record IsClaimed (key : Key) (word bit order : ℕ) (old new : List ℕ) : Type 0 where

@@ -293,11 +293,3 @@ pub viewed_in : {share lost : ℕ} (key : Key) (bytes bytes' : List ℕ) (p c : 
 viewed_in {share = share} {lost = lost} key bytes bytes' p c r own own' filled n n' el eo en =
     let z : pos (out_count bytes) -ℤ pos 1 ≡ pos (out_count bytes') = ap (λ k. pos k -ℤ pos 1) el ∙ one_back (out_count bytes') in
     λ i. record (plain_view key share bytes p c r (eo i) filled (en i) lost) { lent = z i }
-
--- another block that is out stays so
-pub still_other : (bytes : List ℕ) (b d : FrameBlock) → IsOutIn bytes b → d ≢ b → IsOutIn bytes d → IsOutIn (set bytes b.frame 0) d
-still_other bytes b d out differs now =
-    let ne : d.frame ≢ b.frame =
-    (λ e. let o : d.order ≡ b.order = omega (arith, out.1, now.1, ap (λ j. get_or bytes j 0) e) in
-    differs (λ i. block (e i) (o i))) in
-    (omega (arith, now.0, set_length bytes b.frame 0), set_there bytes b.frame d.frame 0 ne ∙ now.1)

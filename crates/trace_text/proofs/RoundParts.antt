@@ -1,12 +1,12 @@
 -- The parts of a trace of one round.
 use Rattle.std.proofs.Common.{◌≡◌, ◌≤◌, ◌<◌, ◌+◌, ◌∙◌, ℕ, List, [], ◌∷◌, ◌++◌, true, ap, arith, get_or, length, length-append, take, drop}
-use Rattle.std.proofs.Common.{inl, inr, refl, sym}
+use Rattle.std.proofs.Common.{inr, refl, sym}
 use Rattle.std.specs.List.{All}
 use Rattle.std.proofs.lemmas.Grind.{flat_map-append}
 use Rattle.std.proofs.lemmas.List.{append-nil, take-append-drop, take_more}
 use Rattle.std.proofs.lemmas.List.Elements.{All-push}
-use Rattle.trace_text.specs.Parts.{IsJoint, IsOneRound, IsPutBehind, IsRoundOrWhole, goes_behind, lines_of}
-use Rattle.trace_text.specs.Trace.{is_one_round, most_records}
+use Rattle.trace_text.specs.Parts.{IsOneRound, IsPutBehind, goes_behind, lines_of}
+use Rattle.trace_text.specs.Trace.{most_records}
 use Rattle.trace_text.specs.TraceText.{may_follow}
 use Rattle.trace_text.specs.declared.line.Line.{Line}
 use Rattle.trace_text.specs.declared.line.Line.TheVariants as line
@@ -16,10 +16,6 @@ pub lines_of_more : (parts : List (List Line)) (part : List Line) → lines_of (
 lines_of_more parts part =
     flat_map-append (λ (p : List Line). p) parts (part ∷ [])
     ∙ ap (λ (l : List Line). lines_of parts ++ l) (append-nil part)
-
--- a part alone
-pub lines_of_one : (part : List Line) → lines_of (part ∷ []) ≡ part
-lines_of_one part = append-nil part
 
 -- the first parts have no more records than all
 pub fewer_lines : (i : ℕ) (parts : List (List Line)) → length (lines_of (take i parts)) ≤ length (lines_of parts)
@@ -55,11 +51,4 @@ round_put parts part few rounds one = record {
     goes = round_goes (lines_of parts) part one;
   };
   rounds = inr (All-push IsOneRound parts part rounds one);
-}
-
--- all records in a row, as one part
-pub row_put : (parts : List (List Line)) (part lines : List Line) → IsJoint (lines_of parts) part lines → IsPutBehind parts part (lines ∷ [])
-row_put parts part lines joint = record {
-  joint = rw (lines_of_one lines) joint;
-  rounds = inl refl;
 }

@@ -12,7 +12,7 @@ use frame_words::Fault;
 use std::alloc::Global;
 
 /// The text of answers, a record each, and last how many frames are held and free after them; the only fault is
-/// want of memory.
+/// lack of memory.
 #[tactic(auto, unfolding(crate::specs::AnswerText::answers_of))]
 pub fn answers_text(
     alloc: Global,

@@ -67,6 +67,7 @@ pub fn parse_parts<R: Threads + Wait>(
         }
     }
     let trace = parse_trace(alloc, geometry, text)?;
+    // By a clause of its own they are as few as `few` says.
     let _lines = trace.lines();
     alone(alloc, trace)
 }

@@ -19,12 +19,6 @@ meets ranges from end n apart cut some within begins =
     (λ (h : first ≤ from). (from, omega arith, some, (n, within, (h, omega (arith, behind)))))
     (cases_lt from first)
 
-pub meets_none : (ranges : List Stretch) (from end n : ℕ) → AreApart ranges → EndAtOrBelow from ranges n
-    → (n < length ranges → end ≤ (stretch_at ranges n).0) → ¬ Meet from end ranges
-meets_none ranges from end n apart cut begins meet =
-    in_none ranges from meet.0 n cut.below meet.1 apart.ascend
-    (λ within. omega (arith, begins within, meet.2)) meet.3
-
 -- a frame in front of the next zone and behind those before it lies in none
 pub in_hole : (zones : List Stretch) (from x i : ℕ) → MayBeLaidOut zones
     → ((k : ℕ) → k < i → end_of (stretch_at zones k) ≤ from) → from ≤ x

@@ -3,9 +3,8 @@ use Rattle.std.proofs.Common.{◌≡◌, ℕ, ℤ, pos, ◌+ℤ◌, ◌-ℤ◌, 
 use Rattle.std.proofs.lemmas.Bool.{cases_eq, true≢false}
 use Rattle.std.proofs.Math.IntN.{+ℤ-neg_ℤ_cancel}
 use Rattle.std.proofs.Math.Nat.{one-le-pow}
-use Rattle.std.specs.Prelude.{true, Option, Some, None, IfSome, option_map}
+use Rattle.std.specs.Prelude.{true, Option, Some, None, IfSome}
 use Rattle.std.specs.Option.{is_some}
-use Rattle.std.specs.Arc.{arc_value}
 use Rattle.core_frames.specs.declared.shared.allocator.Allocator.{Allocator}
 use Rattle.core_frames.specs.declared.shared.allocator.Core.{Core}
 use Rattle.core_frames.specs.Cores.{memory_of, lent_by}
@@ -23,15 +22,12 @@ use Rattle.frame_zones.specs.declared.zones.Zones.{Zones}
 use Rattle.frame_zones.specs.declared.zones.ZoneCore.{ZoneCore}
 use Rattle.frame_zones.specs.declared.block.ZoneBlock.{ZoneBlock}
 use Rattle.zone_slots.specs.Blocks.{HasTakenBlock, HasSplitBlock}
-use Rattle.zone_slots.specs.Calls.{zones_of, laid_down, SharesOne, TakesFor}
 use Rattle.zone_slots.specs.Layouts.{most_numbers}
 use Rattle.frame_table.specs.declared.block.Block.{Block}
 use Rattle.frame_zones.specs.Frames.{IsFrameIn}
 use Rattle.zone_slots.specs.Memories.{number_for, AreNumbered, IsOutOfZone}
 use Rattle.zone_slots.specs.Uses.{TakesInZone, GivesInZone, SplitsInZone, GivesByNumber, SplitsByNumber, one_more}
 use Rattle.zone_slots.specs.Uses.{LendAsMany, FindsNoSlot, IsReceiptOf, HasTakenFor, IsRefusedBlock, IsRefusedTake}
-use Rattle.zone_slots.specs.declared.core_state.CoreState.{CoreState}
-use Rattle.zone_slots.specs.declared.memory.Memory.{Memory}
 use Rattle.zone_slots.specs.declared.zone_receipt.ZoneReceipt.{ZoneReceipt}
 
 -- a block was taken in its zone
@@ -96,16 +92,6 @@ pub given_by_number : {U : Type 0} {E : Type 0} (zs : Zones) (frame order z loca
 given_by_number zs frame order z local (Ok u) c d is gives =
     record { zone = z; local = local; within = is.zone; number = sym is.sum; holds = gives }
 given_by_number zs frame order z local (Err e) c d is gives = tt
-
-pub given_among : (zs : Zones) (frame order : ℕ) (b : ZoneBlock) (c d : ZoneCore) → IsOutIn zs b
-    → first_frame_in zs b ≡ frame → b.block.order ≡ order → GivesIn zs b.zone c d → GivesByNumber zs order frame c d
-given_among zs frame order b c d out frame-is order-is gives = record {
-  zone = b.zone;
-  local = b.block.frame;
-  within = out.zone;
-  number = sym frame-is;
-  holds = subst (λ k. GivesInZone zs k c d b.zone b.block.frame) order-is (given_in zs b c d out gives);
-}
 
 -- a block was split in its zone
 pub halved_in : (zs : Zones) (b first second : ZoneBlock) (c d : ZoneCore) → HasSplitIn zs b first second c d
@@ -179,17 +165,6 @@ number_fits zs n c d r numbered are taken =
     let a : Allocator = some_zone zs r.zone taken.zone in
     let x : Core = some_core c r.zone (subst (λ k. r.zone < k) (sym are.parts.count) taken.zone) in
     omega (arith, numbered r.zone a taken.zone, (taken.taken.here a x).is_block.inside, one-le-pow n 2 (omega arith))
-
--- the block was laid down, and is the last one that was
-pub takes_for : (s t : CoreState) (r : ZoneReceipt) (frame n : ℕ) → SharesOne s t → t.last ≡ Some r
-    → frame ≡ number_for (zones_of s) r → HasTakenFor (zones_of s) n s.core t.core r → TakesFor n frame s t
-takes_for s t r frame n shares last number taken = record {
-  taken = record { zone = r.zone; local = r.receipt.frame; within = taken.zone; number = number; holds = taken.taken };
-  laid = ap (option_map (laid_down (zones_of t))) last
-      ∙ ap (λ (m : Memory). Some (block (number_for m.zones r) r.receipt.order)) (ap arc_value shares)
-      ∙ ap (λ k. Some (block k r.receipt.order)) (sym number)
-      ∙ ap (λ k. Some (block frame k)) taken.order;
-}
 
 -- what a take of all zones answers
 pub taken_ok : (zs : Zones) (n : ℕ) (answer : Result ZoneBlock TakeFault) (c d : ZoneCore) → AreCoresOf zs c

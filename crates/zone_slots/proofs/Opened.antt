@@ -1,5 +1,5 @@
 -- A memory of zones is opened, with the slots of each.
-use Rattle.std.proofs.Common.{◌≡◌, ℕ, ◌+◌, ◌<◌, List, [], ◌∷◌, ◌++◌, length, map, slice_index_or, slice_set, refl, sym, ◌∙◌, ap, subst, arith, inl, inr, length-set, Result, Ok, Err, IfOk}
+use Rattle.std.proofs.Common.{◌≡◌, ℕ, ◌+◌, ◌<◌, List, [], ◌∷◌, ◌++◌, length, map, slice_index_or, slice_set, sym, ◌∙◌, ap, subst, arith, inl, inr, length-set, Result, Ok, Err, IfOk}
 use Rattle.std.specs.List.{All}
 use Rattle.std.specs.Prelude.{Bool}
 use Rattle.std.proofs.lemmas.Bool.{cases_eq, cases_lt}
@@ -12,7 +12,7 @@ use Rattle.core_frames.specs.Cores.{memory_of, IsCoreOf, IsNewCore}
 use Rattle.frame_slots.specs.SlotLists.{IsListOf}
 use Rattle.frame_slots.specs.Slots.{IsUnused, IsUsedAsBefore}
 use Rattle.frame_slots.specs.declared.slots.SlotList.{SlotList}
-use Rattle.frame_zones.specs.Openings.{AreOpened, IsNewIn, IsAt, AreUnopenedFor}
+use Rattle.frame_zones.specs.Openings.{AreOpened, IsNewIn, IsAt}
 use Rattle.frame_zones.specs.Spans.{Place, place_of}
 use Rattle.frame_zones.specs.Zones.{zone_count, zone_at, core_at, first_frame_of, AreCoresOf}
 use Rattle.frame_zones.specs.declared.spans.Span.{Span}
@@ -21,7 +21,7 @@ use Rattle.frame_zones.specs.declared.zones.ZoneCore.{ZoneCore}
 use Rattle.frame_zones.proofs.Parted.{some_of}
 use Rattle.frame_zones.proofs.Placing.{others_stay, at_any_zone}
 use Rattle.zone_slots.specs.Memories.{AreNumbered, AreSlotted}
-use Rattle.zone_slots.specs.Openings.{LieAt, HasSlots, IsListIn, AreListsIn, IsUsedAlike, IsUnusedCore, HasNumbers, MayBeOpened, IsNoOpening, AreUnusedIn}
+use Rattle.zone_slots.specs.Openings.{HasSlots, IsListIn, AreListsIn, IsUsedAlike, IsUnusedCore, HasNumbers, AreUnusedIn}
 
 -- where the written core belongs to its zone, all do
 pub cores_still : (zs : Zones) (c d : ZoneCore) (z : ℕ) (a : Allocator) (x y : Core) → AreCoresOf zs c → z < zone_count zs
@@ -39,21 +39,6 @@ cores_still zs c d z a x y are within a-is x-is is home one = record {
   };
   home = subst (λ h. h < zone_count zs) (sym home) are.home;
 }
-
--- where the written core is used as before, each is
-pub used_here : (zs : Zones) (c d : ZoneCore) (z : ℕ) (a : Allocator) (x y : Core) → AreCoresOf zs c → z < zone_count zs
-    → a ≡ zone_at zs z a → x ≡ core_at c z x → d.cores.items ≡ slice_set c.cores.items z y → IsUsedAsBefore x y
-    → IsUsedAlike zs c d
-used_here zs c d z a x y are within a-is x-is is used k b e k-within =
-    elim (cases_eq k z) as (λ _. IsUsedAsBefore (core_at c k e) (core_at d k e)) [
-      | inl same ↦ subst (λ i. IsUsedAsBefore (core_at c i e) (core_at d i e)) (sym same)
-          (at_any_zone (λ _ g h. IsUsedAsBefore g h) zs c d z a b x y e within are.parts.count a-is x-is is used)
-      | inr other ↦ subst (λ (g : Core). IsUsedAsBefore (core_at c k e) g) (sym (others_stay zs c d z y is k e k-within other))
-          (record { lent = refl; kept = refl })
-    ]
-
-pub used_alike : (zs : Zones) (c : ZoneCore) → IsUsedAlike zs c c
-used_alike zs c z a x within = record { lent = refl; kept = refl }
 
 pub used_then : (zs : Zones) (c d e : ZoneCore) → IsUsedAlike zs c d → IsUsedAlike zs d e → IsUsedAlike zs c e
 used_then zs c d e one two z a x within = record {
@@ -98,16 +83,6 @@ list_more has zs lists i list count before one z s below =
 pub slotted : (has : Bool) (zs : Zones) (lists : List SlotList) → AreListsIn has zs lists → AreSlotted zs lists
 slotted has zs lists are = record { count = are.count; each = λ z a s within. (are.each z s within).is_list a }
 
--- what an opening gives
-pub lie_at : (as_many : ℕ) (places : List Place) (zs : Zones) (cs : List ZoneCore) → AreOpened as_many places zs cs
-    → LieAt as_many places zs
-lie_at as_many places zs cs opened = record {
-  lawful = opened.lawful;
-  count = opened.zones;
-  same_cores = opened.as_many;
-  are_at = opened.are_at;
-}
-
 pub unused_in : (as_many : ℕ) (places : List Place) (zs : Zones) (cs : List ZoneCore) → AreOpened as_many places zs cs
     → AreUnusedIn zs cs
 unused_in as_many places zs cs opened = record {
@@ -136,16 +111,6 @@ numbered as_many spans zs cs opened numbers z a within =
       ap (λ (q : Place). q.key.children) same,
       numbers z s here,
     )
-
-pub no_numbers : (as_many : ℕ) (spans : List Span) → ¬ All HasNumbers spans → ¬ MayBeOpened as_many spans
-no_numbers as_many spans none may = none may.numbers
-
-pub no_opening : (as_many : ℕ) (spans : List Span) (fault : Fault) → All HasNumbers spans → AreUnopenedFor as_many spans fault
-    → IsNoOpening as_many spans fault
-no_opening as_many spans fault numbers why = elim why as (λ _. IsNoOpening as_many spans fault) [
-  | inl bad ↦ inl (bad.0, λ may. bad.1 (may.lie, may.lawful))
-  | inr memory ↦ inr (memory.0, memory.1, numbers)
-]
 
 -- where it is an answer, what is said of it twice gives a third
 pub both_ok : (r : Result SlotList Fault) (P Q R : SlotList → Type 0) → ((s : SlotList) → P s → Q s → R s)

@@ -9,7 +9,7 @@ use Rattle.frame_zones.specs.Zones.{zone_count}
 use Rattle.frame_zones.specs.declared.zones.Zones.{Zones}
 use Rattle.zone_slots.specs.ImageParts.{numbers_before}
 use Rattle.zone_slots.specs.Memories.{number_for}
-use Rattle.zone_slots.specs.Uses.{TakesByNumber, GivesByNumber, SplitsByNumber, LendAsMany, FindNothing, LoseSome, FindsNoSlot, IsRefusedBlock, IsRefusedTake, one_more}
+use Rattle.zone_slots.specs.Uses.{TakesByNumber, GivesByNumber, SplitsByNumber, FindNothing, LoseSome, FindsNoSlot, IsRefusedBlock, IsRefusedTake, one_more}
 use Rattle.zone_slots.specs.declared.core_state.CoreState.{CoreState}
 use Rattle.zone_slots.specs.declared.zone_receipt.ZoneReceipt.{ZoneReceipt}
 
@@ -57,10 +57,6 @@ FindsNoneFor order s t = FindNothing (zones_of s) order s.core t.core
 -- the core is as it was in each zone
 abbrev pub KeepsCore : CoreState → CoreState → Type 0
 KeepsCore s t = t.core ≡ s.core
-
--- the core lends as many blocks of each zone as before
-abbrev pub LendsNoMore : CoreState → CoreState → Type 0
-LendsNoMore s t = LendAsMany (zones_of s) s.core t.core
 
 -- the core found no block of the order in any zone, and an exchange was lost to other cores
 abbrev pub LosesFor : ℕ → CoreState → CoreState → Type 0

@@ -23,7 +23,7 @@ abbrev pub AreNumbered : Zones → Type 0
 AreNumbered zs = (z : ℕ) (a : Allocator) → z < zone_count zs
     → end_from (first_frame_of zs z) (zone_at zs z a) ≤ most_numbers
 
--- the first zone begins at this frame, and has so many
+-- the first zone begins at this frame, and has so many frames
 pub record IsFirstOf (zs : Zones) (f : FirstZone) : Type 0 where
   pub first : f.first ≡ first_frame_of zs 0
   pub frames : f.frames ≡ slice_index_or zs.frames.items 0 0

@@ -60,8 +60,8 @@ impl Memory {
         self.give_elsewhere(core, frame, order)
     }
 
-    // The same of a block of any zone. It is looked for apart, so that in the first zone no number goes
-    // through memory.
+    // The same where the first zone does not have the frame. The look-up answers two numbers through memory,
+    // which a give in the first zone is spared.
     fn give_elsewhere(&self, core: &mut ZoneCore, frame: u32, order: u8) -> Result<(), Refusal>
         requires { AreCoresOf self.now.zones core.old }
         ensures core { AreCoresOf self.now.zones core.new }

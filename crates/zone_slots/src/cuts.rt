@@ -6,10 +6,9 @@ ghost use Rattle.zone_slots.specs.Layouts.{end_of, MayBeZone, MayBeLaidOut};
 ghost use Rattle.zone_slots.specs.Cuts.{AreApart, AreIn, AreInside, IsPieceOf, MayBeHeldBack, Meet};
 
 use crate::layouts::ends_at_or_below;
+use core_frames::MOST_RANGES;
 use frame_words::Fault;
 use std::alloc::Global;
-
-const MOST_RANGES: usize = 1024;
 
 /// May the zones hold these ranges back?
 pub fn may_be_held_back(zones: &[(u32, u32)], ranges: &[(u32, u32)]) -> bool
@@ -69,7 +68,7 @@ fn meet(from: u64, end: u64, ranges: &[(u32, u32)]) -> bool
 }
 
 /// What a zone with this first frame and so many frames has of the ranges, each piece counted from the
-/// zone's first frame. Refused for want of memory alone.
+/// zone's first frame. Refused for lack of memory alone.
 pub fn pieces_in(
     alloc: Global,
     first: u32,

@@ -3,7 +3,8 @@
 ghost use Rattle.std.specs.Prelude.{◌≡◌, ◌+◌, ◌<◌, IfSome};
 
 /// The first frame of the first zone, and how many frames it has. Each core has it beside its own parts:
-/// so most frames' zone is found without a look at the lists of all zones.
+/// so the zone of these frames, which are all that a memory of one zone has, is found without a look at the
+/// lists of all zones.
 #[derive(Clone, Copy)]
 pub struct FirstZone {
     pub(crate) first: u32,

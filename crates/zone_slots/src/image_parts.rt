@@ -24,7 +24,7 @@ pub fn image_numbers(zones: &[(u32, u32)]) -> usize
     sum
 }
 
-/// Where the numbers of each zone begin. Refused for want of memory alone.
+/// Where the numbers of each zone begin. Refused for lack of memory alone.
 pub fn image_starts(alloc: Global, zones: &[(u32, u32)]) -> Result<Vec<usize>, Fault>
     requires { MayBeLaidOut zones.now }
     ensures starts { IfOk result (λ starts. AreStarts zones.now starts.items) }

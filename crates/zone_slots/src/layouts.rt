@@ -5,10 +5,8 @@ ghost use Rattle.zone_slots.specs.Layouts.{most_numbers, stretch_at, LiesIn, Lie
 ghost use Rattle.zone_slots.specs.Layouts.{AreEven, AreNoZonesFor, Ascend, EndAtOrBelow};
 
 use frame_words::{CHILD_FRAMES, Fault, MOST_FRAMES};
+use frame_zones::MOST_ZONES;
 use std::alloc::Global;
-
-/// The most zones of a memory.
-pub const MOST_ZONES: usize = 1024;
 
 /// As many frames as 32 bits number.
 pub(crate) const MOST_NUMBERS: u64 = 4294967296;

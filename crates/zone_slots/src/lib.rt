@@ -28,7 +28,7 @@ pub use cuts::{may_be_held_back, pieces_in};
 pub use first_zone::FirstZone;
 pub use image_parts::{image_numbers, image_starts};
 pub use laws::wrong_takes_are_not_told;
-pub use layouts::{MOST_ZONES, even_zones, may_be_laid_out, zone_of};
+pub use layouts::{even_zones, may_be_laid_out, zone_of};
 pub use memory::Memory;
 pub use openings::open_cores;
 pub use refusal::Refusal;

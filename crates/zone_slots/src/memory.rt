@@ -119,7 +119,8 @@ impl Memory {
         self.zones.zone_of(hint, u64::from(frame))
     }
 
-    /// The same in its zone, counted from the zone's first frame.
+    /// The block of this order at this frame of the zone, counted from the zone's first one, if it rests at
+    /// its slot.
     #[inline(always)]
     pub(crate) fn fetch_in(&self, zone: u32, frame: u32, order: u8) -> Option<Block>
         requires { zone < zone_count self.now.zones }

@@ -26,7 +26,7 @@ pub(crate) const LISTS_APART: usize = 2;
 
 /// The cores of a memory with a zone for each span, whose opening holds back just the frames past the
 /// end of each zone and those of its ranges, which are never given out. Refused as `BadRange`, else for
-/// want of memory.
+/// lack of memory.
 pub fn open_cores(alloc: Global, cores: u32, spans: &[Span]) -> Result<Vec<CoreState>, Fault>
     ensures cores { IfOk result (λ states.
         AreAllCoresOf true cores (map place_of spans.now) states.items) }

@@ -16,12 +16,10 @@ use crate::memory::Memory;
 use crate::openings::{cores_over, open_memory, state_over};
 use frame_core::FrameBlock;
 use frame_slots::{CHILD_NUMBERS, Receipt};
-use frame_words::Fault;
+use frame_words::{CHILD_FRAMES, Fault};
 use frame_zones::{Span, ZoneCore};
 use std::alloc::Global;
 use std::sync::Arc;
-
-const CHILD_FRAMES: u32 = 512;
 
 /// The cores of zones that hold what the image with these numbers holds, nine for each child, zone after
 /// zone, whatever its counters say. The claimed blocks, a list for each zone, which ascend and count from

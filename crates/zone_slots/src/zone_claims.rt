@@ -26,7 +26,7 @@ pub fn are_in_zones(zones: &[(u32, u32)], blocks: &[FrameBlock]) -> bool
 }
 
 /// The blocks, of such as ascend, that begin in the zone with this first frame and so many frames, each
-/// counted from that first frame. Refused for want of memory alone.
+/// counted from that first frame. Refused for lack of memory alone.
 pub fn blocks_in(
     alloc: Global,
     first: u32,

@@ -16,7 +16,7 @@ use std::alloc::Global;
 
 /// The spans of zones with these first frames and so many frames each, for so many cores; each holds
 /// back what it has of the ranges. Refused as `BadGeometry` where zones may not lie so or there are not
-/// 1 to 64 cores, else as `BadRange` where the ranges may not be held back, else for want of memory.
+/// 1 to 64 cores, else as `BadRange` where the ranges may not be held back, else for lack of memory.
 pub fn spans_of(
     alloc: Global,
     cores: u32,

@@ -35,7 +35,7 @@ impl Seated for Core {
 impl Allocator {
     /// The words of the memory, once all cores are handed in. All that they keep is held and apart. That
     /// blocks which are still out are held too is by the body, which writes none.
-    /// Refused as `MissingCores` where a core is missing, else for want of memory.
+    /// Refused as `MissingCores` where a core is missing, else for lack of memory.
     pub fn close(self, alloc: Global, cores: Vec<Core>) -> Result<Image, CloseFault>
         requires { All (IsCoreOf self) cores.items }
         ensures ok { IfOk result (IsClosingOf (memory_of self) (map seat_of cores.items)) }

@@ -20,7 +20,7 @@ pub(crate) struct LeftFrames {
 }
 
 impl LeftFrames {
-    /// Those of the image. Refused only for want of memory.
+    /// Those of the image. Refused only for lack of memory.
     pub(crate) fn of(alloc: Global, image: &Image) -> Result<LeftFrames, Fault>
         ensures bits { IfOk result (λ l. AreBitWordsOf (key_in image.now) image.now.words l.bits.items) }
         ensures huge { IfOk result (λ l. AreFlagsOf (key_in image.now) image.now.words l.huge.items) }

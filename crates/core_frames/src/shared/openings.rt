@@ -14,7 +14,7 @@ use std::alloc::Global;
 
 impl Allocator {
     /// An allocator of a memory of which no frame is held but those past the end, and its cores.
-    /// Refused only for want of memory.
+    /// Refused only for lack of memory.
     pub fn open(alloc: Global, geometry: Geometry) -> Result<(Allocator, Vec<Core>), Fault>
         ensures opened { IfOk result (λ r. IsOpened (key_of geometry) r.0 r.1.items) }
         ensures err { IfErr result (λ e. e ≡ Fault.NoMemory) }
@@ -43,7 +43,7 @@ impl Allocator {
     }
 }
 
-/// A core for each seat, in order. Refused only for want of memory.
+/// A core for each seat, in order. Refused only for lack of memory.
 pub(crate) fn numbered(
     alloc: Global,
     geometry: Geometry,

@@ -18,7 +18,7 @@ use std::alloc::Global;
 
 impl Allocator {
     /// An allocator at the words of an image that equals its own rebuilding, its cores, and what
-    /// the image holds. Refused only for want of memory.
+    /// the image holds. Refused only for lack of memory.
     pub fn open_at(alloc: Global, image: &Image) -> Result<(Allocator, Vec<Core>, Survivors), Fault>
         requires { IsRebuilt (unsealed_key image.now.geometry) image.now.words image.now.words }
         ensures opened { IfOk result (λ r. IsOpened (unsealed_key image.now.geometry) r.0 r.1.items) }

@@ -15,7 +15,7 @@ use std::alloc::Global;
 
 impl Image {
     /// No frame is held but those past the end, and no core has a reservation. Refused only for
-    /// want of memory.
+    /// lack of memory.
     pub fn new(alloc: Global, geometry: &Geometry) -> Result<Image, Fault>
         ensures geometry { IfOk result (λ i. i.geometry ≡ geometry.now) }
         ensures opens { IfOk result (λ i. IsSealedOpening (key_of geometry.now) i.words) }
@@ -56,7 +56,7 @@ impl Image {
     }
 
     /// Nothing is said of any part, but that the frames past the end are held: every counter is 0.
-    /// Refused only for want of memory.
+    /// Refused only for lack of memory.
     pub fn blank(alloc: Global, geometry: &Geometry) -> Result<Image, Fault>
         ensures geometry { IfOk result (λ i. i.geometry ≡ geometry.now) }
         ensures words { IfOk result (λ i. i.words ≡ blank_words (key_of geometry.now)) }

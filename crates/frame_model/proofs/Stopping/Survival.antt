@@ -28,10 +28,6 @@ pub ended_first : (shares cores : ℕ) → ended_shares shares cores (0 + 1) ≡
 unfolding ended_shares
 ended_first shares cores = grind arith
 
-pub ended_none : (shares cores : ℕ) → ended_shares shares cores 0 ≡ 0
-unfolding ended_shares
-ended_none shares cores = refl
-
 pub passing_carries : (start : Start) (m n : Moment) → Carries start m → Passes m n → Carries start n
 passing_carries start m n c (stays x) = c
 passing_carries start m n c (steps x y z event step others) = passing_carries start y z (step_carries start x y event c step) others
