@@ -21,27 +21,30 @@ fi
 
 # seconds of a first run on 4 processors, and MB that stay in out/
 costs='
-frame_words 25 120
-frame_model 26 100
-frame_core 37 170
+frame_words 33 120
+frame_model 32 100
+frame_core 46 170
 low_frames 41 120
 held_blocks 43 250
 frame_table 55 290
 plain_moves 85 340
-core_frames 110 480
-frame_image 85 440
-trace_text 86 360
-llfree_trace 220 620
-llfree 90 80
+core_frames 139 480
+frame_image 91 440
+trace_text 96 360
+llfree_trace 251 620
+llfree 100 80
 frame_zones 80 320
 frame_slots 60 350
-zone_slots 110 290
-llfree_c 120 280'
+zone_slots 171 290
+llfree_c 160 280'
 
 stops() {
     echo "$target: $1" >&2
     exit 4
 }
+
+# the crates that are proved in the copy now
+in_copy=
 
 # what rt runs ends with rt; the crates that are proved in the copy end with what proves them
 interrupted() {
@@ -121,6 +124,18 @@ make_copy() {
     done <<<"$all"
 }
 
+# what was proved in the copy comes into the tree, and the copy goes
+end_copy() {
+    local crate
+    for crate in $in_copy; do
+        [ -e "$copy/crates/$crate/out" ] || continue
+        rm -rf "${top:?}/crates/$crate/out"
+        mv "$copy/crates/$crate/out" "$top/crates/$crate/out"
+    done
+    in_copy=
+    rm -rf "$copy" "$log.beside"
+}
+
 # libraries in the copy, one after the other, up to one that fails
 prove_beside() {
     local crate
@@ -143,7 +158,11 @@ prove_level() {
         done
         return
     fi
-    make_copy "$level" || return
+    if ! make_copy "$level" 2>>"$log"; then
+        echo "a copy of the crates below $copy could not be made" >>"$log"
+        return 1
+    fi
+    in_copy=$*
     : >"$log.beside"
     prove_beside "$@" &
     beside=$!
@@ -151,12 +170,7 @@ prove_level() {
     [ "$status" = 0 ] || kill "$beside" 2>/dev/null
     wait "$beside" || status=1
     [ ! -e "$copy/failed" ] || cat "$log.beside" >>"$log"
-    for crate; do
-        [ -e "$copy/crates/$crate/out" ] || continue
-        rm -rf "${top:?}/crates/$crate/out"
-        mv "$copy/crates/$crate/out" "$top/crates/$crate/out"
-    done
-    rm -rf "$copy" "$log.beside"
+    end_copy
     return "$status"
 }
 
@@ -166,11 +180,11 @@ minutes() {
     if [ "$rounded" -le 1 ]; then echo 'a minute'; else echo "$rounded minutes"; fi
 }
 
-# seconds_of SLOWEST OTHERS: of a level, where the others are proved beside the slowest
+# seconds_of SLOWEST OTHERS: of a level, where the others are proved beside the slowest, by half of the processes each
 seconds_of() {
     local longer=$1
     [ "$2" -le "$1" ] || longer=$2
-    if [ "$2" = 0 ]; then echo "$1"; elif [ "$jobs" = 1 ]; then echo $(($1 + $2)); else echo $((longer * 5 / 4)); fi
+    if [ "$2" = 0 ]; then echo "$1"; elif [ "$jobs" = 1 ]; then echo $(($1 + $2)); else echo $((longer * 7 / 4)); fi
 }
 
 # all of it is read before anything is built, so that an edit of this file in between does no harm
@@ -196,7 +210,7 @@ main() {
     done
 
     lines=$product.sources.read.$$
-    trap 'rm -rf "$lines" "$copy"' EXIT
+    trap 'rm -rf "$lines"; end_copy' EXIT
     forget "$product" && : >"$log" && sources "$top" >"$lines" ||
         stops "$out cannot be written to: copy the repository to a folder of yours$hint"
     echo "$target: proving and building $count crates; with nothing kept that takes about $(minutes "$seconds") on 4" \

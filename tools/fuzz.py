@@ -1,7 +1,7 @@
 #!/usr/bin/env python3
-"""Tries the built program on hurt texts, and judges each answer by a plain checker of its own.
+"""Tries the built program on malformed texts, and judges each answer by a plain checker of its own.
 
-Traces and images are made, hurt byte by byte, cut, repeated, quoted and stretched, and run through
+Traces and images are made, damaged byte by byte, cut, repeated, quoted and stretched, and run through
 `run`, `image`, `rebuild` and `report`. Status, output and errors have to be just what docs/USAGE.md
 and docs/FORMATS.md say of that text: the checker reads it again by the rules of tools/records.py, finds the
 record that is refused, and follows the answers of what is accepted frame by frame. One seed tries the same cases each time;

@@ -1,5 +1,5 @@
 #!/usr/bin/env python3
-"""Tries that `why.py` names the fault that the built program names, on hurt texts and at the limits of each number, and
+"""Tries that `why.py` names the fault that the built program names, on malformed texts and at the limits of each number, and
 none where it answers.
 
     tools/why_agrees.py PROGRAM CASES
