@@ -233,7 +233,7 @@ two_beside() {
     holds 'beside: one fails in the copy' is "$status, $(sorted_calls)" '4, lib low lib mid lib side'
     holds 'beside: and it is said' says 'not proved'
     # one that fails or is stopped does so behind the start of the other
-    local begun='until grep -q side "$kit/calls"; do sleep 0.1; done; '
+    local begun='for _ in $(seq 100); do if grep -q side "$kit/calls"; then break; fi; sleep 0.1; done; '
     echo "$begun"'exit 1' >"$kit/hook.mid"
     echo 'sleep 5; echo "late $name" >>"$kit/calls"; exit 1' >"$kit/hook.side"
     runs "${words[@]}"
