@@ -23,7 +23,7 @@ use Rattle.frame_model.specs.Words.{entry_place, entry_of, huge_of, bit_of, bit_
 use Rattle.frame_model.specs.Report.{held_at, held_within, clear_at, clear_within}
 use Rattle.frame_model.proofs.Sums.{range_same}
 use Rattle.frame_model.proofs.ReportLemmas.{range_split, range_from, range_le, range_ones}
-use Rattle.frame_image.specs.ImageText.{child_bits}
+use Rattle.frame_text.specs.ImageText.{child_bits}
 use Rattle.frame_image.specs.Tally.{number_at, numbers_of, tree_number, memory_number, tree_numbers, tally_of}
 use Rattle.frame_image.proofs.RebuildLemmas.{map_same}
 

@@ -19,9 +19,9 @@ use Rattle.frame_core.proofs.SameWords.{same_words}
 use Rattle.frame_model.proofs.Words.{tree_written}
 use Rattle.frame_model.proofs.OtherWords.{bit_word_of-with_tree, rest_of-with_tree}
 use Rattle.frame_core.proofs.ImageLemmas.{child_written, IsImage-with_tree}
-use Rattle.frame_image.specs.ImageText.{child_bits}
+use Rattle.frame_text.specs.ImageText.{child_bits}
 use Rattle.frame_image.specs.Rebuilding.{IsRebuiltBelow, RebuildsJust, rebuilt_child}
-use Rattle.frame_image.proofs.PastEnd.{word_past, whole_past, huge_whole}
+use Rattle.frame_text.proofs.PastEnd.{word_past, whole_past, huge_whole}
 
 -- a value at one number more
 one_more : (f g : ℕ → ℕ) (c : ℕ) → ((d : ℕ) → d < c → f d ≡ g d) → f c ≡ g c → (d : ℕ) → d < c + 1 → f d ≡ g d

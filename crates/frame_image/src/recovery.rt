@@ -7,7 +7,7 @@ ghost use Rattle.frame_model.specs.Words.{huge_of};
 ghost use Rattle.frame_core.specs.Image.{key_in, with_child, IsImage};
 ghost use Rattle.frame_model.specs.Rebuilt.{IsRebuilt, rebuilt_free};
 ghost use Rattle.frame_table.specs.Openings.{unsealed_key};
-ghost use Rattle.frame_image.specs.ImageText.{child_bits as the_child_bits};
+ghost use Rattle.frame_text.specs.ImageText.{child_bits as the_child_bits};
 ghost use Rattle.frame_image.specs.Rebuilding.{IsRebuiltBelow, RebuildsAny, RebuildsJust, rebuilt_child};
 
 use frame_core::Image;

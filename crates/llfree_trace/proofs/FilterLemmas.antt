@@ -1,6 +1,6 @@
 -- What a filter shows, shown as more.
 use Rattle.std.proofs.Common.{◌⊎◌, inl, inr, ℕ, List, Option, Result, Ok, Err}
-use Rattle.frame_image.specs.declared.watched.Watched.{Watched}
+use Rattle.frame_text.specs.declared.watched.Watched.{Watched}
 use Rattle.frame_words.specs.declared.fault.Fault.{Fault}
 use Rattle.frame_words.specs.declared.geometry.Geometry.{Geometry}
 use Rattle.llfree_trace.specs.Program.{AreLawful, ExplainsCommand, IsMadeBy, IsOfSizes, Performs}

@@ -6,7 +6,7 @@ use Rattle.std.specs.Io.KnownBytes.{Appends}
 use Rattle.std.proofs.Math.Seq.{take-add, take_at, drop_at, take-append-le}
 use Rattle.std.proofs.lemmas.Grind.{flat_map-append}
 use Rattle.std.proofs.lemmas.List.{append_assoc, drop_more, take-append-drop, take_min}
-use Rattle.frame_image.specs.Devices.{WritesFront}
+use Rattle.frame_text.specs.Devices.{WritesFront}
 
 -- what holds holds on an error
 pub on_err : {T E P : Type 0} → (r : Result T E) → P → OnErr r P

@@ -4,10 +4,10 @@ use Rattle.std.proofs.Common.{Result, Ok, Err, refl, sym, ap, subst, arith, leng
 use Rattle.core_frames.specs.Ranges.{MayHoldBack}
 use Rattle.frame_model.specs.Laws.{AddsUp}
 use Rattle.frame_model.specs.Rebuilt.{IsRebuilt}
-use Rattle.frame_image.specs.Devices.{device_of}
-use Rattle.frame_image.specs.ImageText.{Drawn, picture_of}
+use Rattle.frame_text.specs.Devices.{device_of}
+use Rattle.frame_text.specs.ImageText.{Drawn, picture_of}
 use Rattle.frame_image.specs.Tally.{table_of, tally_of}
-use Rattle.frame_image.specs.declared.devices.TheConstants.{MOST_BYTES}
+use Rattle.frame_text.specs.declared.devices.TheConstants.{MOST_BYTES}
 use Rattle.frame_words.specs.declared.fault.Fault.{Fault}
 use Rattle.frame_words.specs.declared.fault.Fault.TheVariants as fault
 use Rattle.frame_words.specs.declared.geometry.Geometry.{Geometry}

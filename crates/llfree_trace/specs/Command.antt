@@ -2,7 +2,7 @@
 use Rattle.std.specs.Prelude.{ℕ, List, [], ◌∷◌, length, nat_le, codes}
 use Rattle.std.specs.Prelude.{Option, Some, None, option_map, option_and_then, if◌then◌else◌}
 use Rattle.std.specs.Str.{bytes_eq}
-use Rattle.frame_image.specs.Numbers.{number_below}
+use Rattle.frame_text.specs.Numbers.{number_below}
 use Rattle.llfree_trace.specs.declared.command.Command.{Command}
 use Rattle.llfree_trace.specs.declared.command.Command.TheVariants as command
 use Rattle.llfree_trace.specs.declared.command.Sizes.{Sizes}

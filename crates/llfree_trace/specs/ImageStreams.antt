@@ -2,7 +2,7 @@
 use Rattle.std.specs.Prelude.{ℕ, ◌≡◌, List, Ok}
 use Rattle.frame_model.specs.declared.key.Key.{Key}
 use Rattle.frame_model.specs.Rebuilt.{IsRebuilt}
-use Rattle.frame_image.specs.ImageText.{Explains, image_of, picture_of}
+use Rattle.frame_text.specs.ImageText.{Explains, image_of, picture_of}
 use Rattle.frame_image.specs.Tally.{table_of, tally_of}
 use Rattle.frame_words.specs.declared.fault.Fault.{Fault}
 

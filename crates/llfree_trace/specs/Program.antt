@@ -1,7 +1,7 @@
 -- What a command makes of a text, why it ends without a result, and the status of the program.
 use Rattle.std.specs.Prelude.{ℕ, ◌≡◌, ◌⊎◌, ◌*◌, List, Option, None, unwrap_or}
 use Rattle.std.specs.Prelude.{Result, IsErrAnd, IsSomeAnd}
-use Rattle.frame_image.specs.declared.watched.Watched.{Watched}
+use Rattle.frame_text.specs.declared.watched.Watched.{Watched}
 use Rattle.frame_words.specs.Geometry.{IsWithinLimits, EndsInLastChild, child_frames}
 use Rattle.frame_words.specs.declared.fault.Fault.{Fault}
 use Rattle.frame_words.specs.declared.fault.Fault.TheVariants as fault

@@ -4,7 +4,7 @@ use Rattle.core_frames.specs.Ranges.{MayHoldBack}
 use Rattle.frame_core.specs.Image.{Contents, key_in}
 use Rattle.frame_model.specs.Laws.{AddsUp}
 use Rattle.frame_model.specs.Report.{free_frames, held_frames}
-use Rattle.frame_image.specs.ImageText.{drawn, picture_of}
+use Rattle.frame_text.specs.ImageText.{drawn, picture_of}
 use Rattle.frame_model.specs.declared.block.FrameBlock.{FrameBlock}
 use Rattle.frame_model.specs.declared.key.Key.{Key}
 use Rattle.frame_words.specs.declared.fault.Fault.{Fault}

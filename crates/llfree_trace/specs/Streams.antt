@@ -2,9 +2,9 @@
 use Rattle.std.specs.Prelude.{ℕ, ◌≡◌, ◌≢◌, ◌<◌, ◌⊎◌, Bool, true, false, List, length, Option, Result}
 use Rattle.std.specs.Prelude.{IfErr, IfSome, IsErrOf, IsSomeAnd, OnOk}
 use Rattle.std.specs.Io.KnownBytes.{Appends}
-use Rattle.frame_image.specs.Devices.{WritesFront, device_of, has_failed}
-use Rattle.frame_image.specs.declared.devices.TheConstants.{MOST_BYTES}
-use Rattle.frame_image.specs.declared.watched.Watched.{Watched}
+use Rattle.frame_text.specs.Devices.{WritesFront, device_of, has_failed}
+use Rattle.frame_text.specs.declared.devices.TheConstants.{MOST_BYTES}
+use Rattle.frame_text.specs.declared.watched.Watched.{Watched}
 use Rattle.frame_words.specs.declared.fault.Fault.{Fault}
 use Rattle.frame_words.specs.declared.fault.Fault.TheVariants as fault
 

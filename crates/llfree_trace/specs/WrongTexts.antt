@@ -6,11 +6,11 @@ use Rattle.core_frames.specs.Ranges.{MayHoldBack}
 use Rattle.frame_core.specs.Image.{Contents}
 use Rattle.frame_model.specs.Laws.{AddsUp}
 use Rattle.frame_model.specs.Rebuilt.{IsRebuilt}
-use Rattle.frame_image.specs.Devices.{WritesFront, device_of, has_failed}
-use Rattle.frame_image.specs.ImageText.{Drawn, image_of, picture_of}
+use Rattle.frame_text.specs.Devices.{WritesFront, device_of, has_failed}
+use Rattle.frame_text.specs.ImageText.{Drawn, image_of, picture_of}
 use Rattle.frame_image.specs.Tally.{table_of, tally_of}
-use Rattle.frame_image.specs.declared.devices.TheConstants.{MOST_BYTES}
-use Rattle.frame_image.specs.declared.watched.Watched.{Watched}
+use Rattle.frame_text.specs.declared.devices.TheConstants.{MOST_BYTES}
+use Rattle.frame_text.specs.declared.watched.Watched.{Watched}
 use Rattle.frame_words.specs.declared.fault.Fault.{Fault}
 use Rattle.frame_words.specs.declared.fault.Fault.TheVariants as fault
 use Rattle.frame_words.specs.declared.geometry.Geometry.{Geometry}

@@ -5,7 +5,7 @@ ghost use Rattle.std.specs.String.{string_bytes};
 ghost use Rattle.llfree_trace.specs.Command as Spec;
 
 use crate::streams::Show;
-use frame_image::number_below;
+use frame_text::number_below;
 
 /// The sizes of a memory, as a command line names them.
 #[derive(Clone, Copy, Debug)]

@@ -4,9 +4,8 @@ ghost use Rattle.std.specs.Prelude.{IfErr, IfOk};
 ghost use Rattle.llfree_trace.specs.ImageStreams.{ExplainsImage, IsRebuiltText, IsReportText};
 ghost use Rattle.llfree_trace.specs.Streams.{Filters};
 
-use frame_image::{
-    Watched, image_of, image_text, read_all, rebuild, report, report_text, write_out,
-};
+use frame_image::{rebuild, report, report_text};
+use frame_text::{Watched, image_of, image_text, read_all, write_out};
 use frame_words::Fault;
 use std::alloc::Global;
 use std::io::{Read, Write};

@@ -2,7 +2,7 @@
 
 ghost use Rattle.std.specs.Prelude.{◌≡◌, ◌≤◌, ◌↔◌, ◌⊎◌, false, map, true, IfErr, IfOk, IsOk};
 ghost use Rattle.std.specs.String.{string_bytes};
-ghost use Rattle.frame_image.specs.Devices.{device_of, has_failed};
+ghost use Rattle.frame_text.specs.Devices.{device_of, has_failed};
 ghost use Rattle.llfree_trace.specs.Program as Spec;
 ghost use Rattle.llfree_trace.specs.Program.{AreLawful, IsOfBadSizes, IsOfSizes, Performs};
 ghost use Rattle.llfree_trace.specs.Program.{DoesWords, DoesWordsFront, IsNoCommand, IsServed};
@@ -15,7 +15,7 @@ use crate::gate::OpenGate;
 use crate::image_streams::{rebuild_over, report_over};
 use crate::many_streams::run_many_over;
 use crate::streams::{Show, run_over};
-use frame_image::Watched;
+use frame_text::Watched;
 use frame_words::{Fault, Geometry};
 use std::alloc::Global;
 use std::io::{Read, Write};

@@ -16,7 +16,7 @@ use crate::stretch_texts::spell_round;
 use crate::stretches::{Stretch, stretches_of};
 use core_frames::Allocator;
 use frame_core::Image;
-use frame_image::image_text;
+use frame_text::image_text;
 use frame_words::{Fault, Geometry};
 use std::alloc::Global;
 use std::sync::Wait;

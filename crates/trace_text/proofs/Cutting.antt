@@ -17,7 +17,7 @@ use Rattle.csv.specs.declared.parser.State.{State}
 use Rattle.csv.specs.declared.parser.State.TheVariants as st
 use Rattle.csv.specs.Writing.{default_writer, is_blank, row_body, row_text}
 use Rattle.csv.proofs.RoundTrip.{read-write-many}
-use Rattle.frame_image.specs.Records.{records_of}
+use Rattle.frame_text.specs.Records.{records_of}
 use Rattle.trace_text.specs.PlainRows.{BeginsWith}
 
 -- the records of a text from a state on, with the fields and the bytes of the field at hand

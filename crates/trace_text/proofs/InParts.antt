@@ -8,7 +8,7 @@ use Rattle.std.proofs.lemmas.List.{append-nil, append_assoc, get_or-append-add}
 use Rattle.std.proofs.lemmas.List.Elements.{All-append, All-head, All-nil, All-push, All-tail}
 use Rattle.csv.specs.Machine.{next_record}
 use Rattle.csv.specs.Reading.{is_bom, records_from, strip_bom}
-use Rattle.frame_image.specs.Records.{read_records, records_of}
+use Rattle.frame_text.specs.Records.{read_records, records_of}
 use Rattle.trace_text.specs.declared.line.Line.{Line}
 use Rattle.trace_text.specs.declared.parts.Reading.{Reading}
 use Rattle.trace_text.specs.Parts.{EndsLine, IsCut, IsJoint, IsPart, IsReadSoFar, IsReadingOf, ReadsPart, SaysPlainly}

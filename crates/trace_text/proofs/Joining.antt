@@ -6,7 +6,7 @@ use Rattle.std.proofs.lemmas.Bool.Decides.{nat_tests}
 use Rattle.std.proofs.Math.Seq.{get_or-append_seam}
 use Rattle.std.proofs.lemmas.List.{append-nil, append_assoc, length_push}
 use Rattle.std.proofs.lemmas.Option.{slice_get-get_or}
-use Rattle.frame_image.specs.Records.{after_record, read_records}
+use Rattle.frame_text.specs.Records.{after_record, read_records}
 use Rattle.trace_text.specs.declared.line.Line.{Line}
 use Rattle.trace_text.specs.Parts.{goes_behind}
 use Rattle.trace_text.specs.Trace.{core_count, most_records}

@@ -13,8 +13,8 @@ use Rattle.csv.specs.Reading.{records_from, strip_bom}
 use Rattle.csv.specs.Writing.{default_writer, fields_text, is_blank, row_text}
 use Rattle.frame_words.specs.Geometry.{most_cores}
 use Rattle.held_blocks.specs.Label.{is_label, is_label_byte, label_of}
-use Rattle.frame_image.specs.Records.{read_records, records_of}
-use Rattle.frame_image.proofs.NumberLemmas.{number_below-decimal}
+use Rattle.frame_text.specs.Records.{read_records, records_of}
+use Rattle.frame_text.proofs.NumberLemmas.{number_below-decimal}
 use Rattle.trace_text.specs.PlainRows.{BeginsWith}
 use Rattle.trace_text.specs.Spelling.{IsRecord, IsSampleSpelled, IsTraceFor, TracesReadBack, fields_of, sample, spelled}
 use Rattle.trace_text.specs.Trace.{most_records}

@@ -2,7 +2,7 @@
 use Rattle.std.specs.Prelude.{ℕ, ◌≡◌, ◌≤◌, ◌+◌, ◌++◌, Bool, false, List, [], ◌∷◌, length}
 use Rattle.csv.specs.Reading.{strip_bom}
 use Rattle.csv.specs.Writing.{default_writer, needs_quotes, row_text}
-use Rattle.frame_image.specs.Records.{read_records}
+use Rattle.frame_text.specs.Records.{read_records}
 use Rattle.trace_text.specs.Trace.{core_count, is_one_round, most_records, ranges_in}
 use Rattle.trace_text.specs.TraceText.{lines_with, trace_of}
 use Rattle.trace_text.specs.declared.line.Line.{Line}

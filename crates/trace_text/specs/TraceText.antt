@@ -5,8 +5,8 @@ use Rattle.std.specs.Prelude.{Option, Some, None, option_map, option_and_then, R
 use Rattle.std.specs.Prelude.{if◌then◌else◌}
 use Rattle.std.specs.Str.{bytes_eq}
 use Rattle.held_blocks.specs.Label.{label_of}
-use Rattle.frame_image.specs.Numbers.{number_below}
-use Rattle.frame_image.specs.Records.{read_records, records_of}
+use Rattle.frame_text.specs.Numbers.{number_below}
+use Rattle.frame_text.specs.Records.{read_records, records_of}
 use Rattle.frame_words.specs.declared.fault.Fault.{Fault}
 use Rattle.frame_words.specs.declared.fault.Fault.TheVariants as fault
 use Rattle.trace_text.specs.Trace.{most_records}

@@ -6,7 +6,7 @@ ghost use Rattle.trace_text.specs.Trace.{core_count, cores_in as the_cores_in};
 ghost use Rattle.trace_text.specs.Trace.{is_ask as the_test_of_ask, is_one_round as the_test_of_round};
 ghost use Rattle.trace_text.specs.Trace.{most_records, ranges_in};
 
-use core_frames::Label;
+use held_blocks::Label;
 use std::alloc::AllocError;
 use std::marker::Model;
 

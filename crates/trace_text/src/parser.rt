@@ -4,8 +4,8 @@ ghost use Rattle.std.specs.Prelude.{◌≡◌, ◌≢◌, ◌<◌, ◌≤◌, �
 ghost use Rattle.std.specs.Prelude.{Some, IfErr, IfNone, IfOk, IfSome, OnOk};
 ghost use Rattle.std.specs.Option.{option_copied};
 ghost use Rattle.csv.specs.Records.{field_at, fields_of};
-ghost use Rattle.frame_image.specs.Records.{records_of};
-ghost use Rattle.frame_image.specs.Numbers.{number_below as the_number_below};
+ghost use Rattle.frame_text.specs.Records.{records_of};
+ghost use Rattle.frame_text.specs.Numbers.{number_below as the_number_below};
 ghost use Rattle.trace_text.specs.PlainRows.{IsReadTo, row_of};
 ghost use Rattle.trace_text.specs.Trace.{core_count, cores_in, most_records, range_in};
 ghost use Rattle.trace_text.specs.TraceText as Spec;
@@ -13,10 +13,10 @@ ghost use Rattle.trace_text.specs.TraceText.{ExplainsTrace, trace_of};
 
 use crate::line::{Line, Request, Trace, number_after, stays_one_round};
 use crate::plain_rows::{Fields, has_mark, plain_row};
-use core_frames::Label;
 use csv::ByteRecord;
-use frame_image::{RecordReader, number_below};
+use frame_text::{RecordReader, number_below};
 use frame_words::{Fault, Geometry};
+use held_blocks::Label;
 use std::alloc::{AllocError, Global};
 
 /// The most records of a trace.

@@ -4,7 +4,7 @@ use Rattle.std.specs.Int.{bit_at}
 use Rattle.std.proofs.lemmas.List.{length-set}
 use Rattle.frame_words.specs.Words.{flag}
 use Rattle.frame_core.specs.Image.{key_in}
-use Rattle.frame_image.specs.ImageText.{child_bits}
+use Rattle.frame_text.specs.ImageText.{child_bits}
 use Rattle.frame_image.proofs.CountLemmas.{clear_child, told_more}
 use Rattle.frame_image.proofs.child_numbers.clear_frames.Goals as goal
 

@@ -5,8 +5,8 @@ use Rattle.frame_words.specs.Words.{flag}
 use Rattle.frame_model.specs.Key.{key_of}
 use Rattle.frame_model.specs.Words.{huge_of}
 use Rattle.frame_core.specs.Image.{key_in, SetsPastEnd}
-use Rattle.frame_image.specs.ImageText.{child_bits}
-use Rattle.frame_image.proofs.PastEnd.{child_past, huge_whole, whole_past}
+use Rattle.frame_text.specs.ImageText.{child_bits}
+use Rattle.frame_text.proofs.PastEnd.{child_past, huge_whole, whole_past}
 use Rattle.frame_image.proofs.RebuildLemmas.{huge_child, small_child, huge_entry, small_entry, child_as}
 use Rattle.frame_image.proofs.recovery.rebuild_child.Goals as goal
 

@@ -1,5 +1,5 @@
 use Rattle.std.proofs.Common.{◌∙◌, arith}
-use Rattle.frame_image.proofs.Writing.{no_rows, table_more}
+use Rattle.frame_image.proofs.Tables.{no_rows, table_more}
 use Rattle.frame_image.proofs.report_writer.report_text.Goals as goal
 
 pub loop-tree-init : goal.loop-tree-init

@@ -1,7 +1,7 @@
 use Rattle.std.proofs.Common.{◌≡◌, false, take}
 use Rattle.std.specs.List.{flat_map}
 use Rattle.std.specs.Io.KnownBytes.{Appends}
-use Rattle.frame_image.specs.Devices.{device_of, has_failed}
+use Rattle.frame_text.specs.Devices.{device_of, has_failed}
 use Rattle.llfree_trace.proofs.many_streams.write_pieces.Given as goal
 
 abbrev pub invariant-loop-piece : goal.invariant-loop-piece

@@ -1,6 +1,6 @@
 use Rattle.std.proofs.Common.{◌≡◌, length}
 use Rattle.csv.specs.Reading.{strip_bom}
-use Rattle.frame_image.specs.Records.{records_of}
+use Rattle.frame_text.specs.Records.{records_of}
 use Rattle.trace_text.specs.PlainRows.{IsReadTo}
 use Rattle.trace_text.proofs.parser.read_front.Given as goal
 

@@ -1,5 +1,0 @@
-use Rattle.frame_image.proofs.WholeTrip.{image_of-picture_of}
-use Rattle.frame_image.proofs.image_writer.every_image_reads_back.Goals as goal
-
-pub returns : goal.returns
-returns c = image_of-picture_of c.args.image.now c.geometry-geometry.ensures.in_range

@@ -1,0 +1,12 @@
+pub mod Reading
+pub mod HexLemmas
+pub mod FiveFields
+pub mod Ranges
+pub mod PastEnd
+pub mod PartLemmas
+pub mod Writing
+pub mod NumberLemmas
+pub mod RoundTrip
+pub mod RoundTripSteps
+pub mod ReadBack
+pub mod WholeTrip
