@@ -1,9 +1,10 @@
 #!/usr/bin/env bash
 # Proves and builds a crate with all that it stands on, lowest first, tells on standard error how far it is, and
 # then runs the words that follow: tools/build.sh CRATE [WORD..]
-# Of crates that do not stand on each other the slowest is proved in the tree, and beside it the others in a copy,
-# since rt keeps all crates below its own to itself as long as it runs. Status 4 where nothing was built; then
-# nothing counts as proved but what rt keeps in each crate's out/.
+# Crates that do not stand on each other are proved in two lanes, one in the tree and one in a copy, since rt keeps
+# all crates below its own to itself as long as it runs. A library's build holds its statements alone, which is all
+# that the crates above read. Status 4 where nothing was built; then nothing counts as proved but what rt keeps in
+# each crate's out/.
 set -u
 top=$(cd "$(dirname "$0")/.." && pwd)
 . "$top/tools/sources.sh"
@@ -19,7 +20,7 @@ if [ -e "$top/crates/$target/src/main.rt" ]; then
     hint=', or set LLFREE_UNPROVED=1'
 fi
 
-# seconds of a first run on 4 processors, and MB that stay in out/
+# seconds of a first run on 4 processors, as the crate's share of those of its level, and MB that stay in out/
 costs='
 frame_words 33 120
 frame_model 32 100
@@ -102,12 +103,14 @@ in_crate() {
     wait $!
 }
 
-# one crate in the tree: a library is proved and built, the program is also run once, on no input
+# prove FOLDER LOG CRATE JOBS: a library is proved and built, the program is also run once, on no input
 prove() {
-    if [ "$1" = "$target" ] && [ -n "$hint" ]; then
-        in_crate "$top/crates" "$log" "$1" rt run --jobs "$2" -- run 1 1
+    if [ "$3" != "$target" ]; then
+        in_crate "$1" "$2" "$3" rt lib --jobs "$4" --statements
+    elif [ -n "$hint" ]; then
+        in_crate "$1" "$2" "$3" rt run --jobs "$4" -- run 1 1
     else
-        in_crate "$top/crates" "$log" "$1" rt lib --jobs "$2"
+        in_crate "$1" "$2" "$3" rt lib --jobs "$4"
     fi
 }
 
@@ -136,41 +139,54 @@ end_copy() {
     rm -rf "$copy" "$log.beside"
 }
 
-# libraries in the copy, one after the other, up to one that fails
+# prove_beside JOBS CRATE..: in the copy, one after the other, up to one that fails
 prove_beside() {
-    local crate
+    local crate its_jobs=$1
+    shift
     trap 'kill $(jobs -p) 2>/dev/null; wait; exit 1' TERM
     for crate; do
-        if ! in_crate "$copy/crates" "$log.beside" "$crate" rt lib --jobs $(((jobs + 1) / 2)); then
+        if ! prove "$copy/crates" "$log.beside" "$crate" "$its_jobs"; then
             : >"$copy/failed"
             exit 1
         fi
     done
 }
 
-# libraries that do not stand on each other, the first in the tree; the log ends with what one says that fails
+# prove_level LEVEL CRATE..: crates that do not stand on each other, the slowest first. Each goes to the lane that has
+# less to do, and each lane has its share of the processes. The log ends with what a crate says that fails.
 prove_level() {
-    local level=$1 first=$2 crate beside status=0
-    shift 2
-    if [ $# = 0 ] || [ "$jobs" = 1 ]; then
-        for crate in "$first" "$@"; do
-            prove "$crate" "$jobs" || return
-        done
-        return
+    local level=$1 crate beside status=0 here=0 there=0 its_jobs=$jobs
+    local -a in_tree=()
+    shift
+    in_copy=
+    for crate; do
+        if [ "$jobs" = 1 ] || [ "$here" -le "$there" ]; then
+            in_tree+=("$crate") here=$((here + ${seconds_of[$crate]}))
+        else
+            in_copy+=" $crate" there=$((there + ${seconds_of[$crate]}))
+        fi
+    done
+    if [ -n "$in_copy" ]; then
+        its_jobs=$(((2 * jobs * here + here + there) / (2 * (here + there))))
+        [ "$its_jobs" -gt 0 ] || its_jobs=1
+        [ "$its_jobs" -lt "$jobs" ] || its_jobs=$((jobs - 1))
+        if ! make_copy "$level" 2>>"$log"; then
+            echo "a copy of the crates below $copy could not be made" >>"$log"
+            return 1
+        fi
+        : >"$log.beside"
+        prove_beside $((jobs - its_jobs)) $in_copy &
+        beside=$!
     fi
-    if ! make_copy "$level" 2>>"$log"; then
-        echo "a copy of the crates below $copy could not be made" >>"$log"
-        return 1
+    for crate in "${in_tree[@]}"; do
+        prove "$top/crates" "$log" "$crate" "$its_jobs" || { status=$?; break; }
+    done
+    if [ -n "$in_copy" ]; then
+        [ "$status" = 0 ] || kill "$beside" 2>/dev/null
+        wait "$beside" || status=1
+        [ ! -e "$copy/failed" ] || cat "$log.beside" >>"$log"
+        end_copy
     fi
-    in_copy=$*
-    : >"$log.beside"
-    prove_beside "$@" &
-    beside=$!
-    prove "$first" $(((jobs + 1) / 2)) || status=$?
-    [ "$status" = 0 ] || kill "$beside" 2>/dev/null
-    wait "$beside" || status=1
-    [ ! -e "$copy/failed" ] || cat "$log.beside" >>"$log"
-    end_copy
     return "$status"
 }
 
@@ -180,34 +196,24 @@ minutes() {
     if [ "$rounded" -le 1 ]; then echo 'a minute'; else echo "$rounded minutes"; fi
 }
 
-# seconds_of SLOWEST OTHERS: of a level, where the others are proved beside the slowest, by half of the processes each
-seconds_of() {
-    local longer=$1
-    [ "$2" -le "$1" ] || longer=$2
-    if [ "$2" = 0 ]; then echo "$1"; elif [ "$jobs" = 1 ]; then echo $(($1 + $2)); else echo $((longer * 7 / 4)); fi
-}
-
 # all of it is read before anything is built, so that an edit of this file in between does no harm
 main() {
     local all count=0 seconds=0 megabytes=0 level crate its_seconds its_megabytes
-    local -a levels=() slowest=() others=()
+    local -a levels=() costs_of=()
+    local -A seconds_of=()
     command -v rt >/dev/null 2>&1 || stops 'the command rt of the Rattle kit is not on the PATH'
     all=$(crates)
     while read -r level crate its_seconds its_megabytes; do
         count=$((count + 1))
+        seconds=$((seconds + its_seconds))
         megabytes=$((megabytes + its_megabytes))
-        if [ -z "${levels[level]:-}" ]; then
-            levels[level]=$crate slowest[level]=$its_seconds others[level]=0
-        else
-            levels[level]+=" $crate" others[level]=$((others[level] + its_seconds))
-        fi
+        levels[level]+=" $crate"
+        costs_of[level]=$((${costs_of[level]:-0} + its_seconds))
+        seconds_of[$crate]=$its_seconds
         mkdir -p "$top/crates/$crate/out" 2>/dev/null
         [ -w "$top/crates/$crate/out" ] ||
             stops "$top/crates/$crate/out cannot be written to: copy the repository to a folder of yours$hint"
     done <<<"$all"
-    for level in "${!levels[@]}"; do
-        seconds=$((seconds + $(seconds_of "${slowest[level]}" "${others[level]}")))
-    done
 
     lines=$product.sources.read.$$
     trap 'rm -rf "$lines"; end_copy' EXIT
@@ -221,9 +227,9 @@ main() {
     for level in "${!levels[@]}"; do
         read -ra names <<<"${levels[level]}"
         number=$((number + ${#names[@]}))
-        its_seconds=$(seconds_of "${slowest[level]}" "${others[level]}")
+        its_seconds=${costs_of[level]}
         start=$SECONDS
-        printf '%s: %s (%d of %d) .. ' "$target" "${levels[level]// /, }" "$number" "$count" >&2
+        printf '%s: %s (%d of %d) .. ' "$target" "$(IFS=,; echo "${names[*]}" | sed 's/,/, /g')" "$number" "$count" >&2
         if ! prove_level "$level" "${names[@]}"; then
             echo 'failed' >&2
             tail -n 20 "$log" >&2
