@@ -1,12 +1,12 @@
 -- How texts grow by one record, and digits by one word.
 use Rattle.std.proofs.Common.{Option, ◌≡◌, ◌∙◌, ℕ, suc, ◌+◌, ◌-◌, ◌*◌, ◌/◌, ◌%◌, ◌^◌, ◌<◌, List, []}
-use Rattle.std.proofs.Common.{◌∷◌, ◌++◌, map, take, length, length-take, get_or, false, refl, ap}
+use Rattle.std.proofs.Common.{◌∷◌, ◌++◌, map, false, refl, ap}
 use Rattle.std.proofs.Common.{sym, arith, append_assoc}
-use Rattle.std.specs.Prelude.{bit_and, codes, decimal}
+use Rattle.std.specs.Prelude.{bit_and}
 use Rattle.std.specs.List.{flat_map, range_with_len}
 use Rattle.std.specs.Fmt.{digit_glyph}
 use Rattle.std.proofs.lemmas.Grind.{flat_map-append}
-use Rattle.std.proofs.lemmas.List.{append-nil, take_more}
+use Rattle.std.proofs.lemmas.List.{append-nil}
 use Rattle.std.proofs.lemmas.List.FromFn.{map-range_with_len_more}
 use Rattle.std.proofs.lemmas.Nat.{and_mask, shr-shr}
 use Rattle.csv.specs.Writing.{default_writer, row_text}

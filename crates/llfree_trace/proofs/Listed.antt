@@ -1,10 +1,10 @@
 -- What is listed for each stretch of records, one behind the other.
-use Rattle.std.proofs.Common.{◌≡◌, ◌==◌, ◌+◌, ◌<◌, ◌≤◌, ◌∙◌, ℕ, zero, suc, List, [], ◌∷◌, ◌++◌, length, take, drop, get_or}
-use Rattle.std.proofs.Common.{ap, ap₂, arith, refl, sym, length-append}
+use Rattle.std.proofs.Common.{◌≡◌, ◌==◌, ◌+◌, ◌<◌, ◌∙◌, ℕ, zero, suc, List, [], ◌∷◌, ◌++◌, length, take, drop, get_or}
+use Rattle.std.proofs.Common.{ap, arith, refl, sym}
 use Rattle.std.specs.List.{All, flat_map}
 use Rattle.std.proofs.Math.Seq.{get_or-append_seam, take-add, drop-drop}
 use Rattle.std.proofs.lemmas.Grind.{flat_map-append}
-use Rattle.std.proofs.lemmas.List.{append-nil, drop_all, drop_more, get_or_append_left, length_push, take_all, take_more}
+use Rattle.std.proofs.lemmas.List.{append-nil, drop_more, get_or_append_left, length_push, take_more}
 use Rattle.std.proofs.lemmas.List.Elements.{All-cons, All-head, All-nil, All-tail, filter-append}
 use Rattle.llfree_trace.specs.Rounds.{Ask, asks_by, asks_in, asks_of}
 use Rattle.llfree_trace.specs.Rounds.{Stretch}

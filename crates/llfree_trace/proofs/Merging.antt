@@ -10,13 +10,11 @@ use Rattle.std.proofs.lemmas.Grind.{get_or-set_at, common_steps}
 use Rattle.std.proofs.lemmas.List.{append-nil, append_assoc, get_or_default, get_or-set_other}
 use Rattle.std.proofs.lemmas.List.{get_or-replicate, length-map, length-replicate, map-append, take_more, take-append-drop}
 use Rattle.std.proofs.lemmas.List.Elements.{filter_more, filter-append}
-use Rattle.held_blocks.specs.declared.labelled_block.LabelledBlock.{LabelledBlock}
 use Rattle.core_frames.specs.Desks.{list_of}
 use Rattle.frame_table.specs.Closing.{lent_through}
 use Rattle.core_frames.specs.Cores.{memory_of}
 use Rattle.core_frames.specs.declared.shared.allocator.Allocator.{Allocator}
 use Rattle.core_frames.specs.declared.shared.desk.Desk.{Desk}
-use Rattle.frame_model.specs.declared.key.Key.{Key}
 use Rattle.trace_text.specs.declared.reply.Answer.{Answer}
 use Rattle.trace_text.specs.declared.reply.Reply.TheVariants as reply
 use Rattle.llfree_trace.specs.declared.lines.Done.{Done}
@@ -24,10 +22,9 @@ use Rattle.llfree_trace.proofs.Listed.{all_at}
 use Rattle.llfree_trace.proofs.Workers.{ask_core_is, ask_count, run_spots}
 use Rattle.trace_text.specs.declared.line.Line.{Line}
 use Rattle.trace_text.specs.declared.line.Request.TheVariants as request
-use Rattle.llfree_trace.specs.Rounds.{HasLists, Told, told_by, IsAsk, IsRunnable, MaySpell, Spells, ask_core, asks_from, asks_in, asks_of, Ask, DeskRun, Fitting, Merged}
-use Rattle.llfree_trace.specs.Rounds.{Ran, RanAll, RoundRan, all_answers, answers_by, answers_to, asks_between, asks_by, lent_by_desks}
+use Rattle.llfree_trace.specs.Rounds.{HasLists, Told, told_by, IsAsk, IsRunnable, MaySpell, ask_core, asks_from, asks_in, asks_of, Ask, Fitting, Merged}
+use Rattle.llfree_trace.specs.Rounds.{Ran, RanAll, RoundRan, all_answers, answers_by, asks_by, lent_by_desks}
 use Rattle.llfree_trace.specs.Rounds.{Stretch}
-use Rattle.trace_text.specs.Trace.{cores_in}
 use Rattle.llfree_trace.specs.Rounds.{ask_spot, spot}
 
 -- the answers to the first i lines stand in order, and of each core as many are used as it has lines among them

@@ -1,13 +1,12 @@
 -- A run of a trace of one round that is in parts.
-use Rattle.std.proofs.Common.{◌≡◌, ◌+◌, ◌-◌, ◌<◌, ◌≤◌, ◌∙◌, ℕ, List, [], ◌∷◌, ◌++◌, Ok, ap, arith, length, length-append, refl, subst, sym, take, get_or}
-use Rattle.std.specs.List.{All, flat_map}
-use Rattle.std.proofs.lemmas.List.{append-nil, append_assoc}
+use Rattle.std.proofs.Common.{◌≡◌, ◌+◌, ◌-◌, ◌<◌, ◌≤◌, ◌∙◌, ℕ, List, [], ◌∷◌, ◌++◌, ap, arith, length, length-append, refl, subst, sym, take, get_or}
+use Rattle.std.specs.List.{All}
+use Rattle.std.proofs.lemmas.List.{append-nil}
 use Rattle.std.proofs.lemmas.List.Elements.{All-head, All-push, All-tail, All-take}
-use Rattle.frame_core.specs.Image.{Contents, key_in}
-use Rattle.frame_model.specs.Report.{free_frames, held_frames}
+use Rattle.frame_core.specs.Image.{Contents}
 use Rattle.trace_text.specs.AnswerText.{answer_rows_text, answers_of}
 use Rattle.trace_text.specs.Parts.{IsOneRound, lines_of}
-use Rattle.trace_text.specs.Trace.{core_count, cores_in, is_one_round, ranges_in}
+use Rattle.trace_text.specs.Trace.{core_count, ranges_in}
 use Rattle.trace_text.specs.declared.line.Line.{Line}
 use Rattle.trace_text.specs.declared.line.Line.TheVariants as line
 use Rattle.trace_text.specs.declared.reply.Answer.{Answer}

@@ -1,6 +1,6 @@
 -- How the text of a round's answers grows by stretches.
-use Rattle.std.proofs.Common.{◌≡◌, ◌==◌, ◌+◌, ◌-◌, ◌<◌, ◌≤◌, ◌∙◌, ℕ, List, [], ◌∷◌, ◌++◌, length, take, drop, map, get_or}
-use Rattle.std.proofs.Common.{ap, ap₂, arith, refl, subst, sym, zero-add}
+use Rattle.std.proofs.Common.{◌≡◌, ◌==◌, ◌+◌, ◌-◌, ◌<◌, ◌≤◌, ◌∙◌, ℕ, List, [], ◌∷◌, ◌++◌, length, take, get_or}
+use Rattle.std.proofs.Common.{ap, ap₂, arith, refl, subst, sym}
 use Rattle.std.specs.List.{All, flat_map}
 use Rattle.std.specs.declared.alloc.Global.{Global}
 use Rattle.std.specs.declared.vec.Vec.{Vec}
@@ -9,8 +9,8 @@ use Rattle.std.proofs.lemmas.List.Elements.{filter-append}
 use Rattle.trace_text.specs.AnswerText.{answer_rows_text}
 use Rattle.trace_text.proofs.AnswerRows.{answer_rows_both}
 use Rattle.trace_text.specs.declared.reply.Answer.{Answer}
-use Rattle.llfree_trace.specs.Rounds.{Ask, HasLists, Merged, Spells, Told, all_answers, answers_by, answers_to, ask_spot}
-use Rattle.llfree_trace.specs.Rounds.{asks_between, asks_by, asks_in, asks_of, spot}
+use Rattle.llfree_trace.specs.Rounds.{Ask, HasLists, Merged, Spells, Told, all_answers, answers_to, ask_spot}
+use Rattle.llfree_trace.specs.Rounds.{asks_between, asks_in, asks_of, spot}
 use Rattle.llfree_trace.specs.Rounds.{Stretch}
 use Rattle.llfree_trace.proofs.Listed.{at_place, flat_between}
 

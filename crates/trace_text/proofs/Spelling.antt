@@ -1,6 +1,6 @@
 -- The text of records reads as these records.
 use Rattle.std.specs.Prelude.{◌≢◌, ◌≤◌, codes, decimal, nat_lt}
-use Rattle.std.specs.List.{All, flat_map}
+use Rattle.std.specs.List.{All}
 use Rattle.std.proofs.Common.{◌≡◌, ◌∙◌, ◌<◌, ◌+◌, ◌%◌, ◌^◌, ◌∷◌, ◌++◌, [], ℕ, List, Some, Ok, ap, append_assoc, append-nil, arith, get_or, length, refl, sym, true}
 use Rattle.std.proofs.lemmas.Bool.{ne_eqb}
 use Rattle.std.proofs.lemmas.Bool.Decides.{nat_tests}

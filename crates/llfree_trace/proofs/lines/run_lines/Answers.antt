@@ -1,6 +1,4 @@
-use Rattle.std.proofs.Common.{◌≡◌, arith, length}
-use Rattle.std.proofs.lemmas.List.{take_all}
-use Rattle.llfree_trace.specs.Rounds.{Stretch}
+use Rattle.std.proofs.Common.{arith}
 use Rattle.llfree_trace.proofs.Workers.{ran_further, ran_none, ran_stretches}
 use Rattle.llfree_trace.proofs.lines.run_lines.Goals as goal
 

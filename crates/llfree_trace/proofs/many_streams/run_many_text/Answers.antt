@@ -1,7 +1,5 @@
-use Rattle.std.proofs.Common.{◌≡◌, ◌∙◌, Ok, ap, arith, length, subst}
+use Rattle.std.proofs.Common.{◌≡◌, ◌∙◌, Ok, ap, arith, length}
 use Rattle.std.proofs.lemmas.List.{append-nil}
-use Rattle.trace_text.specs.TraceText.{trace_of}
-use Rattle.trace_text.specs.declared.line.Line.{Line}
 use Rattle.llfree_trace.proofs.RoundParts.{only_part}
 use Rattle.llfree_trace.proofs.many_streams.run_many_text.Goals as goal
 

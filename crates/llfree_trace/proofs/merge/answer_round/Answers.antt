@@ -1,4 +1,4 @@
-use Rattle.std.proofs.Common.{◌≡◌, ◌<◌, ◌∷◌, [], List, arith, length, refl, subst, sym}
+use Rattle.std.proofs.Common.{◌<◌, ◌∷◌, [], List, arith, length, subst, sym}
 use Rattle.std.specs.List.{All}
 use Rattle.std.proofs.lemmas.List.{append-nil}
 use Rattle.llfree_trace.specs.Rounds.{Ask, RoundRan, asks_in}

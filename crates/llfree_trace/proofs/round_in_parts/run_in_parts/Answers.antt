@@ -1,5 +1,5 @@
-use Rattle.std.proofs.Common.{◌≡◌, ◌<◌, ◌≤◌, ◌∙◌, ◌++◌, List, pos, ap, ap₂, arith, length, refl, subst, sym, vec_len}
-use Rattle.std.specs.List.{All, flat_map}
+use Rattle.std.proofs.Common.{◌≡◌, ◌≤◌, ◌∙◌, ◌++◌, List, ap, ap₂, arith, length, subst, sym, vec_len}
+use Rattle.std.specs.List.{All}
 use Rattle.std.proofs.lemmas.List.{length-map}
 use Rattle.frame_model.specs.Key.{sealed_key}
 use Rattle.frame_model.specs.declared.key.Key.{Key}
@@ -9,8 +9,7 @@ use Rattle.trace_text.specs.Parts.{lines_of}
 use Rattle.trace_text.specs.Trace.{cores_in, ranges_in}
 use Rattle.trace_text.specs.declared.line.Line.{Line}
 use Rattle.trace_text.proofs.Cores.{cores_in_at}
-use Rattle.llfree_trace.specs.Rounds.{Ask, RanAll, RoundRan, asks_from, asks_of, lent_by_desks, told_by}
-use Rattle.llfree_trace.specs.RunText.{ShowsAnswers}
+use Rattle.llfree_trace.specs.Rounds.{Ask, RoundRan}
 use Rattle.llfree_trace.proofs.Ended.{adds_up, image_is, runs_answered}
 use Rattle.llfree_trace.proofs.GoingOn.{all_asks}
 use Rattle.llfree_trace.proofs.Interleaving.{round_runs}

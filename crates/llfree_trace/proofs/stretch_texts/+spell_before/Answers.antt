@@ -1,5 +1,4 @@
-use Rattle.std.proofs.Common.{◌≡◌, arith, refl}
-use Rattle.std.specs.List.{flat_map}
+use Rattle.std.proofs.Common.{arith}
 use Rattle.std.proofs.lemmas.Grind.{flat_map-append}
 use Rattle.llfree_trace.proofs.Spelling.{spells_both, spells_none}
 use Rattle.llfree_trace.proofs.stretch_texts.+spell_before.Goals as goal

@@ -1,4 +1,4 @@
-use Rattle.std.proofs.Common.{◌≡◌, ◌≤◌, ◌<◌, ◌+◌, arith, refl}
+use Rattle.std.proofs.Common.{◌+◌, arith}
 use Rattle.llfree_trace.proofs.Listed.{flat_push}
 use Rattle.llfree_trace.proofs.Spelling.{spells_both, spells_none, spells_one}
 use Rattle.llfree_trace.proofs.stretch_texts.spell.Goals as goal
