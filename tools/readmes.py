@@ -1,7 +1,7 @@
 #!/usr/bin/env python3
 """Tells which files of `src/` and `specs/` their crate's README.md does not name, where the first sentence of
 `src/lib.rt` (or `src/main.rt`) is not that of the README, which sizes in the README at the top are not those that
-it counts: lines that are not empty, to 2 percent, and wrong bodies, exactly; and which lines of docs/PROOFS.md are
+it counts: lines that are not empty, to 2 percent, and mutants, exactly; and which lines of docs/PROOFS.md are
 longer than 120 columns.
 
 Run it at the top of the repository. It ends with status 1 where there is one. A file is named in backticks by
@@ -68,14 +68,14 @@ def sizes():
         "lines of code": lines_of(crates.glob("*/src/**/*.rt")),
         "of definitions": lines_of(crates.glob("*/specs/**/*.antt")),
         "of proofs": lines_of(crates.glob("*/proofs/**/*.antt")),
-        "wrong bodies": len(list(crates.glob("*/must-fail/*.edit"))),
+        "mutants": len(list(crates.glob("*/must-fail/*.edit"))),
     }
     text = (TOP / "README.md").read_text()
     wrong = []
     for what, number in counted.items():
         said = re.search(rf"([\d,]+) {what}", text)
         value = int(said.group(1).replace(",", "")) if said else 0
-        if abs(value - number) > (0 if what == "wrong bodies" else number / 50):
+        if abs(value - number) > (0 if what == "mutants" else number / 50):
             wrong.append(f"{value} {what}, and there are {number}")
     return wrong
 

@@ -4,15 +4,15 @@ ghost use Rattle.std.specs.Prelude.{◌≡◌, ◌≤◌, MatchBool, map};
 ghost use Rattle.frame_zones.specs.Spans.{most_zone_frames, place_of, place_at, end_at, MayLie, MayBeZones};
 
 use crate::image::ZoneImage;
-use frame_words::Geometry;
+use frame_words::{CHILD_FRAMES, Geometry};
 
 /// The most zones of a memory.
 pub const MOST_ZONES: usize = 1024;
 
 // 64 bits address so many frames of 4 KiB.
-const MOST_FRAMES: u64 = 4503599627370496;
+const ADDRESSED_FRAMES: u64 = 4503599627370496;
 
-const CHILD_FRAMES: u64 = 512;
+const CHILD: u64 = CHILD_FRAMES as u64;
 
 /// A zone that is to be opened.
 #[derive(Drop)]
@@ -69,10 +69,10 @@ fn may_follow(cores: u32, from: u64, first: u64, geometry: Geometry) -> bool
         (¬ MayLie cores from first geometry.cores geometry.children) }
 {
     geometry.cores == cores
-        && first % CHILD_FRAMES == 0
+        && first % CHILD == 0
         && from <= first
-        && first <= MOST_FRAMES
-        && CHILD_FRAMES * u64::from(geometry.children) <= MOST_FRAMES - first
+        && first <= ADDRESSED_FRAMES
+        && CHILD * u64::from(geometry.children) <= ADDRESSED_FRAMES - first
 }
 
 // The frame past the last child.
@@ -80,5 +80,5 @@ fn end_of(first: u64, geometry: Geometry) -> u64
     requires { end_at first geometry.children ≤ most_zone_frames }
     ensures { result ≡ end_at first geometry.children }
 {
-    first + CHILD_FRAMES * u64::from(geometry.children)
+    first + CHILD * u64::from(geometry.children)
 }

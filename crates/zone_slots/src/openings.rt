@@ -14,12 +14,12 @@ use crate::core_state::CoreState;
 use crate::layouts::MOST_NUMBERS;
 use crate::memory::Memory;
 use frame_slots::SlotList;
-use frame_words::Fault;
+use frame_words::{CHILD_FRAMES, Fault};
 use frame_zones::{Span, ZoneCore, Zones};
 use std::alloc::Global;
 use std::sync::Arc;
 
-const CHILD_FRAMES: u64 = 512;
+const CHILD: u64 = CHILD_FRAMES as u64;
 
 // Room for so many lists more, above a cache line: behind what all cores read lies nothing that one writes.
 pub(crate) const LISTS_APART: usize = 2;
@@ -94,7 +94,7 @@ fn has_numbers(span: &Span) -> bool
     ensures { MatchBool result (HasNumbers span.now) (¬ HasNumbers span.now) }
 {
     span.first <= MOST_NUMBERS
-        && CHILD_FRAMES * u64::from(span.geometry.children) <= MOST_NUMBERS - span.first
+        && CHILD * u64::from(span.geometry.children) <= MOST_NUMBERS - span.first
 }
 
 // The slots of each zone's blocks, found through the last core.
