@@ -27,7 +27,7 @@ holds() {
     head -n 5 "$work/output" "$work/errors"
 }
 
-# a kit whose rt says what it was called for, does what a hook of the crate says, and builds a file of the sources
+# a kit that says what it was called for, does what a hook of the crate says, and builds a file of the sources
 makes_kit() {
     mkdir -p "$kit/bin" "$kit/rlibs" "$kit/c"
     echo 'stand-in 1' >"$kit/KIT-ID"
@@ -36,40 +36,38 @@ makes_kit() {
 #!/usr/bin/env bash
 set -eu
 kit=$(cd "$(dirname "$0")/.." && pwd)
-name=$(basename "$PWD")
 case $1 in
-    doc) echo "$kit/START-HERE.md"; exit ;;
-    try) shift 2; echo "try $*" >>"$kit/calls"; echo "tried $*"; exit ;;
-    check) exit ;;
+    doc) echo "$kit/START-HERE.md" ;;
+    try) shift 2; echo "try $*" >>"$kit/calls"; echo "tried $*" ;;
     ci)
         mkdir -p crates/low/out/rlib/low.rlib crates/mid/out/rlib/mid.rlib crates/llfree/out
         printf '#!/bin/sh\n' >crates/llfree/out/llfree
         chmod +x crates/llfree/out/llfree
         if [ -e "$kit/hook.ci" ]; then . "$kit/hook.ci"; fi
-        printf '%s\n' 'a line' '3 passed, 0 failed'
-        exit ;;
-esac
-echo "$1 $name" >>"$kit/calls"
-before=$(cat ../*/src/*.rt)
-if [ -e "$kit/hook.$name" ]; then . "$kit/hook.$name"; fi
-mkdir -p out/rlib
-case $1 in
-    lib)
-        echo "$before" >out/lib$name.a
-        mkdir -p "out/rlib/$name.rlib"
-        : >out/rlib/stamp ;;
-    run)
-        printf '#!/bin/sh\necho "%s: $*"\n' "$(echo $before)" >out/$name
-        chmod +x out/$name ;;
+        printf '%s\n' 'a line' '3 passed, 0 failed' ;;
 esac
 RT
     cat >"$kit/bin/rattle" <<'RATTLE'
 #!/usr/bin/env bash
+set -eu
 kit=$(cd "$(dirname "$0")/.." && pwd)
-echo rattle >>"$kit/calls"
-: >"${!#}"
+name=$3
+made=${!#}
+echo "$name" >>"$kit/calls"
+before=$(cat ../*/src/*.rt)
+if [ -e "$kit/hook.$name" ]; then . "$kit/hook.$name"; fi
+case $made in
+    *.rlib) mkdir "$made" ;;
+    *) echo "$before" >"$made" ;;
+esac
 RATTLE
-    chmod +x "$kit/bin/rt" "$kit/bin/rattle"
+    cat >"$kit/bin/rattle-link" <<'LINK'
+#!/usr/bin/env bash
+set -eu
+printf '#!/bin/sh\necho "%s: $*"\n' "$(echo $(cat "$7"))" >"$6"
+chmod +x "$6"
+LINK
+    chmod +x "$kit"/bin/*
     chmod -R a+rX "$work"
     chmod a+w "$kit/calls"
 }
@@ -79,7 +77,7 @@ makes_tree() {
     rm -rf "$tree" "$kit"/hook.*
     mkdir -p "$tree/tools" "$tree/examples/c"
     cp "$root/llfree" "$tree"
-    cp "$root"/tools/{build,c_library,static_library,sources}.sh "$tree/tools"
+    cp "$root"/tools/{build,crate,c_library,static_library,sources}.sh "$tree/tools"
     cp "$root"/examples/c/{Makefile,llfree.pc.in} "$tree/examples/c"
     echo 'Handles allowed: none.' >"$tree/HANDLES"
     printf '%s\n' 'low: std' 'mid: low # and no more' 'other: low' 'llfree: mid low' 'llfree_c staticlib: mid low' >"$tree/crates.txt"
@@ -112,18 +110,19 @@ is() {
     [ "$1" = "$2" ]
 }
 
-# the three targets: what is run, what rt is called for, and what it leaves
+# the three targets: what is run, which crates are built in a fresh clone, and what is left
 target() {
     case $1 in
-        program) words=(./llfree run 1 1) built='lib low lib mid run llfree' product=crates/llfree/out/llfree ;;
-        library) words=(tools/c_library.sh) built='lib low lib mid lib llfree_c' product=crates/llfree_c/out/libllfree_c.a ;;
-        make) words=(make -s -C examples/c llfree.pc) built='lib low lib mid lib llfree_c' product=crates/llfree_c/out/libllfree_c.a ;;
+        program) words=(./llfree run 1 1) built='low mid llfree' product=crates/llfree/out/llfree ;;
+        library) words=(tools/c_library.sh) built='low mid llfree_c' product=crates/llfree_c/out/libllfree_c.a ;;
+        make) words=(make -s -C examples/c llfree.pc) built='low mid llfree_c' product=crates/llfree_c/out/libllfree_c.a ;;
     esac
 }
 
+# builds NAME [CRATES]: just these crates, or all
 builds() {
     runs "${words[@]}"
-    holds "$1" is "$status, $(calls)" "0, $built"
+    holds "$1" is "$status, $(calls)" "0, ${2:-$built}"
 }
 
 builds_nothing() {
@@ -131,10 +130,11 @@ builds_nothing() {
     holds "$1" is "$status, $(calls)" '0, '
 }
 
-# one target: what is changed is built again, once
+# one target: what is changed is built again, once, with all above it
 changes() {
     target "$1"
     makes_tree
+    local last=${built##* }
     builds "$1: in a fresh clone"
     holds "$1: what it costs is said" says 'crates; with nothing kept'
     builds_nothing "$1: again"
@@ -144,21 +144,26 @@ changes() {
     [ "$1" != program ] || holds "$1: the edit is in it" grep -q lew "$work/output"
     builds_nothing "$1: after an edit, again"
     rm "$tree/crates/mid/specs/Lib.antt"
-    builds "$1: after a file was deleted"
+    builds "$1: after a file was deleted" "mid $last"
     mv "$tree/crates/low/specs/Lib.antt" "$tree/crates/low/specs/Low.antt"
     builds "$1: after a file was renamed"
     : >"$tree/crates/low/specs/New.antt"
     touch -d @0 "$tree/crates/low/specs/New.antt"
     builds "$1: after an old file came"
     echo 'other: low mid' >>"$tree/crates.txt"
-    builds "$1: after crates.txt changed"
+    builds "$1: after crates.txt changed" "$last"
+    sed -i 's/^mid: .*/mid: low std/' "$tree/crates.txt"
+    builds "$1: after a line of crates.txt changed" "mid $last"
     echo 'stand-in 2' >"$kit/KIT-ID"
     builds "$1: with another kit"
     rm "$tree/$product"
-    builds "$1: after what was built is gone"
+    builds "$1: after what was built is gone" "$last"
+    rm -r "$tree/crates/mid/out/rlib"
+    echo new >"$tree/crates/other/src/lib.rt"
+    builds "$1: after a library that was built is gone" "mid $last"
     cp "$tree/$product" "$work/product"
     cp "$work/product" "$tree/$product"
-    builds "$1: after another was laid in its place"
+    builds "$1: after another was laid in its place" "$last"
     builds_nothing "$1: after all that, again"
 
     echo 'echo mad >../low/src/lib.rt' >"$kit/hook.mid"
@@ -169,6 +174,12 @@ changes() {
     builds "$1: next after an edit while it was built"
     [ "$1" != program ] || holds "$1: that edit is in it" grep -q mad "$work/output"
     builds_nothing "$1: and again"
+    # edited while it is itself proved: what was read of it is not known
+    echo 'echo sad >../low/src/lib.rt' >"$kit/hook.low"
+    echo low >"$tree/crates/low/src/lib.rt"
+    builds "$1: edited while it is proved"
+    rm "$kit/hook.low"
+    builds "$1: next after an edit while it was proved"
     # put back as it was, with its time
     cp -p "$tree/crates/low/src/lib.rt" "$work/low"
     echo 'cp -p '"$work/low"' ../low/src/lib.rt; touch ../low/src/lib.rt' >"$kit/hook.mid"
@@ -182,14 +193,14 @@ changes() {
     cp -p "$tree/crates/low/src/lib.rt" "$work/low"
     echo bad >"$tree/crates/low/src/lib.rt"
     runs "${words[@]}"
-    holds "$1: a crate fails" is "$(calls)" 'lib low lib mid'
+    holds "$1: a crate fails" is "$(calls)" 'low mid'
     holds "$1: and its status" is "$status" "$([ "$1" = make ] && echo 2 || echo 4)"
     holds "$1: and it is said" says 'not proved'
     holds "$1: and nothing is run" is "$(cat "$work/output")" ''
     runs "${words[@]}"
-    holds "$1: a crate fails once more" is "$(calls)" 'lib low lib mid'
+    holds "$1: a crate fails once more" is "$(calls)" 'mid'
     rm "$kit/hook.mid"
-    # the old program is there, and so are its sources, with their old times: but what rt has made since is not known
+    # the old program is there, and so are its sources, with their old times: but what was built since is not known
     cp -p "$work/low" "$tree/crates/low/src/lib.rt"
     builds "$1: after the edit that failed was taken back"
 
@@ -197,9 +208,9 @@ changes() {
     for signal in INT TERM; do
         cp -p "$tree/crates/low/src/lib.rt" "$work/low"
         echo out >"$tree/crates/low/src/lib.rt"
-        echo 'kill -'$signal' "$PPID"; sleep 5; echo "late $name" >>"$kit/calls"; exit 1' >"$kit/hook.mid"
+        echo 'kill -'$signal' $(ps -o ppid= -p $PPID); sleep 5; echo "late $name" >>"$kit/calls"; exit 1' >"$kit/hook.mid"
         runs env --default-signal=INT "${words[@]}"
-        holds "$1: $signal" is "$(calls)" 'lib low lib mid'
+        holds "$1: $signal" is "$(calls)" 'low mid'
         holds "$1: $signal: and nothing is run" is "$(cat "$work/output")" ''
         holds "$1: $signal: and it is said" says 'stopped'
         [ "$1" != program ] || holds "$1: $signal: its status" is "$status" "$([ $signal = INT ] && echo 130 || echo 143)"
@@ -209,44 +220,43 @@ changes() {
     done
 }
 
-# the calls of rt, which come in any order where two crates are proved beside each other
+# the crates in the order of their names: two that are proved beside each other begin in any order
 sorted_calls() {
     echo $(sort "$kit/calls")
 }
 
-# two libraries that do not stand on each other: one is proved in the tree, one in a copy
+# two libraries that do not stand on each other are proved beside each other
 two_beside() {
     target program
     makes_tree
     printf '%s\n' 'low: std' 'mid: low' 'side: low' 'llfree: mid side low' >"$tree/crates.txt"
     cp -r "$tree/crates/other" "$tree/crates/side"
-    local all='lib low lib mid lib side run llfree' signal
+    local all='llfree low mid side' signal
+    # each waits for the begin of the other
+    local begun='for _ in $(seq 100); do if grep -q mid "$kit/calls" && grep -q side "$kit/calls"; then break; fi; sleep 0.1; done; '
+    echo "$begun"'grep -q side "$kit/calls"' >"$kit/hook.mid"
+    echo "$begun"'grep -q mid "$kit/calls"' >"$kit/hook.side"
     runs "${words[@]}"
     holds 'beside: in a fresh clone' is "$status, $(sorted_calls)" "0, $all"
-    holds 'beside: what the copy left is in the tree' test -e "$tree/crates/side/out/libside.a"
-    holds 'beside: and the copy is gone' test ! -e "$tree/crates/llfree/out/beside"
+    rm "$kit"/hook.*
     builds_nothing 'beside: again'
+    echo new >"$tree/crates/side/src/lib.rt"
+    builds 'beside: an edit of one' 'side llfree'
 
-    echo 'exit 1' >"$kit/hook.side"
     echo new >"$tree/crates/low/src/lib.rt"
-    runs "${words[@]}"
-    holds 'beside: one fails in the copy' is "$status, $(sorted_calls)" '4, lib low lib mid lib side'
-    holds 'beside: and it is said' says 'not proved'
-    # one that fails or is stopped does so behind the start of the other
-    local begun='for _ in $(seq 100); do if grep -q side "$kit/calls"; then break; fi; sleep 0.1; done; '
     echo "$begun"'exit 1' >"$kit/hook.mid"
     echo 'sleep 5; echo "late $name" >>"$kit/calls"; exit 1' >"$kit/hook.side"
     runs "${words[@]}"
-    holds 'beside: one fails in the tree, and nobody waits for the other' is "$status, $(sorted_calls)" '4, lib low lib mid lib side'
+    holds 'beside: one fails, and nobody waits for the other' is "$status, $(sorted_calls)" '4, low mid side'
+    holds 'beside: and it is said' says 'mid failed'
     for signal in INT TERM; do
-        echo "${begun}kill -$signal"' "$PPID"; sleep 5; echo "late $name" >>"$kit/calls"; exit 1' >"$kit/hook.mid"
+        echo "${begun}kill -$signal"' $(ps -o ppid= -p $PPID); sleep 5; echo "late $name" >>"$kit/calls"; exit 1' >"$kit/hook.mid"
         runs env --default-signal=INT "${words[@]}"
-        holds "beside: $signal" is "$status, $(sorted_calls)" "$([ $signal = INT ] && echo 130 || echo 143), lib low lib mid lib side"
-        holds "beside: $signal: and the copy is gone" test ! -e "$tree/crates/llfree/out/beside"
+        holds "beside: $signal" is "$status, $(sorted_calls)" "$([ $signal = INT ] && echo 130 || echo 143), mid side"
     done
     rm "$kit"/hook.*
     runs "${words[@]}"
-    holds 'beside: next after all that' is "$status, $(sorted_calls)" "0, $all"
+    holds 'beside: next after all that' is "$status, $(sorted_calls)" "0, llfree mid side"
     holds 'beside: the edit is in it' grep -q new "$work/output"
 }
 
@@ -276,14 +286,13 @@ after_ci() {
     target program
     builds_nothing 'program: after .ci/run'
     target library
-    built=rattle
-    builds 'library: after .ci/run'
+    builds 'library: after .ci/run' llfree_c
     builds_nothing 'library: after .ci/run, again'
     echo new >"$tree/crates/low/src/lib.rt"
     target library
     builds 'library: after .ci/run and an edit'
     target program
-    builds 'program: after .ci/run and an edit'
+    builds 'program: after .ci/run and an edit, of which the libraries stand built' llfree
 }
 
 # what no program has to be built for

@@ -2,24 +2,29 @@
 # A record, FILE.sources, has a line for each source with its size and its time, for what else decides a build,
 # and last for the built file itself. It is written once all is proved, of what stood there before.
 
-# sources TOP [RECORD]: the lines of now. The kit's are those of its identity file and its programs, since
-# rt version takes half a second; where no rt is on the PATH, those of the record.
+# kit_lines: the kit's, those of its identity file and its programs, since rt version takes half a second
+kit_lines() {
+    local kit line
+    kit=$(command -v rt) && kit=$(readlink -f -- "$kit") || return
+    kit=${kit%/*/*}
+    if [ -e "$kit/KIT-ID" ]; then
+        read -r line <"$kit/KIT-ID"
+        echo "kit $line"
+        find "$kit/KIT-ID" "$kit/bin/rt" "$kit/bin/rattle" -printf 'kit %p %s %T@\n' 2>/dev/null
+    else
+        echo "kit $(rt version)"
+    fi
+}
+
+# sources TOP [RECORD]: the lines of now; where no rt is on the PATH, the kit's are those of the record
 sources() {
     echo "backend ${RT_BACKEND:-}"
-    if kit=$(command -v rt); then
-        kit=$(readlink -f -- "$kit")
-        kit=${kit%/*/*}
-        if [ -e "$kit/KIT-ID" ]; then
-            read -r line <"$kit/KIT-ID"
-            echo "kit $line"
-            find "$kit/KIT-ID" "$kit/bin/rt" "$kit/bin/rattle" -printf 'kit %p %s %T@\n' 2>/dev/null
-        else
-            echo "kit $(rt version)"
-        fi
+    if command -v rt >/dev/null; then
+        kit_lines
     elif [ -n "${2:-}" ]; then
         awk '$1 == "kit"' "$2"
     fi
-    (cd "$1" && find llfree tools/build.sh tools/*_library.sh tools/sources.sh HANDLES crates.txt crates -name out -prune -o \
+    (cd "$1" && find llfree tools/build.sh tools/crate.sh tools/*_library.sh tools/sources.sh HANDLES crates.txt crates -name out -prune -o \
         \( ! -path 'crates/*' -o -name '*.rt' -o -name '*.antt' \) ! -type d -printf '%p %s %T@\n' 2>/dev/null)
 }
 
