@@ -40,9 +40,9 @@ done
 for folder in ../*/out/rlib; do
     words+=(-L "dependency=$folder")
 done
-words+=(--antt-project "$kit/rattle/logic/antt-project.json" --logic-built "$kit/logic_built"
-    --incremental out/incremental --links "$crate=" --jobs "$jobs")
-mkdir -p out/incremental
+words+=(--antt-project "$kit/rattle/logic/antt-project.json" --logic-built "$kit/logic_built" --links "$crate="
+    --jobs "$jobs")
+mkdir -p out
 
 if [ "$root" = src/main.rt ]; then
     backend=${RT_BACKEND:-llvm}
