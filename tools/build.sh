@@ -20,25 +20,25 @@ fi
 
 # seconds of a processor, and MB that stay in out/
 costs='
-frame_words 40 120
-frame_model 45 100
-frame_core 75 170
-low_frames 45 120
-held_blocks 70 250
-frame_table 95 290
-frame_text 90 250
-plain_moves 140 340
-core_frames 150 480
-frame_image 40 200
-trace_text 115 360
-llfree_trace 235 620
-llfree 40 80
-frame_zones 110 320
-frame_slots 70 350
-zone_slots 200 290
+frame_words 40 10
+frame_model 45 20
+frame_core 75 30
+low_frames 45 20
+held_blocks 70 40
+frame_table 95 60
+frame_text 90 110
+plain_moves 140 60
+core_frames 150 100
+frame_image 40 40
+trace_text 115 40
+llfree_trace 235 90
+llfree 40 10
+frame_zones 110 80
+frame_slots 70 70
+zone_slots 200 100
 llfree_c 110 280'
 # what the processors of a first run are busy for, of 100, on 4 of them
-BUSY=65
+BUSY=57
 
 stops() {
     echo "$target: $1" >&2
@@ -156,7 +156,7 @@ main() {
     forget "$product" && : >"$log" && sources "$top" >"$lines" ||
         stops "$out cannot be written to: copy the repository to a folder of yours$hint"
     echo "$target: proving and building ${#order[@]} crates; with nothing kept that takes about" \
-        "$(minutes $((seconds * 100 / BUSY / 4))) on 4 processors, and about $(((megabytes + 500) / 1000)) GB of disk" >&2
+        "$(minutes $((seconds * 100 / BUSY / 4))) on 4 processors, and about $((megabytes / 1000 + 1)) GB of disk" >&2
     SECONDS=0
     # the seconds of crates that were not kept, by the table; when the first of them began here
     local count=0 built=0 began=0 pid status left
