@@ -1,7 +1,7 @@
 #!/usr/bin/env bash
 # Builds the library for C, crates/llfree_c/out/libllfree_c.a, unless it was built from what stands there now.
-# tools/build.sh proves and builds all that stands below, too. Where .ci/run has just done that, only the crate
-# itself is proved, over the libraries that rt ci left: rt lib takes none of those, and rt ci builds no static library.
+# tools/build.sh proves and builds all that stands below, too, and takes only what it built itself. Where .ci/run has just
+# built those, the crate alone is proved, over what rt ci left, which builds no static library.
 set -eu
 top=$(cd "$(dirname "$0")/.." && pwd)
 . "$top/tools/sources.sh"
@@ -9,13 +9,14 @@ crate=$top/crates/llfree_c
 library=$crate/out/libllfree_c.a
 left=$crate/out/ci.sources
 
-# whether all libraries below are what rt ci left; what rt lib keeps has a stamp beside it
+# whether all libraries below are what rt ci left; beside what rt lib builds is a stamp, and tools/crate.sh leaves a key
 are_left() {
-    local name
+    local name built
     [ -e "$left" ] && sources "$top" | are_same "$left" || return
-    for name in $(sed 's/#.*//' "$top/crates.txt" | awk -F: '$1 ~ /^llfree_c / { print $2 }'); do
+    for name in $(sed -nE 's/#.*//; s/^llfree_c( [^:]*)?://p' "$top/crates.txt"); do
         [ -d "$top/crates/$name" ] || continue
-        [ -e "$top/crates/$name/out/rlib/$name.rlib" ] && [ ! -e "$top/crates/$name/out/rlib/stamp" ] || return
+        built=$top/crates/$name/out/rlib
+        [ -e "$built/$name.rlib" ] && [ ! -e "$built/stamp" ] && [ ! -e "$built/key" ] || return
     done
 }
 

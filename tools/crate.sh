@@ -31,17 +31,8 @@ key() {
 
 root=src/lib.rt
 [ ! -e src/main.rt ] || root=src/main.rt
-words=(--crate-name "$crate" "$root" --extern "std=$kit/rlibs/std.rlib" -L "dependency=$kit/rlibs")
-for name in $below; do
-    folder=$kit/rlibs
-    [ ! -d "../$name" ] || folder=../$name/out/rlib
-    words+=(--extern "$name=$folder/$name.rlib")
-done
-for folder in ../*/out/rlib; do
-    words+=(-L "dependency=$folder")
-done
-words+=(--antt-project "$kit/rattle/logic/antt-project.json" --logic-built "$kit/logic_built" --links "$crate="
-    --jobs "$jobs")
+mapfile -t words < <(rattle_words "$top" "$crate" "$root")
+words+=(--jobs "$jobs")
 mkdir -p out
 
 if [ "$root" = src/main.rt ]; then

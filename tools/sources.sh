@@ -16,6 +16,23 @@ kit_lines() {
     fi
 }
 
+# rattle_words TOP CRATE ROOT: what the kit's rattle is told of a crate and the libraries below it, a word a line, for
+# one that is run in the crate's folder
+rattle_words() {
+    local kit name folder
+    kit=$(dirname "$(rt doc)")
+    printf '%s\n' --crate-name "$2" "$3" --extern "std=$kit/rlibs/std.rlib" -L "dependency=$kit/rlibs"
+    for name in $(sed -nE "s/#.*//; s/^$2( [^:]*)?://p" "$1/crates.txt"); do
+        folder=$kit/rlibs
+        [ ! -d "../$name" ] || folder=../$name/out/rlib
+        printf '%s\n' --extern "$name=$folder/$name.rlib"
+    done
+    for folder in ../*/out/rlib; do
+        printf '%s\n' -L "dependency=$folder"
+    done
+    printf '%s\n' --antt-project "$kit/rattle/logic/antt-project.json" --logic-built "$kit/logic_built" --links "$2="
+}
+
 # sources TOP [RECORD]: the lines of now; where no rt is on the PATH, the kit's are those of the record
 sources() {
     echo "backend ${RT_BACKEND:-}"
