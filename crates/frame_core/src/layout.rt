@@ -9,7 +9,7 @@ ghost use Rattle.frame_model.specs.Words.{bits_place, word_count};
 use frame_words::{CHILD_WORDS, Geometry, LANES};
 
 /// Words before the first entry, and words from one local word to the next: a cache line each.
-const LINE_WORDS: usize = 8;
+pub const LINE_WORDS: usize = 8;
 
 /// The place of the word that the entry of this child stands in, beside three others.
 #[inline]
