@@ -8,7 +8,8 @@ use Rattle.frame_table.specs.declared.block.Block.{Block}
 use Rattle.core_frames.specs.declared.shared.allocator.Allocator.{Allocator}
 use Rattle.core_frames.specs.declared.shared.allocator.Core.{Core}
 use Rattle.core_frames.specs.declared.shared.found.Found.{Found}
-use Rattle.core_frames.specs.Cores.{kept_by, lent_by, moves_by, losses_by, IsOutOf}
+use Rattle.core_frames.specs.Bounds.{most_moves}
+use Rattle.core_frames.specs.Cores.{memory_of, kept_by, lent_by, moves_by, losses_by, IsOutOf, StaysCoreOf}
 use Rattle.core_frames.specs.Uses.{HasTaken, IsRefusedFor}
 
 -- the seat owns exactly the block of this order, and that block is out
@@ -30,6 +31,12 @@ pub record FindsThrough (a : Allocator) (n : ℕ) (answer : Result Found ℕ) (c
   pub contended : IfErr answer (λ lost. 0 < lost → IsRefusedFor a n c d Contended)
   pub no_block : IfErr answer (λ lost. lost ≡ 0 → IsRefusedFor a n c d NoBlock)
   pub lent : IfErr answer (λ _. lent_by d ≡ lent_by c)
+
+-- such a search by a core, which stays the allocator's, in the moves that a take may make
+pub record Finds (a : Allocator) (n : ℕ) (answer : Result Found ℕ) (c d : Core) : Type 0 where
+  pub stays : StaysCoreOf a c d
+  pub finds : FindsThrough a n answer c d
+  pub few : moves_by d ≤ moves_by c + most_moves (memory_of a)
 
 -- in at most so many moves the core keeps and remembers what it did; and whether an exchange was lost
 pub record HasLooked (most : ℕ) (lost : Bool) (c d : Core) : Type 0 where

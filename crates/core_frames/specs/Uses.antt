@@ -14,7 +14,8 @@ use Rattle.frame_table.specs.Seats.{block_in}
 use Rattle.frame_table.specs.declared.block.Block.{Block}
 use Rattle.core_frames.specs.declared.shared.allocator.Allocator.{Allocator}
 use Rattle.core_frames.specs.declared.shared.allocator.Core.{Core}
-use Rattle.core_frames.specs.Cores.{memory_of, view_in, kept_by, lent_by, moves_by, losses_by, IsOutOf}
+use Rattle.core_frames.specs.Bounds.{most_in_give}
+use Rattle.core_frames.specs.Cores.{memory_of, view_in, kept_by, lent_by, moves_by, losses_by, IsOutOf, StaysCoreOf}
 use Rattle.core_frames.specs.Splits.{AreHalves}
 use Rattle.core_frames.specs.Joins.{AreBuddies}
 
@@ -66,6 +67,12 @@ pub record TakesThrough (a : Allocator) (n : ℕ) (answer : Result Block TakeFau
 pub record HasGiven (c d : Core) : Type 0 where
   pub kept : kept_by d ≡ kept_by c
   pub lent : lent_by d ≡ lent_by c -ℤ pos 1
+
+-- such a give by a core, which stays the allocator's, in the moves that one may make
+pub record Gives (a : Allocator) (c d : Core) : Type 0 where
+  pub stays : StaysCoreOf a c d
+  pub gives : HasGiven c d
+  pub few : moves_by d ≤ moves_by c + most_in_give
 
 -- by so many moves the view is as before, but for their count
 abbrev pub IsSameAfter : ℕ → View → View → Type 0

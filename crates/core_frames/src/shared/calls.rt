@@ -5,7 +5,7 @@ ghost use Rattle.frame_words.specs.Geometry.{huge_order};
 ghost use Rattle.core_frames.specs.Bounds.{most_moves, most_in_give};
 ghost use Rattle.core_frames.specs.Cores.{memory_of, moves_by, IsCoreOf, StaysCoreOf, IsOutOf};
 ghost use Rattle.core_frames.specs.Found.{IsOutAs};
-ghost use Rattle.core_frames.specs.Uses.{TakesThrough, HasGiven};
+ghost use Rattle.core_frames.specs.Uses.{TakesThrough, HasGiven, Gives};
 
 use crate::gives::give_by;
 use crate::shared::allocator::{Allocator, Core};
@@ -58,9 +58,7 @@ impl Allocator {
     fn give_huge(&self, core: &mut Core, found: Found)
         requires core { IsCoreOf self.now core.old }
         requires found { IsOutAs self.now huge_order found }
-        ensures core { StaysCoreOf self.now core.old core.new }
-        ensures gives { HasGiven core.old core.new }
-        ensures moves { moves_by core.new ≤ moves_by core.old + most_in_give }
+        ensures { Gives self.now core.old core.new }
     {
         self.give_of(core, found.with_order(HUGE_ORDER));
     }
@@ -69,9 +67,7 @@ impl Allocator {
     fn give_any(&self, core: &mut Core, found: Found, order: u8)
         requires core { IsCoreOf self.now core.old }
         requires found { IsOutAs self.now order found }
-        ensures core { StaysCoreOf self.now core.old core.new }
-        ensures gives { HasGiven core.old core.new }
-        ensures moves { moves_by core.new ≤ moves_by core.old + most_in_give }
+        ensures { Gives self.now core.old core.new }
     {
         self.give_of(core, found.with_order(order));
     }
@@ -80,9 +76,7 @@ impl Allocator {
     fn give_of(&self, core: &mut Core, block: Block)
         requires core { IsCoreOf self.now core.old }
         requires block { IsOutOf self.now block }
-        ensures core { StaysCoreOf self.now core.old core.new }
-        ensures gives { HasGiven core.old core.new }
-        ensures moves { moves_by core.new ≤ moves_by core.old + most_in_give }
+        ensures { Gives self.now core.old core.new }
     {
         let mut m = SharedMoves::new(&self.table, &mut core.seat);
         give_by(&mut m, &mut core.habit, block);

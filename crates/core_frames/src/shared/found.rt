@@ -5,9 +5,9 @@ ghost use Rattle.frame_words.specs.Geometry.{huge_order};
 ghost use Rattle.frame_model.specs.Block.{block as block_at};
 ghost use Rattle.frame_model.specs.View.{holder};
 ghost use Rattle.frame_model.specs.Events.{eye};
-ghost use Rattle.core_frames.specs.Bounds.{most_moves, most_in_own_tree, most_elsewhere};
-ghost use Rattle.core_frames.specs.Cores.{memory_of, moves_by, lent_by, losses_by, IsCoreOf, StaysCoreOf};
-ghost use Rattle.core_frames.specs.Found.{FindsThrough, HasFound, HasLooked};
+ghost use Rattle.core_frames.specs.Bounds.{most_in_own_tree, most_elsewhere};
+ghost use Rattle.core_frames.specs.Cores.{memory_of, lent_by, losses_by, IsCoreOf, StaysCoreOf};
+ghost use Rattle.core_frames.specs.Found.{Finds, HasFound, HasLooked};
 ghost use Rattle.core_frames.specs.Uses.{HasTaken, HasMovedForEach};
 
 use crate::search::own_tree::take_own;
@@ -58,10 +58,7 @@ impl Allocator {
     pub(crate) fn find(&self, core: &mut Core, order: u8) -> Result<Found, u32>
         requires core { IsCoreOf self.now core.old }
         requires order { order ≤ huge_order }
-        ensures core { StaysCoreOf self.now core.old core.new }
-        ensures finds { FindsThrough self.now order result core.old core.new }
-        ensures moves { moves_by core.new ≤ moves_by core.old
-            + most_moves (memory_of self.now) }
+        ensures { Finds self.now order result core.old core.new }
     {
         match order {
             0 => self.find_base(core),
@@ -73,10 +70,7 @@ impl Allocator {
     #[inline(never)]
     fn find_base(&self, core: &mut Core) -> Result<Found, u32>
         requires { IsCoreOf self.now core.old }
-        ensures core { StaysCoreOf self.now core.old core.new }
-        ensures finds { FindsThrough self.now 0 result core.old core.new }
-        ensures moves { moves_by core.new ≤ moves_by core.old
-            + most_moves (memory_of self.now) }
+        ensures { Finds self.now 0 result core.old core.new }
     {
         self.find_of(core, 0)
     }
@@ -84,10 +78,7 @@ impl Allocator {
     #[inline(never)]
     fn find_huge(&self, core: &mut Core) -> Result<Found, u32>
         requires { IsCoreOf self.now core.old }
-        ensures core { StaysCoreOf self.now core.old core.new }
-        ensures finds { FindsThrough self.now huge_order result core.old core.new }
-        ensures moves { moves_by core.new ≤ moves_by core.old
-            + most_moves (memory_of self.now) }
+        ensures { Finds self.now huge_order result core.old core.new }
     {
         self.find_of(core, HUGE_ORDER)
     }
@@ -96,10 +87,7 @@ impl Allocator {
     fn find_any(&self, core: &mut Core, order: u8) -> Result<Found, u32>
         requires core { IsCoreOf self.now core.old }
         requires order { order ≤ huge_order }
-        ensures core { StaysCoreOf self.now core.old core.new }
-        ensures finds { FindsThrough self.now order result core.old core.new }
-        ensures moves { moves_by core.new ≤ moves_by core.old
-            + most_moves (memory_of self.now) }
+        ensures { Finds self.now order result core.old core.new }
     {
         self.find_of(core, order)
     }
@@ -109,10 +97,7 @@ impl Allocator {
     fn find_of(&self, core: &mut Core, order: u8) -> Result<Found, u32>
         requires core { IsCoreOf self.now core.old }
         requires order { order ≤ huge_order }
-        ensures core { StaysCoreOf self.now core.old core.new }
-        ensures finds { FindsThrough self.now order result core.old core.new }
-        ensures moves { moves_by core.new ≤ moves_by core.old
-            + most_moves (memory_of self.now) }
+        ensures { Finds self.now order result core.old core.new }
     {
         let (own, lost) = self.take_own(core, order);
         match own {
