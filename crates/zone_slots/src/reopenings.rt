@@ -70,27 +70,26 @@ fn reopen_memory(
     let Some(mut part) = parts.pop() else {
         return Err(Fault::NoMemory);
     };
-    let rows = memory.replay(alloc, &mut part, numbers, claimed)?;
-    memory.reclaimed = rows;
+    memory.replay(alloc, &mut part, numbers, claimed)?;
     Ok((memory, parts, part))
 }
 
 impl Memory {
-    // Each zone holds what the image holds there; the answer is what was laid down in each.
+    // Each zone holds what the image holds there.
     fn replay(
-        &self,
+        &mut self,
         alloc: Global,
         core: &mut ZoneCore,
         numbers: &[u64],
         claimed: &[Vec<FrameBlock>],
-    ) -> Result<Vec<Vec<Receipt>>, Fault>
-        requires core { AreCoresOf self.now.zones core.old }
+    ) -> Result<(), Fault>
+        requires core { AreCoresOf self.old.zones core.old }
         requires unused { IsUnusedCore core.old }
-        requires claimed { length claimed.now ≡ zone_count self.now.zones }
-        ensures core { AreCoresOf self.now.zones core.new }
-        ensures rest { IfOk result (λ _. KeepsRests numbers.now claimed.now self.now.zones core.new) }
-        ensures laid { IfOk result (λ rows. (z : ℕ) → z < zone_count self.now.zones
-            → HasLaidIn claimed.now rows.items z) }
+        requires claimed { length claimed.now ≡ zone_count self.old.zones }
+        ensures zones { self.new.zones ≡ self.old.zones }
+        ensures core { AreCoresOf self.old.zones core.new }
+        ensures rest { IfOk result (λ _. KeepsRests numbers.now claimed.now self.old.zones core.new) }
+        ensures laid { IfOk result (λ _. HaveLaidDown claimed.now self.new) }
         ensures err { IfErr result IsNoReplay }
     {
         let Ok(mut rows) = Vec::with_capacity(alloc, self.zones.count()) else {
@@ -102,7 +101,8 @@ impl Memory {
             rows.push_reserved(row);
             from += CHILD_NUMBERS * self.zones.frames[zone].div_ceil(CHILD_FRAMES) as usize;
         }
-        Ok(rows)
+        self.reclaimed = rows;
+        Ok(())
     }
 
     // The same in one zone.
