@@ -2,8 +2,8 @@
 
 ghost use Rattle.frame_zones.specs.Zones.{AreCoresOf, IsOutIn};
 
-use super::memory::{next_core, open_two};
-use frame_words::{Fault, TakeFault};
+use super::memory::{next_core, open_for_two, open_two};
+use frame_words::TakeFault;
 use frame_zones::{ZoneBlock, ZoneCore, Zones, blocks_lie_in_zones};
 use std::process::Abort;
 use std::test::Fail;
@@ -13,15 +13,15 @@ pub(super) fn taken(zones: &Zones, core: &mut ZoneCore, order: u8) -> Result<u64
     requires { AreCoresOf zones.now core.old }
     ensures { AreCoresOf zones.now core.new }
 {
-    let block = zones.take(core, order)?;
-    Ok(zones.frame_of(&block))
+    match zones.take(core, order) {
+        Ok(block) => Ok(zones.frame_of(&block)),
+        Err(fault) => Err(fault),
+    }
 }
 
 #[test]
 fn a_full_home_zone_falls_over_to_the_next(rt: HostRuntime) -> Result<(), Fail> {
-    let (zones, mut cores) = open_two(rt.alloc(), 1, 2)?;
-    let mut second = next_core(&zones, &mut cores).ok_or("a core")?;
-    let mut first = next_core(&zones, &mut cores).ok_or("a core")?;
+    let (zones, mut first, mut second) = open_for_two(rt.alloc(), 1)?;
     assert_eq!(rt; taken(&zones, &mut second, 7), Ok(8320));
     assert_eq!(rt; taken(&zones, &mut first, 8), Ok(256));
     assert_eq!(rt; taken(&zones, &mut first, 8), Ok(8448));
@@ -33,8 +33,7 @@ fn a_full_home_zone_falls_over_to_the_next(rt: HostRuntime) -> Result<(), Fail> 
 
 // Whether a memory of one child a zone has the frame and does not hold it back.
 fn is_there(frame: u64) -> bool {
-    let in_zone = frame % 8192;
-    frame < 16384 && in_zone < 512 && in_zone / 8 != 1
+    matches!(frame, 0..=7 | 16..=511 | 8192..=8199 | 8208..=8703)
 }
 
 // How many frames are taken, one after another, before none is there.
@@ -90,10 +89,11 @@ fn recalled(zones: &Zones, core: &mut ZoneCore, block: ZoneBlock) -> ZoneBlock
 
 #[test]
 fn a_block_is_split_kept_and_given(rt: HostRuntime) -> Result<(), Fail> {
-    let (zones, mut cores) = open_two(rt.alloc(), 1, 2)?;
+    let (zones, _first, mut core) = open_for_two(rt.alloc(), 1)?;
     assert_eq!(rt; zones.count(), 2);
-    let mut core = next_core(&zones, &mut cores).ok_or("a core")?;
-    let block = zones.take(&mut core, 8).map_err(Fault::from)?;
+    let Ok(block) = zones.take(&mut core, 8) else {
+        return Err(Fail::from("a block"));
+    };
     let (low, high) = halves(&rt, &zones, &mut core, block);
     blocks_lie_in_zones(&zones, &low, &high);
     assert_eq!(rt; (zones.frame_of(&low), low.order()), (8448, 7));

@@ -43,3 +43,31 @@ pub(super) fn next_core(zones: &Zones, cores: &mut Vec<ZoneCore>) -> Option<Zone
     let _ = zones;
     cores.pop()
 }
+
+// The last two cores of a list; the one before the last is first.
+pub(super) fn two_of(zones: &Zones, mut cores: Vec<ZoneCore>) -> Result<(ZoneCore, ZoneCore), Fault>
+    requires { All (AreCoresOf zones.now) cores.items }
+    ensures first { IfOk result (λ r. AreCoresOf zones.entry.now r.0) }
+    ensures second { IfOk result (λ r. AreCoresOf zones.entry.now r.1) }
+{
+    let Some(second) = next_core(zones, &mut cores) else {
+        return Err(Fault::MissingCores);
+    };
+    let Some(first) = next_core(zones, &mut cores) else {
+        return Err(Fault::MissingCores);
+    };
+    Ok((first, second))
+}
+
+// Two such zones with two cores: the home of each is the zone of its number.
+pub(super) fn open_for_two(
+    alloc: Global,
+    children: u32,
+) -> Result<(Zones, ZoneCore, ZoneCore), Fault>
+    ensures first { IfOk result (λ r. AreCoresOf r.0 r.1) }
+    ensures second { IfOk result (λ r. AreCoresOf r.0 r.2) }
+{
+    let (zones, cores) = open_two(alloc, children, 2)?;
+    let (first, second) = two_of(&zones, cores)?;
+    Ok((zones, first, second))
+}

@@ -7,7 +7,7 @@ ghost use Rattle.frame_zones.specs.Zones.{AreCoresOf};
 
 use super::calls::taken;
 use super::closings::held_in;
-use super::memory::{next_core, open_two};
+use super::memory::{open_for_two, two_of};
 use core_frames::Survivors;
 use frame_image::rebuild;
 use frame_words::Fault;
@@ -37,7 +37,10 @@ fn closed(
     let mut cores = Vec::with_capacity(alloc, 2)?;
     cores.push_reserved(first);
     cores.push_reserved(second);
-    zones.close(alloc, cores).map_err(|e| e.fault)
+    match zones.close(alloc, cores) {
+        Ok(images) => Ok(images),
+        Err(e) => Err(e.fault),
+    }
 }
 
 // The image of a zone with counters anew.
@@ -140,6 +143,16 @@ fn held_in_two(rt: &impl Abort, images: &[ZoneImage]) -> [(u64, u32); 2] {
     ]
 }
 
+// The images of two zones of which a block of each is held, besides what is held back.
+fn in_use(rt: &impl Abort, alloc: Global) -> Result<Vec<ZoneImage>, Fault> {
+    let (zones, mut first, mut second) = open_for_two(alloc, 1)?;
+    assert_eq!(rt; free_in(&zones, &mut second), (1008, 0));
+    assert_eq!(rt; taken(&zones, &mut first, 8), Ok(256));
+    assert_eq!(rt; taken(&zones, &mut second, 7), Ok(8320));
+    assert_eq!(rt; free_in(&zones, &mut first), (624, 0));
+    closed(alloc, zones, first, second)
+}
+
 // A huge frame is taken through each of two cores, and all is closed.
 fn full(
     rt: &impl Abort,
@@ -151,31 +164,31 @@ fn full(
     requires first { AreCoresOf zones first }
     requires second { AreCoresOf zones second }
 {
-    let lower = zones.take(&mut first, 9).map_err(Fault::from)?;
-    let upper = zones.take(&mut second, 9).map_err(Fault::from)?;
-    assert_eq!(rt; (zones.frame_of(&lower), zones.frame_of(&upper)), (0, 8192));
+    assert_eq!(rt; taken(&zones, &mut first, 9), Ok(0));
+    assert_eq!(rt; taken(&zones, &mut second, 9), Ok(8192));
     assert_eq!(rt; free_in(&zones, &mut first), (0, 0));
     closed(alloc, zones, first, second)
 }
 
+// All that the images hold is adopted and given; then each zone is taken whole.
+fn taken_again(
+    rt: &impl Abort,
+    alloc: Global,
+    images: &[ZoneImage],
+) -> Result<Vec<ZoneImage>, Fault> {
+    let images = rebuilt(alloc, images)?;
+    let (zones, cores, mut survivors) = opened(alloc, &images)?;
+    let (first, mut second) = two_of(&zones, cores)?;
+    assert_eq!(rt; free_in(&zones, &mut second), (624, 0));
+    adopts_by_table(rt, &zones, &mut second, &mut survivors);
+    full(rt, alloc, zones, first, second)
+}
+
 #[test]
 fn what_zones_held_is_adopted_once(rt: HostRuntime) -> Result<(), Fail> {
-    let (zones, mut cores) = open_two(rt.alloc(), 1, 2)?;
-    let mut second = next_core(&zones, &mut cores).ok_or("a core")?;
-    let mut first = next_core(&zones, &mut cores).ok_or("a core")?;
-    assert_eq!(rt; free_in(&zones, &mut second), (1008, 0));
-    assert_eq!(rt; taken(&zones, &mut first, 8), Ok(256));
-    assert_eq!(rt; taken(&zones, &mut second, 7), Ok(8320));
-    assert_eq!(rt; free_in(&zones, &mut first), (624, 0));
-    let images = closed(rt.alloc(), zones, first, second)?;
+    let images = in_use(&rt, rt.alloc())?;
     assert_eq!(rt; held_in_two(&rt, &images), [(0, 264), (8192, 136)]);
-    let images = rebuilt(rt.alloc(), &images)?;
-    let (zones, mut cores, mut survivors) = opened(rt.alloc(), &images)?;
-    let mut second = next_core(&zones, &mut cores).ok_or("a core")?;
-    let first = next_core(&zones, &mut cores).ok_or("a core")?;
-    assert_eq!(rt; free_in(&zones, &mut second), (624, 0));
-    adopts_by_table(&rt, &zones, &mut second, &mut survivors);
-    let images = full(&rt, rt.alloc(), zones, first, second)?;
+    let images = taken_again(&rt, rt.alloc(), &images)?;
     assert_eq!(rt; held_in_two(&rt, &images), [(0, 512), (8192, 512)]);
     Ok(())
 }

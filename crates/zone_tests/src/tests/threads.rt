@@ -4,7 +4,7 @@ ghost use Rattle.std.specs.Prelude.{IfSome};
 ghost use Rattle.frame_zones.specs.Zones.{AreCoresOf, IsOutIn};
 
 use super::closings::held_once_closed;
-use super::memory::{next_core, open_two};
+use super::memory::open_for_two;
 use frame_zones::{ZoneBlock, ZoneCore, Zones};
 use std::test::Fail;
 use std::thread::{Threads, join};
@@ -82,9 +82,7 @@ fn both<R: Threads + Sync>(
 #[test]
 fn two_threads_give_each_others_blocks(rt: HostRuntime) -> Result<(), Fail> {
     for order in [0, 3, 7, 9] {
-        let (zones, mut cores) = open_two(rt.alloc(), 8, 2)?;
-        let second = next_core(&zones, &mut cores).ok_or("a core")?;
-        let first = next_core(&zones, &mut cores).ok_or("a core")?;
+        let (zones, first, second) = open_for_two(rt.alloc(), 8)?;
         let (first, second) = both(&rt, &zones, first, second, order);
         assert_eq!(rt; held_once_closed(rt.alloc(), zones, first, second)?, 16);
     }
