@@ -46,7 +46,7 @@ fn each_reply_has_its_word(rt: HostRuntime) -> Result<(), Fail> {
         let answer = Answer { line, core, reply };
         let text = answers_text(rt.alloc(), &[answer], 10, 502)?;
         let want = format!(in rt.alloc(); "1000000,63,{fields}\nend,,Closed,10,502\n")?;
-        assert_eq!(rt; text.as_slice(), want.as_bytes());
+        assert!(rt; text.as_slice() == want.as_bytes(), "{fields}");
     }
     Ok(())
 }

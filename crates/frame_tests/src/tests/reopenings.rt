@@ -13,18 +13,6 @@ use frame_words::Fault;
 use std::alloc::Global;
 use std::test::Fail;
 
-// An allocator at a text's image, its only core, and what was held.
-fn reopened(alloc: Global, short: &str) -> Result<(Allocator, Core, Survivors), Fail>
-    ensures core { IfOk result (λ r. IsCoreOf r.0 r.1) }
-    ensures survivors { IfOk result (λ r. IsSurvivorsOf r.0 r.2) }
-{
-    let text = spelled(alloc, short)?;
-    let image = image_of(alloc, text.as_slice())?;
-    let (allocator, mut cores, survivors) = reopen(alloc, &image)?;
-    let core = only_core(&allocator, &mut cores).ok_or("a core")?;
-    Ok((allocator, core, survivors))
-}
-
 fn only_core(allocator: &Allocator, cores: &mut Vec<Core>) -> Option<Core>
     requires { All (IsCoreOf allocator.now) cores.old.items }
     ensures { IfSome result (IsCoreOf allocator.now) }
@@ -33,14 +21,28 @@ fn only_core(allocator: &Allocator, cores: &mut Vec<Core>) -> Option<Core>
     cores.pop()
 }
 
+// An allocator at an image, its only core, and what was held.
+pub(super) fn reopened(alloc: Global, image: &Image) -> Result<(Allocator, Core, Survivors), Fault>
+    ensures core { IfOk result (λ r. IsCoreOf r.0 r.1) }
+    ensures survivors { IfOk result (λ r. IsSurvivorsOf r.0 r.2) }
+{
+    let (allocator, mut cores, survivors) = reopen(alloc, image)?;
+    let Some(core) = only_core(&allocator, &mut cores) else {
+        return Err(Fault::MissingCores);
+    };
+    Ok((allocator, core, survivors))
+}
+
 // What the memory is rebuilt to once its only core is handed in.
-fn closed(alloc: Global, allocator: Allocator, core: Core) -> Result<Image, Fault>
+pub(super) fn closed(alloc: Global, allocator: Allocator, core: Core) -> Result<Image, Fault>
     requires { IsCoreOf allocator core }
 {
     let mut cores = Vec::with_capacity(alloc, 1)?;
     cores.push_reserved(core);
-    let image = allocator.close(alloc, cores).map_err(|e| e.fault)?;
-    rebuild(alloc, &image)
+    match allocator.close(alloc, cores) {
+        Ok(image) => rebuild(alloc, &image),
+        Err(e) => Err(e.fault),
+    }
 }
 
 // Takes of a frame, far more than there are: how many there were, the sum of their numbers, and the
@@ -60,14 +62,21 @@ fn take_frames(allocator: &Allocator, core: &mut Core) -> (u32, u32, u32)
     (count, sum, last)
 }
 
+// The same of the image of a text, and what is free then.
+fn taken_in_all(alloc: Global, short: &str) -> Result<((u32, u32, u32), u32), Fault> {
+    let text = spelled(alloc, short)?;
+    let image = image_of(alloc, text.as_slice())?;
+    let (allocator, mut core, _survivors) = reopened(alloc, &image)?;
+    let taken = take_frames(&allocator, &mut core);
+    let image = closed(alloc, allocator, core)?;
+    Ok((taken, image.free(0).saturating_add(image.tree_free(0))))
+}
+
+// Each frame once: of 0 to 299 the sum is 44,850; and of all but the first four.
 #[test]
 fn what_is_taken_after_a_reopening_lies_inside(rt: HostRuntime) -> Result<(), Fail> {
-    // Each frame once: of 0 to 299 the sum is 44,850; and of all but the first four.
     for (short, count, sum) in [(CUT, 300, 44_850), (CUT_IN_USE, 296, 44_844)] {
-        let (allocator, mut core, _survivors) = reopened(rt.alloc(), short)?;
-        assert_eq!(rt; take_frames(&allocator, &mut core), (count, sum, 299));
-        let image = closed(rt.alloc(), allocator, core)?;
-        assert_eq!(rt; (image.free(0), image.tree_free(0)), (0, 0));
+        assert_eq!(rt; taken_in_all(rt.alloc(), short)?, ((count, sum, 299), 0));
     }
     Ok(())
 }

@@ -1,12 +1,13 @@
-//! Seats that workers take and bring back, and a closing once all are back.
+//! Seats of one table, and a closing once all are back.
 
-ghost use Rattle.std.specs.Prelude.{IfOk, IfSome};
+ghost use Rattle.std.specs.Prelude.{◌<◌, IfOk, IfSome};
 ghost use Rattle.std.specs.List.{All};
-ghost use Rattle.frame_table.specs.Seats.{IsIdleSeat};
+ghost use Rattle.frame_model.specs.Key.{tree_count};
+ghost use Rattle.frame_table.specs.Seats.{key_at, IsIdleSeat};
 
 use frame_core::Image;
-use frame_table::{CoreSeat, FrameTable, close_table};
-use frame_words::Fault;
+use frame_table::{CoreSeat, FrameTable, close_table, open_table};
+use frame_words::{Fault, Geometry};
 use std::alloc::Global;
 
 pub(super) fn next_seat(table: &FrameTable, seats: &mut Vec<CoreSeat>) -> Option<CoreSeat>
@@ -18,33 +19,50 @@ pub(super) fn next_seat(table: &FrameTable, seats: &mut Vec<CoreSeat>) -> Option
     seats.pop()
 }
 
-pub(super) fn bring_back(
-    table: &FrameTable,
-    mut seats: Vec<CoreSeat>,
-    core: CoreSeat,
-) -> Result<Vec<CoreSeat>, Fault>
-    requires core { IsIdleSeat table.now core }
-    requires idle { All (IsIdleSeat table.now) seats.items }
-    ensures { IfOk result (λ all. All (IsIdleSeat table.entry.now) all.items) }
+// A table with two seats.
+pub(super) fn open_for_two(
+    alloc: Global,
+    children: u32,
+) -> Result<(FrameTable, CoreSeat, CoreSeat), Fault>
+    ensures tree { IfOk result (λ r. 0 < tree_count (key_at r.0)) }
+    ensures first { IfOk result (λ r. IsIdleSeat r.0 r.1) }
+    ensures second { IfOk result (λ r. IsIdleSeat r.0 r.2) }
 {
-    let _ = table;
-    let Ok(()) = seats.push(core) else {
-        return Err(Fault::NoMemory);
+    let (table, mut seats) = open_table(alloc, &Geometry::new(children, 2)?)?;
+    let Some(first) = next_seat(&table, &mut seats) else {
+        return Err(Fault::MissingCores);
     };
-    Ok(seats)
+    let Some(second) = next_seat(&table, &mut seats) else {
+        return Err(Fault::MissingCores);
+    };
+    Ok((table, first, second))
 }
 
-// The words of the table, once both cores are back.
-pub(super) fn closed(
+// The words of a table with one seat.
+pub(super) fn close_one(alloc: Global, table: FrameTable, core: CoreSeat) -> Result<Image, Fault>
+    requires { IsIdleSeat table core }
+{
+    let mut seats = Vec::with_capacity(alloc, 1)?;
+    seats.push_reserved(core);
+    match close_table(alloc, table, seats) {
+        Ok(image) => Ok(image),
+        Err(e) => Err(e.fault),
+    }
+}
+
+// The words of a table with two seats.
+pub(super) fn close_two(
     alloc: Global,
     table: FrameTable,
-    seats: Vec<CoreSeat>,
     cores: (CoreSeat, CoreSeat),
 ) -> Result<Image, Fault>
-    requires seats { All (IsIdleSeat table) seats.items }
-    requires idle { IsIdleSeat table cores.0 × IsIdleSeat table cores.1 }
+    requires { IsIdleSeat table cores.0 × IsIdleSeat table cores.1 }
 {
-    let seats = bring_back(&table, seats, cores.0)?;
-    let seats = bring_back(&table, seats, cores.1)?;
-    close_table(alloc, table, seats).map_err(|e| e.fault)
+    let mut seats = Vec::with_capacity(alloc, 2)?;
+    seats.push_reserved(cores.0);
+    seats.push_reserved(cores.1);
+    match close_table(alloc, table, seats) {
+        Ok(image) => Ok(image),
+        Err(e) => Err(e.fault),
+    }
 }

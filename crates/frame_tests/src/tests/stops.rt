@@ -8,10 +8,11 @@ ghost use Rattle.core_frames.specs.Cores.{IsCoreOf, IsOutOf};
 ghost use Rattle.core_frames.specs.Left.{IsSurvivorsOf};
 ghost use Rattle.core_frames.specs.Searches.{MayBegin};
 
-use super::sums::assert_adds_up;
+use super::reopenings::{closed, reopened};
+use super::sums::held_in_all;
 use core_frames::{Allocator, Core, Habit, Survivors, give_by, split_by, take_by};
 use frame_core::{Image, Moves, PlainBlock};
-use frame_image::{held_frames, rebuild, reopen, report};
+use frame_image::{held_frames, rebuild, report};
 use frame_table::Block;
 use frame_words::{Fault, Geometry};
 use plain_moves::PlainMoves;
@@ -20,25 +21,36 @@ use std::alloc::Global;
 use std::process::Abort;
 use std::test::Fail;
 
+// The core takes a block beside nobody.
+fn taken(m: &mut PlainMoves, order: u8) -> Result<PlainBlock, Fault>
+    requires company { IsByItself m.old }
+    requires begins { MayBegin 0 (⟦<PlainMoves as Moves>⟧.at m.old) }
+    ensures company { IsByItself m.new }
+    ensures begins { MayBegin 0 (⟦<PlainMoves as Moves>⟧.at m.new) }
+    ensures out { IfOk result (λ b. (⟦<PlainMoves as Moves>⟧.at m.new).is_out b) }
+{
+    let geometry = m.geometry();
+    let mut habit = Habit::of(geometry, 0);
+    match take_by(m, &mut habit, order) {
+        Ok(block) => Ok(block),
+        Err(_) => Err(Fault::NoBlock),
+    }
+}
+
 // The last of some takes, if there are any.
 fn open_after(
     alloc: Global,
     children: u32,
     orders: &[u8],
-) -> Result<(PlainMoves, Option<PlainBlock>), Fail>
+) -> Result<(PlainMoves, Option<PlainBlock>), Fault>
     ensures company { IfOk result (λ r. IsByItself r.0) }
     ensures begins { IfOk result (λ r. MayBegin 0 (⟦<PlainMoves as Moves>⟧.at r.0)) }
     ensures out { IfOk result (λ r. IfSome r.1 ((⟦<PlainMoves as Moves>⟧.at r.0).is_out)) }
 {
     let mut m = PlainMoves::new(alloc, &Geometry::new(children, 1)?)?;
-    let geometry = m.geometry();
-    let mut habit = Habit::of(geometry, 0);
     let mut last = None;
     for order in orders {
-        let Ok(block) = take_by(&mut m, &mut habit, *order) else {
-            return Err(Fail::from("a block"));
-        };
-        last = Some(block);
+        last = Some(taken(&mut m, *order)?);
     }
     Ok((m, last))
 }
@@ -49,7 +61,7 @@ fn script(
     plain: PlainMoves,
     block: Option<PlainBlock>,
     cues: &[Cue],
-) -> Result<(ScriptMoves, Option<PlainBlock>), Fail>
+) -> Result<(ScriptMoves, Option<PlainBlock>), Fault>
     requires company { IsByItself plain }
     requires begins { MayBegin 0 (⟦<PlainMoves as Moves>⟧.at plain) }
     requires out { IfSome block ((⟦<PlainMoves as Moves>⟧.at plain).is_out) }
@@ -59,12 +71,12 @@ fn script(
     let cues = cues.to_vec(alloc)?;
     match ScriptMoves::new(alloc, plain, cues) {
         Ok(m) => Ok((m, block)),
-        Err(_) => Err(Fail::from("no memory")),
+        Err(_) => Err(Fault::NoMemory),
     }
 }
 
 // What is done with the last block that was taken before.
-#[derive(Clone, Copy, Debug, PartialEq, Eq)]
+#[derive(Clone, Copy)]
 enum Call {
     Take(u8),
     Give,
@@ -117,43 +129,64 @@ fn stopped(alloc: Global, setting: Setting, at: u32) -> Result<(Image, u32), Fai
     Ok((rebuild(alloc, image)?, held))
 }
 
-// An allocator at the rebuilt words.
-fn reopened(alloc: Global, image: &Image) -> Result<(Allocator, Vec<Core>, Survivors), Fault>
-    ensures cores { IfOk result (λ r. All (IsCoreOf r.0) r.1.items) }
-    ensures survivors { IfOk result (λ r. IsSurvivorsOf r.0 r.2) }
-{
-    reopen(alloc, image)
-}
-
 // A frame, an order, and why the block is not adopted, if it is not.
 type Ask = (u32, u8, Option<Fault>);
 
-// Adopts the blocks, where each is answered so.
+const NOT_HELD: Option<Fault> = Some(Fault::NotHeld);
+
+// Past all memory.
+const NOTHING: Ask = (u32::MAX, 0, NOT_HELD);
+
+// The blocks, and one more.
+fn with_one_more(
+    allocator: &Allocator,
+    mut blocks: Vec<Block>,
+    block: Block,
+) -> Result<Vec<Block>, Fault>
+    requires block { IsOutOf allocator.now block }
+    requires blocks { All (IsOutOf allocator.now) blocks.items }
+    ensures { IfOk result (λ all. All (IsOutOf allocator.entry.now) all.items) }
+{
+    let _ = allocator;
+    let Ok(()) = blocks.push(block) else {
+        return Err(Fault::NoMemory);
+    };
+    Ok(blocks)
+}
+
+// Adopts a block, where that is answered so: the blocks, with it if it was.
 fn adopted(
-    alloc: Global,
     allocator: &Allocator,
     survivors: &mut Survivors,
+    blocks: Vec<Block>,
+    ask: Ask,
+) -> Result<Vec<Block>, Fail>
+    requires survivors { IsSurvivorsOf allocator.now survivors.old }
+    requires out { All (IsOutOf allocator.now) blocks.items }
+    ensures survivors { IsSurvivorsOf allocator.entry.now survivors.new }
+    ensures out { IfOk result (λ all. All (IsOutOf allocator.entry.now) all.items) }
+{
+    let (frame, order, fault) = ask;
+    match survivors.adopt(allocator, frame, order) {
+        Ok(block) if fault.is_none() => Ok(with_one_more(allocator, blocks, block)?),
+        Err(e) if fault == Some(e) => Ok(blocks),
+        _ => Err(Fail::from("another answer")),
+    }
+}
+
+// Adopts all that is asked for.
+fn adopted_in_all(
+    alloc: Global,
+    allocator: &Allocator,
+    mut survivors: Survivors,
     asks: &[Ask],
 ) -> Result<Vec<Block>, Fail>
-    requires { IsSurvivorsOf allocator.now survivors.old }
-    ensures out { IfOk result (λ blocks. All (IsOutOf allocator.entry.now) blocks.items) }
-    ensures survivors { IsSurvivorsOf allocator.entry.now survivors.new }
+    requires { IsSurvivorsOf allocator.now survivors }
+    ensures { IfOk result (λ blocks. All (IsOutOf allocator.entry.now) blocks.items) }
 {
     let mut blocks = Vec::new(alloc);
-    for (frame, order, fault) in asks {
-        match survivors.adopt(allocator, *frame, *order) {
-            Ok(block) => {
-                if fault.is_some() {
-                    return Err(Fail::from("adopted"));
-                }
-                blocks.push(block)?;
-            }
-            Err(e) => {
-                if *fault != Some(e) {
-                    return Err(Fail::from("not adopted"));
-                }
-            }
-        }
+    for ask in asks {
+        blocks = adopted(allocator, &mut survivors, blocks, *ask)?;
     }
     Ok(blocks)
 }
@@ -171,44 +204,24 @@ fn give_all(allocator: &Allocator, mut core: Core, mut blocks: Vec<Block>) -> Co
     core
 }
 
-// The last core of a list.
-fn next_core(allocator: &Allocator, cores: &mut Vec<Core>) -> Option<Core>
-    requires cores { All (IsCoreOf allocator.now) cores.old.items }
-    ensures core { IfSome result (IsCoreOf allocator.now) }
-    ensures left { All (IsCoreOf allocator.now) cores.new.items }
-{
-    let _ = allocator;
-    cores.pop()
-}
-
-fn bring_back(allocator: &Allocator, mut cores: Vec<Core>, core: Core) -> Result<Vec<Core>, Fault>
-    requires core { IsCoreOf allocator.now core }
-    requires cores { All (IsCoreOf allocator.now) cores.items }
-    ensures { IfOk result (λ all. All (IsCoreOf allocator.entry.now) all.items) }
-{
-    let _ = allocator;
-    let Ok(()) = cores.push(core) else {
-        return Err(Fault::NoMemory);
-    };
-    Ok(cores)
-}
-
 // The closing words of a memory that was opened at an image, rebuilt, once the blocks were adopted
 // and given back.
 fn given_back(alloc: Global, image: &Image, asks: &[Ask]) -> Result<Image, Fail> {
-    let (allocator, mut cores, mut survivors) = reopened(alloc, image)?;
-    let core = next_core(&allocator, &mut cores).ok_or("a core")?;
-    let blocks = adopted(alloc, &allocator, &mut survivors, asks)?;
+    let (allocator, core, survivors) = reopened(alloc, image)?;
+    let blocks = adopted_in_all(alloc, &allocator, survivors, asks)?;
     let core = give_all(&allocator, core, blocks);
-    let cores = bring_back(&allocator, cores, core)?;
-    let closed = allocator.close(alloc, cores).map_err(|e| e.fault)?;
-    Ok(rebuild(alloc, &closed)?)
+    Ok(closed(alloc, allocator, core)?)
 }
 
 // What is lost is what was held and is not given back.
-fn assert_lost(rt: &impl Abort, image: &Image, lost: u32) {
-    assert_eq!(rt; held_frames(image), lost);
-    assert_eq!(rt; assert_adds_up(rt, image), u64::from(lost));
+fn loses(alloc: Global, image: &Image, asks: &[Ask], lost: u32) -> Result<bool, Fail> {
+    let left = given_back(alloc, image, asks)?;
+    Ok(held_frames(&left) == lost && held_in_all(&left) == Some(lost))
+}
+
+// The free frames of the first child, its flag, and the free frames of its tree.
+fn counts_of(image: &Image) -> (u32, bool, u32) {
+    (image.free(0), image.huge(0), image.tree_free(0))
 }
 
 // A wide take beside nobody, which reserves its tree by move 3. The stop; what the rebuilt child and
@@ -222,25 +235,19 @@ fn a_stopped_take_loses_what_was_in_flight(rt: HostRuntime) -> Result<(), Fail> 
         call: Call::Take(7),
         losses: &[],
     };
-    let none = Some(Fault::NotHeld);
-    let rows: [(u32, u32, [Ask; 2], u32); 4] = [
-        (6, 512, [(0, 7, none), (0, 6, none)], 0),
-        (15, 448, [(0, 7, none), (0, 6, None)], 0),
-        (15, 448, [(0, 7, none), (64, 6, none)], 64),
-        (16, 384, [(0, 8, none), (0, 7, None)], 0),
-    ];
-    for (at, free, asks, lost) in rows {
-        let (image, held) = stopped(alloc, setting, at)?;
-        assert_eq!(rt; held, 512u32.saturating_sub(free), "at {at}");
-        if image.geometry().children() != 1 || image.geometry().trees() != 1 {
-            return Err(Fail::from("another memory"));
-        }
+    for (at, held, free, asks, lost) in [
+        (6, 0, 512, [(0, 7, NOT_HELD), (0, 6, NOT_HELD)], 0),
+        (15, 64, 448, [(0, 7, NOT_HELD), (0, 6, None)], 0),
+        (15, 64, 448, [(0, 7, NOT_HELD), (64, 6, NOT_HELD)], 64),
+        (16, 128, 384, [(0, 8, NOT_HELD), (0, 7, None)], 0),
+    ] {
+        let (image, found) = stopped(alloc, setting, at)?;
         assert_eq!(rt;
-            (image.free(0), image.tree_free(0)),
-            (free, free),
+            (found, counts_of(&image)),
+            (held, (free, false, free)),
             "at {at}"
         );
-        assert_lost(&rt, &given_back(alloc, &image, &asks)?, lost);
+        assert!(rt; loses(alloc, &image, &asks, lost)?, "at {at}");
     }
     Ok(())
 }
@@ -255,129 +262,159 @@ fn a_stopped_split_is_whole_or_in_halves(rt: HostRuntime) -> Result<(), Fail> {
         call: Call::Split,
         losses: &[],
     };
-    let none = Some(Fault::NotHeld);
-    let rows: [(u32, bool, [Ask; 3]); 2] = [
-        (5, true, [(0, 8, none), (256, 8, none), (0, 9, None)]),
-        (10, false, [(0, 9, none), (0, 8, None), (256, 8, None)]),
-    ];
-    for (at, huge, asks) in rows {
+    for (at, huge, bits, asks) in [
+        (
+            5,
+            true,
+            0,
+            [(0, 8, NOT_HELD), (256, 8, NOT_HELD), (0, 9, None)],
+        ),
+        (
+            10,
+            false,
+            u64::MAX,
+            [(0, 9, NOT_HELD), (0, 8, None), (256, 8, None)],
+        ),
+    ] {
         let (image, held) = stopped(alloc, setting, at)?;
-        assert_eq!(rt; held, 512, "at {at}");
-        if image.geometry().children() != 1 {
-            return Err(Fail::from("another memory"));
-        }
-        assert_eq!(rt; (image.free(0), image.huge(0)), (0, huge), "at {at}");
+        assert_eq!(rt; (held, counts_of(&image)), (512, (0, huge, 0)), "at {at}");
         for word in 0..8u32 {
-            let bits = if huge { 0 } else { u64::MAX };
             assert_eq!(rt; image.word(0, word), bits, "at {at}");
         }
-        assert_lost(&rt, &given_back(alloc, &image, &asks)?, 0);
+        assert!(rt; loses(alloc, &image, &asks, 0)?, "at {at}");
     }
     Ok(())
 }
 
-// Stops before each move of a call: how many frames are held then, and what is out besides the
-// eight frames of the first block.
+// What is asked for where the first block is out or was none, and where the call has a block out, and how
+// many frames those have.
+fn asks_for(is_in_use: bool, out: Option<(u32, u8)>) -> ([Ask; 3], u32) {
+    let (mut asks, mut frames) = ([NOTHING; 3], 0u32);
+    if is_in_use {
+        asks[0] = (0, 3, None);
+        frames = 8;
+    }
+    if let Some((frame, order)) = out {
+        asks[1] = (frame, order, None);
+        asks[2] = (frame, order, NOT_HELD);
+        frames = frames.saturating_add(1u32.wrapping_shl(u32::from(order)));
+    }
+    (asks, frames)
+}
+
+// How many frames are held before a move, and what is out then besides the first block.
+type Stop = (u32, Option<(u32, u8)>);
+
+// Stops before each move of a call.
 fn assert_each_stop(
     rt: &impl Abort,
     alloc: Global,
     setting: Setting,
-    held: &[u32],
-    out: &[Option<(u32, u8)>],
+    stops: &[Stop],
 ) -> Result<(), Fail> {
-    for at in 0..held.len().min(out.len()).min(64) {
-        let (image, found) = stopped(alloc, setting, at as u32)?;
-        assert_eq!(rt; found, held[at], "at {at}");
-        let mut asks = Vec::new(alloc);
-        let mut lost = held[at];
-        if !setting.before.is_empty() {
-            asks.push((0, 3, None))?;
-            lost = lost.saturating_sub(8);
-        }
-        if let Some((frame, order)) = out[at] {
-            asks.push((frame, order, None))?;
-            asks.push((frame, order, Some(Fault::NotHeld)))?;
-            lost = lost.saturating_sub(1u32.wrapping_shl(u32::from(order)));
-        }
-        assert!(rt; lost <= 512, "at {at}");
-        assert_lost(rt, &given_back(alloc, &image, &asks)?, lost);
+    let mut at = 0u32;
+    for (held, out) in stops {
+        let (image, found) = stopped(alloc, setting, at)?;
+        let (asks, frames) = asks_for(!setting.before.is_empty(), *out);
+        let lost = found.saturating_sub(frames);
+        assert!(rt; found == *held && lost <= 512, "at {at}");
+        assert!(rt; loses(alloc, &image, &asks, lost)?, "at {at}");
+        at = at.saturating_add(1);
     }
     Ok(())
 }
 
-// A give clears the bits word by word and a huge frame at once; a split fills the bits, and hands the
-// lower half out before the upper one. The tree of a take is reserved at its eighth try.
+// The bits of the second block are cleared word by word.
 #[test]
-fn each_stop_leaves_what_was_out(rt: HostRuntime) -> Result<(), Fail> {
-    let alloc = rt.alloc();
+fn each_stop_of_a_give_leaves_what_was_out(rt: HostRuntime) -> Result<(), Fail> {
     let give = Setting {
         children: 1,
         before: &[3, 8],
         call: Call::Give,
         losses: &[],
     };
-    let mut out = [None; 8];
-    out[0] = Some((256, 8));
-    assert_each_stop(&rt, alloc, give, &[264, 264, 200, 136, 72, 8, 8, 8], &out)?;
+    let stops = [
+        (264, Some((256, 8))),
+        (264, None),
+        (200, None),
+        (136, None),
+        (72, None),
+        (8, None),
+        (8, None),
+        (8, None),
+    ];
+    assert_each_stop(&rt, rt.alloc(), give, &stops)
+}
+
+// A huge frame is cleared at once; a split fills its bits, and hands the lower half out before the
+// upper one.
+#[test]
+fn each_stop_at_a_huge_frame_leaves_what_was_out(rt: HostRuntime) -> Result<(), Fail> {
     let give = Setting {
         children: 2,
         before: &[3, 9],
-        ..give
+        call: Call::Give,
+        losses: &[],
     };
-    let mut out = [None; 4];
-    out[0] = Some((512, 9));
-    assert_each_stop(&rt, alloc, give, &[520, 520, 8, 8], &out)?;
+    let huge = (520, Some((512, 9)));
+    let stops = [huge, (520, None), (8, None), (8, None)];
+    assert_each_stop(&rt, rt.alloc(), give, &stops)?;
     let split = Setting {
         call: Call::Split,
         ..give
     };
-    let mut out = [None; 12];
-    out[0] = Some((512, 9));
-    out[11] = Some((512, 8));
-    assert_each_stop(&rt, alloc, split, &[520; 12], &out)?;
+    let mut stops = [(520, None); 12];
+    stops[0] = huge;
+    stops[11] = (520, Some((512, 8)));
+    assert_each_stop(&rt, rt.alloc(), split, &stops)
+}
+
+// The tree of the take is reserved at its eighth try.
+#[test]
+fn each_stop_of_a_take_leaves_what_was_out(rt: HostRuntime) -> Result<(), Fail> {
     let take = Setting {
         children: 1,
         before: &[],
         call: Call::Take(0),
         losses: &[3, 5, 7, 9, 12, 14, 16],
     };
-    let mut held = [0; 25];
-    held[23] = 1;
-    held[24] = 1;
-    let mut out = [None; 25];
-    out[24] = Some((0, 0));
-    assert_each_stop(&rt, alloc, take, &held, &out)
+    let mut stops = [(0, None); 25];
+    stops[23] = (1, None);
+    stops[24] = (1, Some((0, 0)));
+    assert_each_stop(&rt, rt.alloc(), take, &stops)
 }
 
-// Three frames are held. Each can be adopted once, in a block whose frames are all held and left; of a
-// memory that ends inside its child nobody adopts what is past the end.
+// Three frames are held. Each can be adopted once, in a block whose frames are all held and left.
 #[test]
 fn what_is_held_is_adopted_once(rt: HostRuntime) -> Result<(), Fail> {
-    let alloc = rt.alloc();
-    let mut image = Image::new(alloc, &Geometry::new(1, 1)?)?;
+    let mut image = Image::new(rt.alloc(), &Geometry::new(1, 1)?)?;
     image.set_child(0, 0, false, [7, 0, 0, 0, 0, 0, 0, 0]);
     image.set_tree(0, 0, false);
-    let none = Some(Fault::NotHeld);
-    let asks: [Ask; 10] = [
+    let asks = [
         (0, 1, None),
-        (0, 0, none),
-        (1, 0, none),
+        (0, 0, NOT_HELD),
+        (1, 0, NOT_HELD),
         (2, 0, None),
-        (3, 0, none),
-        (1, 1, none),
+        (3, 0, NOT_HELD),
+        (1, 1, NOT_HELD),
         (0, 10, Some(Fault::BadOrder)),
-        (0, 9, none),
-        (512, 0, none),
-        (u32::MAX, 0, none),
+        (0, 9, NOT_HELD),
+        (512, 0, NOT_HELD),
+        NOTHING,
     ];
-    let closed = given_back(alloc, &image, &asks)?;
-    assert_lost(&rt, &closed, 0);
-    if closed.geometry().trees() != 1 {
-        return Err(Fail::from("another memory"));
-    }
-    assert_eq!(rt; closed.tree_free(0), 512);
-    let cut = Image::new(alloc, &Geometry::with_frames(1, 1, 300)?)?;
-    let asks: [Ask; 3] = [(300, 0, none), (511, 0, none), (256, 8, none)];
-    assert_lost(&rt, &given_back(alloc, &cut, &asks)?, 212);
+    let left = given_back(rt.alloc(), &image, &asks)?;
+    assert_eq!(rt;
+        (held_in_all(&left), counts_of(&left)),
+        (Some(0), (512, false, 512))
+    );
+    Ok(())
+}
+
+// Of a memory that ends inside its child nobody adopts what is past the end.
+#[test]
+fn what_is_past_the_end_is_not_adopted(rt: HostRuntime) -> Result<(), Fail> {
+    let cut = Image::new(rt.alloc(), &Geometry::with_frames(1, 1, 300)?)?;
+    let asks = [(300, 0, NOT_HELD), (511, 0, NOT_HELD), (256, 8, NOT_HELD)];
+    assert!(rt; loses(rt.alloc(), &cut, &asks, 212)?);
     Ok(())
 }

@@ -4,12 +4,12 @@ ghost use Rattle.std.specs.Prelude.{◌<◌, ◌≤◌, IfSome};
 ghost use Rattle.frame_model.specs.Key.{tree_count};
 ghost use Rattle.frame_table.specs.Seats.{key_at, IsIdleSeat, IsOut};
 
-use super::seats::{closed, next_seat};
+use super::seats::{close_two, open_for_two};
 use crate::{give_one, take_one, work};
 use frame_core::Image;
-use frame_table::{Block, CoreSeat, FrameTable, open_table};
-use frame_words::Geometry;
-use std::process::Abort;
+use frame_table::{Block, CoreSeat, FrameTable};
+use frame_words::{Fault, Geometry};
+use std::alloc::Global;
 use std::test::Fail;
 use std::thread::{Threads, join};
 
@@ -118,25 +118,23 @@ fn give_and_run_both<R: Threads + Sync>(
     )
 }
 
-fn assert_all_free(rt: &impl Abort, image: &Image) {
-    let geometry = image.geometry();
-    for child in 0..geometry.children() {
-        assert!(rt;
-            image.free(child) == 512 && !image.huge(child),
-            "child {child}"
-        );
-        for word in 0..8u32 {
-            assert_eq!(rt; image.word(child, word), 0, "word {word} of child {child}");
-        }
-    }
-    for tree in 0..geometry.trees() {
-        assert_eq!(rt;
-            image.tree_free(tree),
-            geometry.tree_size(tree),
-            "tree {tree}"
-        );
-        assert!(rt; !image.tree_reserved(tree), "tree {tree}");
-    }
+// All frames are free, and no tree is reserved: the words are those of a fresh memory.
+fn is_fresh(alloc: Global, children: u32, image: &Image) -> Result<bool, Fault> {
+    let fresh = Image::new(alloc, &Geometry::new(children, 2)?)?;
+    Ok(image.words() == fresh.words())
+}
+
+// Two threads work at once; is all free then?
+fn leave_all_free<R: Threads + Sync>(
+    rt: &R,
+    alloc: Global,
+    children: u32,
+    tasks: (Task, Task),
+) -> Result<bool, Fault> {
+    let (table, first, second) = open_for_two(alloc, children)?;
+    let cores = both(rt, &table, (first, second), tasks);
+    let image = close_two(alloc, table, cores)?;
+    is_fresh(alloc, children, &image)
 }
 
 #[test]
@@ -149,10 +147,6 @@ fn two_threads_leave_all_frames_free(rt: HostRuntime) -> Result<(), Fail> {
         (1, (8, 7), 0, 1000),
         (2, (3, 9), 500, 500),
     ] {
-        let geometry = Geometry::new(children, 2)?;
-        let (table, mut seats) = open_table(rt.alloc(), &geometry)?;
-        let first = next_seat(&table, &mut seats).ok_or("a seat")?;
-        let second = next_seat(&table, &mut seats).ok_or("a seat")?;
         let tasks = (
             Task {
                 order: orders.0,
@@ -165,9 +159,10 @@ fn two_threads_leave_all_frames_free(rt: HostRuntime) -> Result<(), Fail> {
                 tries,
             },
         );
-        let cores = both(&rt, &table, (first, second), tasks);
-        let image = closed(rt.alloc(), table, seats, cores)?;
-        assert_all_free(&rt, &image);
+        assert!(rt;
+            leave_all_free(&rt, rt.alloc(), children, tasks)?,
+            "on {children} children"
+        );
     }
     Ok(())
 }
@@ -175,11 +170,8 @@ fn two_threads_leave_all_frames_free(rt: HostRuntime) -> Result<(), Fail> {
 // The first core takes a block at the end of its work, and the other one gives it.
 #[test]
 fn a_block_crosses_to_the_other_thread(rt: HostRuntime) -> Result<(), Fail> {
-    let geometry = Geometry::new(8, 2)?;
-    let (table, mut seats) = open_table(rt.alloc(), &geometry)?;
+    let (table, first, second) = open_for_two(rt.alloc(), 8)?;
     let shared = &table;
-    let first = next_seat(shared, &mut seats).ok_or("a seat")?;
-    let second = next_seat(shared, &mut seats).ok_or("a seat")?;
     let task = Task {
         order: 0,
         pairs: 1000,
@@ -198,7 +190,7 @@ fn a_block_crosses_to_the_other_thread(rt: HostRuntime) -> Result<(), Fail> {
         { run(shared, second, task) },
     );
     let cores = give_and_run_both(&rt, shared, (first, second), block, task);
-    let image = closed(rt.alloc(), table, seats, cores)?;
-    assert_all_free(&rt, &image);
+    let image = close_two(rt.alloc(), table, cores)?;
+    assert!(rt; is_fresh(rt.alloc(), 8, &image)?);
     Ok(())
 }

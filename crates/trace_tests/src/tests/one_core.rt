@@ -12,7 +12,7 @@ fn is_answered(
 ) -> Result<(), Fault> {
     let geometry = Geometry::new(children, 1)?;
     let output = answers(rt, alloc, geometry, &OpenGate, text.as_bytes())?;
-    assert_eq!(rt; output.as_slice(), want.as_bytes(), "on {text}");
+    assert!(rt; output.as_slice() == want.as_bytes(), "on {text}");
     Ok(())
 }
 

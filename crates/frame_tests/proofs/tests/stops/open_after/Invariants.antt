@@ -1,4 +1,4 @@
-use Rattle.std.specs.Prelude.{◌≡◌, ◌<◌, IfSome}
+use Rattle.std.specs.Prelude.{◌<◌, IfSome}
 use Rattle.frame_model.specs.View.{IsIdle}
 use Rattle.plain_moves.specs.Plain.{IsOutIn}
 use Rattle.plain_moves.specs.PlainState.{key_by, view_by, IsByItself}
@@ -9,6 +9,5 @@ invariant-loop-order l = record {
   company : IsByItself l.m;
   core : 0 < (key_by l.m).cores;
   idle : IsIdle (view_by l.m);
-  habit : l.habit.core ≡ 0;
   out : IfSome l.last (λ b. IsOutIn l.m.outs.items b);
 }
