@@ -35,14 +35,12 @@ fn a_dropped_block_stays_held(rt: HostRuntime) -> Result<(), Fail> {
         (9, 0, true, [0, 0, 0]),
     ] {
         let image = left_by_a_drop(rt.alloc(), order)?;
-        assert_eq!(rt;
-            (image.free(0), image.huge(0), image.tree_free(0)),
-            (free, is_huge, free),
+        assert!(rt;
+            (image.free(0), image.huge(0), image.tree_free(0)) == (free, is_huge, free),
             "order {order}"
         );
-        assert_eq!(rt;
-            [image.word(0, 0), image.word(0, 1), image.word(0, 2)],
-            words,
+        assert!(rt;
+            [image.word(0, 0), image.word(0, 1), image.word(0, 2)] == words,
             "order {order}"
         );
     }

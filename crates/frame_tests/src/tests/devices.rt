@@ -96,10 +96,10 @@ fn a_failed_reader_is_not_asked_again(rt: HostRuntime) -> Result<(), Fail> {
             let mut input = Watched::new(reader);
             for _ in 0..2 {
                 assert!(rt; cannot_be_read(rt.alloc(), &mut input));
-                assert_eq!(rt; calls.get(), fails_at + 1);
+                assert!(rt; calls.get() == fails_at + 1);
             }
             assert!(rt; matches!(input.read(&mut [0u8; 4]), Err(Fault::ReadFailed)));
-            assert_eq!(rt; calls.get(), fails_at + 1);
+            assert!(rt; calls.get() == fails_at + 1);
         }
     }
     Ok(())
@@ -127,9 +127,9 @@ fn a_failed_writer_is_not_asked_again(rt: HostRuntime) -> Result<(), Fail> {
                     assert!(rt; cannot_be_written(&mut output));
                 }
             }
-            assert_eq!(rt; calls.get(), fails_at + 1);
+            assert!(rt; calls.get() == fails_at + 1);
             let front = (3 * fails_at as usize).min(TAKES.len());
-            assert_eq!(rt; taken.as_slice(), &TAKES[..front]);
+            assert!(rt; taken.as_slice() == &TAKES[..front]);
         }
     }
     Ok(())

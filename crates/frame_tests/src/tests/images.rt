@@ -36,7 +36,7 @@ fn a_rebuilt_image_is_opened_again(rt: HostRuntime) -> Result<(), Fail> {
         let want = spelled(rt.alloc(), after)?;
         let again = reopened(rt.alloc(), text.as_slice())?;
         let written = image_text(rt.alloc(), &again)?;
-        assert_eq!(rt; written.as_slice(), want.as_slice(), "{before}");
+        assert!(rt; written.as_slice() == want.as_slice(), "{before}");
     }
     Ok(())
 }

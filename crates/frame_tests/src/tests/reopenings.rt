@@ -76,7 +76,7 @@ fn taken_in_all(alloc: Global, short: &str) -> Result<((u32, u32, u32), u32), Fa
 #[test]
 fn what_is_taken_after_a_reopening_lies_inside(rt: HostRuntime) -> Result<(), Fail> {
     for (short, count, sum) in [(CUT, 300, 44_850), (CUT_IN_USE, 296, 44_844)] {
-        assert_eq!(rt; taken_in_all(rt.alloc(), short)?, ((count, sum, 299), 0));
+        assert!(rt; taken_in_all(rt.alloc(), short)? == ((count, sum, 299), 0));
     }
     Ok(())
 }

@@ -242,9 +242,8 @@ fn a_stopped_take_loses_what_was_in_flight(rt: HostRuntime) -> Result<(), Fail> 
         (16, 128, 384, [(0, 8, NOT_HELD), (0, 7, None)], 0),
     ] {
         let (image, found) = stopped(alloc, setting, at)?;
-        assert_eq!(rt;
-            (found, counts_of(&image)),
-            (held, (free, false, free)),
+        assert!(rt;
+            (found, counts_of(&image)) == (held, (free, false, free)),
             "at {at}"
         );
         assert!(rt; loses(alloc, &image, &asks, lost)?, "at {at}");
@@ -277,9 +276,9 @@ fn a_stopped_split_is_whole_or_in_halves(rt: HostRuntime) -> Result<(), Fail> {
         ),
     ] {
         let (image, held) = stopped(alloc, setting, at)?;
-        assert_eq!(rt; (held, counts_of(&image)), (512, (0, huge, 0)), "at {at}");
+        assert!(rt; (held, counts_of(&image)) == (512, (0, huge, 0)), "at {at}");
         for word in 0..8u32 {
-            assert_eq!(rt; image.word(0, word), bits, "at {at}");
+            assert!(rt; image.word(0, word) == bits, "at {at}");
         }
         assert!(rt; loses(alloc, &image, &asks, 0)?, "at {at}");
     }
@@ -403,10 +402,7 @@ fn what_is_held_is_adopted_once(rt: HostRuntime) -> Result<(), Fail> {
         NOTHING,
     ];
     let left = given_back(rt.alloc(), &image, &asks)?;
-    assert_eq!(rt;
-        (held_in_all(&left), counts_of(&left)),
-        (Some(0), (512, false, 512))
-    );
+    assert!(rt; (held_in_all(&left), counts_of(&left)) == (Some(0), (512, false, 512)));
     Ok(())
 }
 
