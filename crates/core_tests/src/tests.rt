@@ -1,5 +1,6 @@
 //! What no clause says.
 
+mod cores;
 mod cues;
 mod desk;
 mod lists;

@@ -1,40 +1,23 @@
 //! Desks, each call with ample memory.
 
-ghost use Rattle.std.specs.Prelude.{IfOk, IfSome};
-ghost use Rattle.std.specs.List.{All};
-ghost use Rattle.core_frames.specs.Cores.{IsNewCore};
+ghost use Rattle.std.specs.Prelude.{IfOk};
 ghost use Rattle.core_frames.specs.Desks.{IsDeskOf};
 
+use super::cores::{close_two, open_for_two};
 use super::plain::held_and_free;
-use core_frames::{Allocator, Core, Desk, Label};
+use core_frames::{Allocator, Desk, Label};
 use frame_core::{HeldBlock, Image};
-use frame_words::{Fault, Geometry};
+use frame_words::Fault;
 use std::alloc::Global;
 use std::process::Abort;
 use std::test::Fail;
-
-// The last core of an opening.
-fn next_core(allocator: &Allocator, cores: &mut Vec<Core>) -> Option<Core>
-    requires { All (IsNewCore allocator.now) cores.old.items }
-    ensures core { IfSome result (IsNewCore allocator.now) }
-    ensures left { All (IsNewCore allocator.now) cores.new.items }
-{
-    let _ = allocator;
-    cores.pop()
-}
 
 // An allocator with two desks.
 fn open(alloc: Global, children: u32) -> Result<(Allocator, Desk, Desk), Fault>
     ensures first { IfOk result (λ r. IsDeskOf r.0 r.1) }
     ensures second { IfOk result (λ r. IsDeskOf r.0 r.2) }
 {
-    let (allocator, mut cores) = Allocator::open(alloc, Geometry::new(children, 2)?)?;
-    let Some(second) = next_core(&allocator, &mut cores) else {
-        return Err(Fault::MissingCores);
-    };
-    let Some(first) = next_core(&allocator, &mut cores) else {
-        return Err(Fault::MissingCores);
-    };
+    let (allocator, first, second) = open_for_two(alloc, children)?;
     Ok((allocator, Desk::new(alloc, first), Desk::new(alloc, second)))
 }
 
@@ -43,10 +26,7 @@ fn close(alloc: Global, allocator: Allocator, first: Desk, second: Desk) -> Resu
     requires first { IsDeskOf allocator first }
     requires second { IsDeskOf allocator second }
 {
-    let mut cores = Vec::with_capacity(alloc, 2)?;
-    cores.push_reserved(first.finish());
-    cores.push_reserved(second.finish());
-    allocator.close(alloc, cores).map_err(|e| e.fault)
+    close_two(alloc, allocator, first.finish(), second.finish())
 }
 
 fn label(rt: &impl Abort, bytes: &[u8]) -> Label {
@@ -101,7 +81,7 @@ fn is_not_held(rt: &impl Abort, allocator: &Allocator, desk: &mut Desk, frame: u
     ensures { IsDeskOf allocator.now desk.new }
 {
     let answer = desk.give_at(allocator, frame, order);
-    assert_eq!(rt; answer.err(), Some(Fault::NotHeld));
+    assert!(rt; answer.err() == Some(Fault::NotHeld));
 }
 
 #[test]
@@ -111,23 +91,17 @@ fn a_block_moves_from_one_desk_to_another(rt: HostRuntime) -> Result<(), Fail> {
     let moved = take(&allocator, &mut from, &a, 4)?;
     let stays = take(&allocator, &mut from, &a, 4)?;
     let before = take(&allocator, &mut to, &b, 0)?;
-    assert_eq!(rt; move_over(&allocator, &mut from, &a, &mut to, &b)?, moved);
-    assert_eq!(rt; from.len(), 1);
-    assert_eq!(rt; to.len(), 2);
+    assert!(rt; move_over(&allocator, &mut from, &a, &mut to, &b)? == moved);
+    assert!(rt; from.len() == 1);
+    assert!(rt; to.len() == 2);
     let (under, frame, order) = to.at(1);
-    assert_eq!(rt;
-        (under.bytes(), frame, order),
-        (b.bytes(), moved.0, moved.1)
-    );
+    assert!(rt; (under.bytes(), frame, order) == (b.bytes(), moved.0, moved.1));
     is_not_held(&rt, &allocator, &mut from, moved.0, moved.1);
-    assert_eq!(rt;
-        move_over(&allocator, &mut from, &b, &mut to, &a).err(),
-        Some(Fault::NotHeld)
-    );
-    assert_eq!(rt; give(&allocator, &mut to, &b)?, before);
-    assert_eq!(rt; give(&allocator, &mut to, &b)?, moved);
-    assert_eq!(rt; give(&allocator, &mut from, &a)?, stays);
+    assert!(rt; move_over(&allocator, &mut from, &b, &mut to, &a).err() == Some(Fault::NotHeld));
+    assert!(rt; give(&allocator, &mut to, &b)? == before);
+    assert!(rt; give(&allocator, &mut to, &b)? == moved);
+    assert!(rt; give(&allocator, &mut from, &a)? == stays);
     let image = close(rt.alloc(), allocator, from, to)?;
-    assert_eq!(rt; held_and_free(&image), (0, 4096));
+    assert!(rt; held_and_free(&image) == (0, 4096));
     Ok(())
 }

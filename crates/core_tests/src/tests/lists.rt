@@ -2,34 +2,19 @@
 
 use frame_core::{HeldBlock, PlainBlock};
 use held_blocks::{Label, LabelledBlock, LabelledBlocks};
+use std::alloc::AllocError;
 use std::process::Abort;
 use std::test::Fail;
 
-const NAMES: [&[u8]; 5] = [b"a", b"b", b"ab", b"ba", b"0123456789_-ABCD"];
-
-// One of the labels.
-fn label_at(rt: &impl Abort, number: u64) -> Label {
-    Label::of(NAMES[(number % 5) as usize]).expect(rt, "a label")
-}
-
 // Adds a block; true if no other begins at the frame.
-// Where memory is refused once, the list is as before, and asking again helps.
 fn adds(
-    rt: &impl Abort,
     list: &mut LabelledBlocks,
     label: &Label,
     frame: u32,
     order: u8,
-) -> Result<bool, Fail> {
-    if frame >= 2_097_152 {
-        return Ok(false);
-    }
-    let len = list.len();
-    if list.reserve(label).is_err() {
-        assert_eq!(rt; list.len(), len);
-        list.reserve(label)?;
-    }
-    if list.begins_at(frame) {
+) -> Result<bool, AllocError> {
+    list.reserve(label)?;
+    if frame >= 2_097_152 || list.begins_at(frame) {
         return Ok(false);
     }
     list.add(LabelledBlock {
@@ -45,31 +30,51 @@ fn add_three(
     list: &mut LabelledBlocks,
     first: &Label,
     second: &Label,
-) -> Result<(), Fail> {
-    assert_eq!(rt; list.len(), 0);
-    assert!(rt; list.remove_oldest(first).is_none());
-    assert!(rt; adds(rt, list, first, 512, 3)?);
-    assert!(rt; adds(rt, list, second, 0, 9)?);
-    assert!(rt; adds(rt, list, first, 2_097_151, 0)?);
-    assert!(rt; !adds(rt, list, second, 512, 0)?);
-    assert_eq!(rt; list.len(), 3);
-    assert_eq!(rt; list.at(1).block.frame(), 0);
+) -> Result<(), AllocError> {
+    assert!(rt; adds(list, first, 512, 3)?);
+    assert!(rt; adds(list, second, 0, 9)?);
+    assert!(rt; adds(list, first, 2_097_151, 0)?);
+    assert!(rt; !adds(list, second, 512, 0)?);
     Ok(())
+}
+
+// Where the second block begins.
+fn second_of(list: &LabelledBlocks) -> Option<u32> {
+    if list.len() < 2 {
+        return None;
+    }
+    Some(list.at(1).block.frame())
+}
+
+// The oldest block under a label leaves.
+fn oldest(list: &mut LabelledBlocks, label: &Label) -> Option<(u32, u8)> {
+    match list.remove_oldest(label) {
+        Some(entry) => Some((entry.block.frame(), entry.block.order())),
+        None => None,
+    }
+}
+
+// A block leaves: whether it was there, under this label.
+fn leaves(list: &mut LabelledBlocks, frame: u32, order: u8, label: &Label) -> bool {
+    match list.remove_exact(frame, order) {
+        Some(entry) => entry.label.bytes() == label.bytes(),
+        None => false,
+    }
 }
 
 #[test]
 fn the_oldest_and_the_named_block_leave(rt: HostRuntime) -> Result<(), Fail> {
     let mut list: LabelledBlocks = LabelledBlocks::new(rt.alloc());
-    let first = label_at(&rt, 0);
-    let second = label_at(&rt, 1);
+    let first = Label::of(b"a").expect(&rt, "a label");
+    let second = Label::of(b"0123456789_-ABCD").expect(&rt, "a label");
+    assert!(rt; oldest(&mut list, &first) == None);
     add_three(&rt, &mut list, &first, &second)?;
+    assert!(rt; (list.len(), second_of(&list)) == (3, Some(0)));
     assert!(rt; list.begins_at(2_097_151) && !list.begins_at(513));
-    assert!(rt; list.remove_exact(512, 2).is_none());
-    let oldest = list.remove_oldest(&first).ok_or("the oldest")?;
-    assert!(rt; oldest.block.frame() == 512 && oldest.block.order() == 3);
-    let exact = list.remove_exact(2_097_151, 0).ok_or("the exact one")?;
-    assert!(rt; exact.block.frame() == 2_097_151 && exact.label.bytes() == first.bytes());
-    assert!(rt; list.remove_oldest(&first).is_none());
-    assert_eq!(rt; list.len(), 1);
+    assert!(rt; !leaves(&mut list, 512, 2, &first));
+    assert!(rt; oldest(&mut list, &first) == Some((512, 3)));
+    assert!(rt; leaves(&mut list, 2_097_151, 0, &first));
+    assert!(rt; oldest(&mut list, &first) == None);
+    assert!(rt; list.len() == 1);
     Ok(())
 }

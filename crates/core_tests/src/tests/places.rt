@@ -8,18 +8,26 @@ use std::test::Fail;
 #[test]
 fn each_word_has_its_place(rt: HostRuntime) -> Result<(), Fail> {
     let geometry = Geometry::new(9, 2)?;
-    for (child, place) in [(0, 8), (3, 8), (4, 9), (8, 10)] {
-        assert_eq!(rt; layout::entry_place(child), place);
-    }
-    for (tree, place) in [(0, 11), (1, 12)] {
-        assert_eq!(rt; layout::tree_place(geometry, tree), place);
-    }
-    for (core, place) in [(0, 20), (1, 28)] {
-        assert_eq!(rt; layout::local_place(geometry, core), place);
-    }
-    for (word, place) in [(0, 36), (71, 107)] {
-        assert_eq!(rt; layout::bits_place(geometry, word), place);
-    }
-    assert_eq!(rt; layout::word_count(geometry), 108);
+    assert!(rt; (layout::entry_place(0), layout::entry_place(3)) == (8, 8));
+    assert!(rt; (layout::entry_place(4), layout::entry_place(8)) == (9, 10));
+    assert!(rt;
+        (
+            layout::tree_place(geometry, 0),
+            layout::tree_place(geometry, 1)
+        ) == (11, 12)
+    );
+    assert!(rt;
+        (
+            layout::local_place(geometry, 0),
+            layout::local_place(geometry, 1)
+        ) == (20, 28)
+    );
+    assert!(rt;
+        (
+            layout::bits_place(geometry, 0),
+            layout::bits_place(geometry, 71)
+        ) == (36, 107)
+    );
+    assert!(rt; layout::word_count(geometry) == 108);
     Ok(())
 }

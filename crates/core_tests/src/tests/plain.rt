@@ -12,7 +12,7 @@ use std::process::Abort;
 use std::test::Fail;
 
 /// A call, with what it is to answer. Blocks stand in a list, oldest first.
-#[derive(Clone, Copy, Debug)]
+#[derive(Clone, Copy)]
 enum Ask {
     /// The core and the order, and the first frame of the block, which goes last.
     Take(u32, u8, Result<u32, TakeFault>),
@@ -169,7 +169,7 @@ fn are_answered(rt: &impl Abort, alloc: Global, runs: &[Run]) -> Result<(), Fail
     for run in runs {
         let image = image_after(alloc, Geometry::new(run.children, 1)?, run.asks)?;
         let after = words_of(&image, run.children.saturating_sub(1))?;
-        assert_eq!(rt; after, run.after);
+        assert!(rt; after == run.after);
     }
     Ok(())
 }
@@ -284,9 +284,9 @@ fn keep_one(allocator: &mut PlainAllocator, order: u8) -> Option<(u32, u8)>
 #[test]
 fn a_kept_block_stays_held(rt: HostRuntime) -> Result<(), Fail> {
     let mut allocator = PlainAllocator::open(rt.alloc(), Geometry::new(1, 1)?)?;
-    assert_eq!(rt; keep_one(&mut allocator, 3), Some((0, 3)));
+    assert!(rt; keep_one(&mut allocator, 3) == Some((0, 3)));
     match allocator.close(rt.alloc()) {
-        Ok(image) => assert_eq!(rt; held_and_free(&image), (8, 504)),
+        Ok(image) => assert!(rt; held_and_free(&image) == (8, 504)),
         Err(_) => assert!(rt; false),
     }
     Ok(())

@@ -13,10 +13,11 @@ use frame_words::{Geometry, TakeFault};
 use plain_moves::{Act, PlainMoves};
 use script_moves::{Cue, ScriptMoves};
 use std::alloc::Global;
+use std::process::Abort;
 use std::test::Fail;
 
 // What the words of one child, of its tree and of one core say.
-#[derive(Clone, Copy, Debug, PartialEq, Eq)]
+#[derive(Clone, Copy, PartialEq, Eq)]
 pub(super) struct Words {
     pub(super) entry: (u32, bool),
     pub(super) tree: (u32, bool),
@@ -26,7 +27,7 @@ pub(super) struct Words {
 
 // The first frame of the block that a take answered, or why it was refused, in how many moves, how
 // many cues were not made, the words afterwards, and those of the latest stop.
-#[derive(Clone, Copy, Debug, PartialEq, Eq)]
+#[derive(Drop)]
 struct Outcome {
     answer: Result<u32, TakeFault>,
     moves: u64,
@@ -61,20 +62,32 @@ fn open(alloc: Global) -> Result<PlainMoves, Fail>
     Ok(PlainMoves::new(alloc, &Geometry::new(1, 1)?)?)
 }
 
-// The same after takes of frames that stay held.
-fn open_after(alloc: Global, takes: u32) -> Result<PlainMoves, Fail>
+// The core takes a block beside nobody.
+fn taken(m: &mut PlainMoves, order: u8) -> Result<PlainBlock, Fail>
+    requires company { IsByItself m.old }
+    requires begins { MayBegin 0 (⟦<PlainMoves as Moves>⟧.at m.old) }
+    ensures company { IsByItself m.new }
+    ensures begins { MayBegin 0 (⟦<PlainMoves as Moves>⟧.at m.new) }
+    ensures out { IfOk result (λ b. (⟦<PlainMoves as Moves>⟧.at m.new).is_out b) }
+{
+    let geometry = m.geometry();
+    let mut habit = Habit::of(geometry, 0);
+    match take_by(m, &mut habit, order) {
+        Ok(block) if block.frame() == 0 => Ok(block),
+        _ => Err(Fail::from("another frame")),
+    }
+}
+
+// The same child, of which the first frame is held if it is in use.
+fn open_used(alloc: Global, in_use: bool) -> Result<PlainMoves, Fail>
     ensures company { IfOk result IsByItself }
     ensures begins { IfOk result (λ m. MayBegin 0 (⟦<PlainMoves as Moves>⟧.at m)) }
 {
     let mut m = open(alloc)?;
-    let geometry = m.geometry();
-    let mut habit = Habit::of(geometry, 0);
-    for frame in 0..takes {
-        match take_by(&mut m, &mut habit, 0) {
-            Ok(block) if block.frame() == frame => {}
-            _ => return Err(Fail::from("another frame")),
-        }
+    if !in_use {
+        return Ok(m);
     }
+    taken(&mut m, 0)?;
     Ok(m)
 }
 
@@ -91,14 +104,14 @@ fn script(alloc: Global, plain: PlainMoves, cues: &[Cue]) -> Result<ScriptMoves,
     }
 }
 
-// Takes a block of the order by the script, after so many takes.
-fn run(alloc: Global, takes: u32, order: u8, cues: &[Cue]) -> Result<Outcome, Fail> {
-    let plain = open_after(alloc, takes)?;
+// Takes a frame by the script, of a child that is free or in use.
+fn run(alloc: Global, in_use: bool, cues: &[Cue]) -> Result<Outcome, Fail> {
+    let plain = open_used(alloc, in_use)?;
     let mut m = script(alloc, plain, cues)?;
     let before = m.plain().moves();
     let geometry = m.geometry();
     let mut habit = Habit::of(geometry, 0);
-    let answer = match take_by(&mut m, &mut habit, order) {
+    let answer = match take_by(&mut m, &mut habit, 0) {
         Ok(block) => Ok(block.frame()),
         Err(fault) => Err(fault),
     };
@@ -152,27 +165,19 @@ fn adds_up(words: &Words, paid: u32, is_reserving: bool) -> bool {
         && words.tree.1 == (is_reserving || words.rest.is_some())
 }
 
-// The takes before, the cues; the answer, the moves, and the words afterwards.
-#[derive(Clone, Copy)]
-struct Row<'a> {
-    takes: u32,
-    cues: &'a [Cue],
-    answer: Result<u32, TakeFault>,
-    moves: u64,
-    after: Words,
+// The tries to reserve the tree, all of which are lost.
+fn losses() -> [Cue; 8] {
+    [
+        lose(3),
+        lose(5),
+        lose(7),
+        lose(9),
+        lose(12),
+        lose(14),
+        lose(16),
+        lose(18),
+    ]
 }
-
-const LOSSES: [u32; 8] = [3, 5, 7, 9, 12, 14, 16, 18];
-
-fn losses(alloc: Global, count: usize) -> Result<Vec<Cue>, Fail> {
-    let mut cues = Vec::new(alloc);
-    for at in LOSSES.iter().take(count) {
-        cues.push(lose(*at))?;
-    }
-    Ok(cues)
-}
-
-const EMPTIES: Act = Act::SwapLocal { core: 0, put: None };
 
 // The words of a child that is no huge frame, and of whose frames none but the first 64 are held.
 fn words_with(entry: u32, tree: (u32, bool), rest: Option<(u32, u32)>, bits: u64) -> Words {
@@ -184,90 +189,85 @@ fn words_with(entry: u32, tree: (u32, bool), rest: Option<(u32, u32)>, bits: u64
     }
 }
 
-// All eight tries to reserve the tree are lost.
-fn all_lost(cues: &[Cue]) -> Row {
-    Row {
-        takes: 0,
-        cues,
-        answer: Err(TakeFault::Contended),
-        moves: 19,
-        after: words_with(512, (512, false), None, 0),
-    }
-}
-
-// All of them but the last one.
-fn all_but_one_lost(cues: &[Cue]) -> Row {
-    Row {
-        takes: 0,
-        cues,
-        answer: Ok(0),
-        moves: 25,
-        after: words_with(511, (0, true), Some((0, 511)), 1),
-    }
-}
-
-// A stranger takes away what rests.
-fn emptied(cues: &[Cue]) -> Row {
-    Row {
-        takes: 1,
-        cues,
-        answer: Err(TakeFault::Contended),
-        moves: 7,
-        after: words_with(511, (0, true), None, 1),
-    }
-}
-
-// And puts it back into the word of the tree.
-fn emptied_and_put_back(cues: &[Cue]) -> Row {
-    Row {
-        takes: 1,
-        cues,
-        answer: Ok(1),
-        moves: 12,
-        after: words_with(510, (0, true), Some((0, 510)), 3),
-    }
+// A take is answered so, in so many moves, with each cue made, and leaves these words.
+fn answers(
+    rt: &impl Abort,
+    alloc: Global,
+    in_use: bool,
+    cues: &[Cue],
+    want: (Result<u32, TakeFault>, u64),
+    after: Words,
+) -> Result<(), Fail> {
+    let outcome = run(alloc, in_use, cues)?;
+    assert!(rt; (outcome.answer, outcome.moves) == want);
+    assert!(rt; (outcome.after, outcome.skipped) == (after, 0));
+    Ok(())
 }
 
 #[test]
-fn takes_beside_losses_and_strangers(rt: HostRuntime) -> Result<(), Fail> {
-    let alloc = rt.alloc();
-    let (eight, seven) = (losses(alloc, 8)?, losses(alloc, 7)?);
-    let away = [stranger(1, 0, EMPTIES)];
-    let back = [away[0], stranger(3, 0, Act::Unreserve { tree: 0, n: 511 })];
-    let rows = [
-        all_lost(&eight),
-        all_but_one_lost(&seven),
-        emptied(&away),
-        emptied_and_put_back(&back),
-    ];
-    for row in &rows {
-        let outcome = run(alloc, row.takes, 0, row.cues)?;
-        assert_eq!(rt; (outcome.answer, outcome.moves), (row.answer, row.moves));
-        assert_eq!(rt; outcome.after, row.after);
-        assert_eq!(rt; outcome.skipped, 0);
-    }
-    Ok(())
+fn takes_beside_losses(rt: HostRuntime) -> Result<(), Fail> {
+    let eight = losses();
+    answers(
+        &rt,
+        rt.alloc(),
+        false,
+        &eight,
+        (Err(TakeFault::Contended), 19),
+        words_with(512, (512, false), None, 0),
+    )?;
+    answers(
+        &rt,
+        rt.alloc(),
+        false,
+        &eight[..7],
+        (Ok(0), 25),
+        words_with(511, (0, true), Some((0, 511)), 1),
+    )
+}
+
+// A stranger takes away what rests, and may put it back into the word of the tree.
+#[test]
+fn takes_beside_a_stranger(rt: HostRuntime) -> Result<(), Fail> {
+    let away = stranger(1, 0, Act::SwapLocal { core: 0, put: None });
+    let back = stranger(3, 0, Act::Unreserve { tree: 0, n: 511 });
+    answers(
+        &rt,
+        rt.alloc(),
+        true,
+        &[away],
+        (Err(TakeFault::Contended), 7),
+        words_with(511, (0, true), None, 1),
+    )?;
+    answers(
+        &rt,
+        rt.alloc(),
+        true,
+        &[away, back],
+        (Ok(1), 12),
+        words_with(510, (0, true), Some((0, 510)), 3),
+    )
 }
 
 // One loss at any move of a take that already loses seven times, or that loses none.
 #[test]
 fn a_loss_at_any_move_leaves_the_sums(rt: HostRuntime) -> Result<(), Fail> {
+    let eight = losses();
     for count in 0..8usize {
         for at in 0..30u32 {
-            let mut cues = losses(rt.alloc(), count)?;
+            let mut cues = eight[..count].to_vec(rt.alloc())?;
             cues.push(lose(at))?;
-            let outcome = run(rt.alloc(), 0, 0, &cues)?;
+            let outcome = run(rt.alloc(), false, &cues)?;
             let held = match outcome.answer {
                 Ok(frame) => {
-                    assert_eq!(rt; frame, 0, "{count} {at}");
+                    assert!(rt; frame == 0, "{count} {at}");
                     1
                 }
                 Err(fault) => {
-                    assert_eq!(rt; fault, TakeFault::Contended, "{count} {at}");
+                    assert!(rt; fault == TakeFault::Contended, "{count} {at}");
                     0
                 }
             };
-            assert_eq!(rt; held_in(&outcome.after), held, "{count} {at}");
+            assert!(rt; held_in(&outcome.after) == held, "{count} {at}");
             assert!(rt; adds_up(&outcome.after, 0, false), "{count} {at}");
         }
     }
@@ -281,11 +281,7 @@ fn open_holding(alloc: Global) -> Result<(PlainMoves, PlainBlock), Fail>
     ensures out { IfOk result (λ r. (⟦<PlainMoves as Moves>⟧.at r.0).is_out r.1) }
 {
     let mut m = open(alloc)?;
-    let geometry = m.geometry();
-    let mut habit = Habit::of(geometry, 0);
-    let Ok(block) = take_by(&mut m, &mut habit, 9) else {
-        return Err(Fail::from("a huge frame"));
-    };
+    let block = taken(&mut m, 9)?;
     Ok((m, block))
 }
 
@@ -325,17 +321,16 @@ fn run_split(alloc: Global, cues: &[Cue]) -> Result<Outcome, Fail> {
 fn a_stop_shows_each_step_of_a_split(rt: HostRuntime) -> Result<(), Fail> {
     for at in 0..12u32 {
         let outcome = run_split(rt.alloc(), &[stop(at)])?;
-        assert_eq!(rt; (outcome.answer, outcome.moves), (Ok(256), 12));
+        assert!(rt; (outcome.answer, outcome.moves) == (Ok(256), 12));
         let found = outcome.stop.ok_or("no stop")?;
-        assert_eq!(rt; found.entry, (0, at < 10), "at {at}");
-        assert_eq!(rt;
-            (found.tree, found.rest),
-            ((0, true), Some((0, 0))),
+        assert!(rt; found.entry == (0, at < 10), "at {at}");
+        assert!(rt;
+            (found.tree, found.rest) == ((0, true), Some((0, 0))),
             "at {at}"
         );
         for word in 0..8u32 {
             let bits = if word + 1 < at { u64::MAX } else { 0 };
-            assert_eq!(rt; found.bits[word as usize], bits, "at {at}");
+            assert!(rt; found.bits[word as usize] == bits, "at {at}");
         }
     }
     Ok(())

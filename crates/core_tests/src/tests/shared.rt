@@ -1,14 +1,14 @@
 //! The shared allocator, each call with ample memory.
 
-ghost use Rattle.std.specs.Prelude.{IfOk, IfSome};
+ghost use Rattle.std.specs.Prelude.{IfSome};
 ghost use Rattle.std.specs.List.{All};
 ghost use Rattle.core_frames.specs.Cores.{IsCoreOf, IsOutOf};
 
+use super::cores::{block, close_two, open_for_two};
 use core_frames::{Allocator, CloseFault, Core};
 use frame_core::{HeldBlock, Image};
 use frame_table::Block;
 use frame_words::{Fault, Geometry, TakeFault};
-use std::alloc::Global;
 use std::process::Abort;
 use std::test::Fail;
 
@@ -22,29 +22,12 @@ fn next_core(allocator: &Allocator, cores: &mut Vec<Core>) -> Option<Core>
     cores.pop()
 }
 
-// An allocator with its cores.
-fn open(alloc: Global, children: u32, count: u32) -> Result<(Allocator, Vec<Core>), Fault>
-    ensures { IfOk result (λ r. All (IsCoreOf r.0) r.1.items) }
-{
-    Allocator::open(alloc, Geometry::new(children, count)?)
-}
-
-// The words of an allocator whose two cores are idle.
-fn close_two(alloc: Global, allocator: Allocator, first: Core, second: Core) -> Result<Image, Fault>
-    requires first { IsCoreOf allocator first }
-    requires second { IsCoreOf allocator second }
-{
-    let mut cores = Vec::with_capacity(alloc, 2)?;
-    cores.push_reserved(first);
-    cores.push_reserved(second);
-    allocator.close(alloc, cores).map_err(|e| e.fault)
-}
-
 #[test]
 fn closing_wants_each_core(rt: HostRuntime) -> Result<(), Fail> {
-    let (allocator, mut cores) = open(rt.alloc(), 1, 2)?;
-    let last = next_core(&allocator, &mut cores).ok_or("a core")?;
-    assert_eq!(rt; last.number(), 1);
+    let (allocator, first, last) = open_for_two(rt.alloc(), 1)?;
+    assert!(rt; (first.number(), last.number()) == (0, 1));
+    let mut cores = Vec::with_capacity(rt.alloc(), 1)?;
+    cores.push_reserved(first);
     let Err(
         CloseFault {
             fault,
@@ -55,12 +38,12 @@ fn closing_wants_each_core(rt: HostRuntime) -> Result<(), Fail> {
     else {
         panic!(rt; "it closed without a core");
     };
-    assert_eq!(rt; fault, Fault::MissingCores);
+    assert!(rt; fault == Fault::MissingCores);
     let mut cores = cores;
     let first = next_core(&allocator, &mut cores).ok_or("a core")?;
     let image = close_two(rt.alloc(), allocator, first, last)?;
     let fresh = Image::new(rt.alloc(), &Geometry::new(1, 2)?)?;
-    assert_eq!(rt; image.words(), fresh.words());
+    assert!(rt; image.words() == fresh.words());
     Ok(())
 }
 
@@ -75,7 +58,7 @@ fn is_refused(
     requires { IsCoreOf allocator.now core.old }
     ensures { IsCoreOf allocator.now core.new }
 {
-    assert_eq!(rt; allocator.take(core, order).err(), Some(refusal));
+    assert!(rt; allocator.take(core, order).err() == Some(refusal));
 }
 
 // The halves of a block.
@@ -92,6 +75,45 @@ fn halves(rt: &impl Abort, allocator: &Allocator, core: &mut Core, block: Block)
     both
 }
 
+// The lower half of a huge frame, of which the upper half is given.
+fn lower_half(rt: &impl Abort, allocator: &Allocator, core: &mut Core, block: Block) -> Block
+    requires core { IsCoreOf allocator.now core.old }
+    requires block { IsOutOf allocator.now block }
+    ensures core { IsCoreOf allocator.now core.new }
+    ensures lower { IsOutOf allocator.now result }
+{
+    let (low, high) = halves(rt, allocator, core, block);
+    assert!(rt; (low.frame(), low.order()) == (0, 8));
+    assert!(rt; (high.frame(), high.order()) == (256, 8));
+    allocator.give(core, high);
+    low
+}
+
+// The upper half of that half, of which the lower half is given.
+fn upper_half(rt: &impl Abort, allocator: &Allocator, core: &mut Core, block: Block) -> Block
+    requires core { IsCoreOf allocator.now core.old }
+    requires block { IsOutOf allocator.now block }
+    ensures core { IsCoreOf allocator.now core.new }
+    ensures upper { IsOutOf allocator.now result }
+{
+    let (low, high) = halves(rt, allocator, core, block);
+    assert!(rt; (high.frame(), high.order()) == (128, 7));
+    allocator.give(core, low);
+    high
+}
+
+// Asks for the halves of a frame, which stays held.
+fn has_no_halves(rt: &impl Abort, allocator: &Allocator, core: &mut Core)
+    requires { IsCoreOf allocator.now core.old }
+    ensures { IsCoreOf allocator.now core.new }
+{
+    let one = block(rt, allocator, core, 0);
+    let Err(one) = allocator.split(core, one) else {
+        panic!(rt; "a frame has no halves");
+    };
+    assert!(rt; (one.frame(), one.order()) == (0, 0));
+}
+
 // The block, kept and handed out again.
 fn recalled(allocator: &Allocator, core: &mut Core, block: Block) -> Block
     requires core { IsCoreOf allocator.now core.old }
@@ -105,52 +127,17 @@ fn recalled(allocator: &Allocator, core: &mut Core, block: Block) -> Block
 
 #[test]
 fn a_huge_frame_is_split_to_the_end(rt: HostRuntime) -> Result<(), Fail> {
-    let (allocator, mut cores) = open(rt.alloc(), 1, 2)?;
-    let mut first = next_core(&allocator, &mut cores).ok_or("a core")?;
-    let mut second = next_core(&allocator, &mut cores).ok_or("a core")?;
-    let block = allocator.take(&mut first, 9).map_err(Fault::from)?;
+    let (allocator, mut first, mut second) = open_for_two(rt.alloc(), 1)?;
+    let huge = block(&rt, &allocator, &mut first, 9);
     is_refused(&rt, &allocator, &mut second, 0, TakeFault::NoBlock);
     is_refused(&rt, &allocator, &mut second, 10, TakeFault::BadOrder);
-    let (low, high) = halves(&rt, &allocator, &mut second, block);
-    assert_eq!(rt; (low.frame(), low.order()), (0, 8));
-    assert_eq!(rt; (high.frame(), high.order()), (256, 8));
-    allocator.give(&mut first, high);
-    let (low, high) = halves(&rt, &allocator, &mut first, low);
-    assert_eq!(rt; (high.frame(), high.order()), (128, 7));
-    allocator.give(&mut second, low);
+    let low = lower_half(&rt, &allocator, &mut second, huge);
+    let high = upper_half(&rt, &allocator, &mut first, low);
     let high = recalled(&allocator, &mut first, high);
-    assert_eq!(rt; allocator.keep(&mut second, high), (128, 7));
-    let one = allocator.take(&mut first, 0).map_err(Fault::from)?;
-    let Err(one) = allocator.split(&mut first, one) else {
-        panic!(rt; "a frame has no halves");
-    };
-    assert_eq!(rt; (one.frame(), one.order()), (0, 0));
+    assert!(rt; allocator.keep(&mut second, high) == (128, 7));
+    has_no_halves(&rt, &allocator, &mut first);
     let image = close_two(rt.alloc(), allocator, first, second)?;
-    assert_eq!(rt; (image.free(0), image.huge(0)), (383, false));
-    assert_eq!(rt; (image.word(0, 0), image.word(0, 2)), (1, u64::MAX));
-    Ok(())
-}
-
-// How many frames and how many huge frames are free.
-fn free_in(allocator: &Allocator, core: &mut Core) -> (u32, u32)
-    requires { IsCoreOf allocator.now core.old }
-    ensures { IsCoreOf allocator.now core.new }
-{
-    (allocator.free_frames(core), allocator.free_huge(core))
-}
-
-#[test]
-fn what_is_out_is_not_free(rt: HostRuntime) -> Result<(), Fail> {
-    let (allocator, mut cores) = open(rt.alloc(), 2, 1)?;
-    let mut core = next_core(&allocator, &mut cores).ok_or("a core")?;
-    assert_eq!(rt; free_in(&allocator, &mut core), (1024, 2));
-    let block = allocator.take(&mut core, 3).map_err(Fault::from)?;
-    assert_eq!(rt; free_in(&allocator, &mut core), (1016, 1));
-    let huge = allocator.take(&mut core, 9).map_err(Fault::from)?;
-    assert_eq!(rt; free_in(&allocator, &mut core), (504, 0));
-    allocator.give(&mut core, block);
-    assert_eq!(rt; free_in(&allocator, &mut core), (512, 1));
-    allocator.give(&mut core, huge);
-    assert_eq!(rt; free_in(&allocator, &mut core), (1024, 2));
+    assert!(rt; (image.free(0), image.huge(0)) == (383, false));
+    assert!(rt; (image.word(0, 0), image.word(0, 2)) == (1, u64::MAX));
     Ok(())
 }

@@ -1,54 +1,15 @@
 //! A shared allocator that is stopped while blocks are out and kept, each call with ample memory.
 
-ghost use Rattle.std.specs.Prelude.{IfOk, IfSome};
-ghost use Rattle.std.specs.List.{All};
 ghost use Rattle.core_frames.specs.Cores.{IsNewCore, IsCoreOf, IsOutOf};
 
+use super::cores::{block, open_for_two};
 use super::plain::held_and_free;
 use core_frames::{Allocator, Core, Desk, Label};
 use frame_core::{HeldBlock, Image};
 use frame_table::Block;
-use frame_words::{Fault, Geometry};
 use std::alloc::Global;
 use std::process::Abort;
 use std::test::Fail;
-
-// The last core of an opening.
-fn next_core(allocator: &Allocator, cores: &mut Vec<Core>) -> Option<Core>
-    requires { All (IsNewCore allocator.now) cores.old.items }
-    ensures core { IfSome result (IsNewCore allocator.now) }
-    ensures left { All (IsNewCore allocator.now) cores.new.items }
-{
-    let _ = allocator;
-    cores.pop()
-}
-
-// An allocator of one tree, with two cores.
-fn open(alloc: Global) -> Result<(Allocator, Core, Core), Fault>
-    ensures first { IfOk result (λ r. IsNewCore r.0 r.1) }
-    ensures second { IfOk result (λ r. IsNewCore r.0 r.2) }
-{
-    let (allocator, mut cores) = Allocator::open(alloc, Geometry::new(8, 2)?)?;
-    let Some(second) = next_core(&allocator, &mut cores) else {
-        return Err(Fault::MissingCores);
-    };
-    let Some(first) = next_core(&allocator, &mut cores) else {
-        return Err(Fault::MissingCores);
-    };
-    Ok((allocator, first, second))
-}
-
-// A block of the order.
-fn block(rt: &impl Abort, allocator: &Allocator, core: &mut Core, order: u8) -> Block
-    requires { IsCoreOf allocator.now core.old }
-    ensures core { IsCoreOf allocator.now core.new }
-    ensures block { IsOutOf allocator.now result }
-{
-    let Ok(block) = allocator.take(core, order) else {
-        panic!(rt; "one is free");
-    };
-    block
-}
 
 // A block of the order that a desk took and let go of again, and the core of that desk.
 fn lifted(
@@ -100,7 +61,7 @@ fn holds_just(image: &Image, blocks: [(u32, u8); 3]) -> bool {
 #[test]
 fn a_stop_holds_just_what_is_out_and_kept(rt: HostRuntime) -> Result<(), Fail> {
     for order in 0..10u8 {
-        let (allocator, mut first, second) = open(rt.alloc())?;
+        let (allocator, mut first, second) = open_for_two(rt.alloc(), 8)?;
         let back = block(&rt, &allocator, &mut first, order);
         let out = block(&rt, &allocator, &mut first, order);
         let (loose, _second) = lifted(&rt, rt.alloc(), &allocator, second, order);
@@ -114,8 +75,8 @@ fn a_stop_holds_just_what_is_out_and_kept(rt: HostRuntime) -> Result<(), Fail> {
             (loose.frame(), loose.order()),
             kept,
         ];
-        assert_eq!(rt; (out.order(), loose.order(), kept.1), (order, order, order));
-        assert_eq!(rt; held_and_free(&image).0, 3 << order);
+        assert!(rt; (out.order(), loose.order(), kept.1) == (order, order, order));
+        assert!(rt; held_and_free(&image).0 == 3 << order);
         assert!(rt; holds_just(&image, blocks));
     }
     Ok(())

@@ -1,7 +1,7 @@
 //! Takes in a tree between whose moves strangers step: which exchanges are lost, in how many moves a
 //! block is found, and the words before each move and afterwards.
 
-ghost use Rattle.std.specs.Prelude.{◌≡◌, ◌<◌, ◌≤◌, [], None, true, IfOk};
+ghost use Rattle.std.specs.Prelude.{◌≡◌, ◌≤◌, true, IfOk};
 ghost use Rattle.frame_model.specs.View.{IsIdle};
 ghost use Rattle.plain_moves.specs.PlainState.{IsByItself};
 ghost use Rattle.low_frames.specs.Outcomes.{MayTakeOf};
@@ -20,7 +20,7 @@ use std::test::Fail;
 const FULL: u64 = u64::MAX;
 
 // What the words of one child and of its tree say: free frames by both, and bits.
-#[derive(Clone, Copy, Debug, PartialEq, Eq)]
+#[derive(Clone, Copy, PartialEq, Eq)]
 struct Words {
     entry: u32,
     tree: u32,
@@ -29,7 +29,7 @@ struct Words {
 
 // The first frame of the block that a take found, if it found one, in how many moves, how many cues
 // were not made, the words afterwards, and those of the latest stop.
-#[derive(Clone, Copy, Debug, PartialEq, Eq)]
+#[derive(Drop)]
 struct Outcome {
     frame: Option<u32>,
     moves: u64,
@@ -76,9 +76,6 @@ fn pay(m: &mut PlainMoves, tree: u32, order: u8) -> bool
     requires order { order ≤ 9 }
     requires idle { IsIdle (⟦<PlainMoves as Moves>⟧.at m.old).view }
     ensures company { IsByItself m.old → IsByItself m.new }
-    ensures share { 0 < (⟦<PlainMoves as Moves>⟧.at m.new).view.share }
-    ensures charged { (⟦<PlainMoves as Moves>⟧.at m.new).view.charged ≡ None }
-    ensures own { (⟦<PlainMoves as Moves>⟧.at m.new).view.own ≡ [] }
     ensures paid { result ≡ true → MayTakeOf tree order (⟦<PlainMoves as Moves>⟧.at m.new) }
 {
     let geometry = m.geometry();
@@ -188,13 +185,15 @@ fn is_held(order: u8, outcome: &Outcome) -> bool
     true
 }
 
-// The words of a child and its tree; a hexadecimal digit for each bit word, the first one first: f is
-// a full word, and of other words the digit is the word.
-fn words_with(entry: u32, tree: u32, digits: u32) -> Words {
+// The words of a child and its tree; a digit for each bit word, the first one first: f is a full word, and
+// of other words the digit is the word.
+fn words_with(entry: u32, tree: u32, digits: &[u8; 8]) -> Words {
     let mut bits = [0; 8];
-    for word in 0..8u32 {
-        let digit = u64::from(digits >> (28 - 4 * word)) % 16;
-        bits[word as usize] = if digit == 15 { FULL } else { digit };
+    for word in 0..8usize {
+        bits[word] = match digits[word] {
+            b'f' => FULL,
+            digit => u64::from(digit.saturating_sub(b'0')),
+        };
     }
     Words { entry, tree, bits }
 }
@@ -212,8 +211,8 @@ fn answers(
     requires { order ≤ 9 }
 {
     let outcome = run(alloc, order, cues)?;
-    assert_eq!(rt; (outcome.frame, outcome.moves, outcome.skipped), want);
-    assert_eq!(rt; outcome.after, after);
+    assert!(rt; (outcome.frame, outcome.moves, outcome.skipped) == want);
+    assert!(rt; outcome.after == after);
     Ok(())
 }
 
@@ -226,7 +225,7 @@ fn takes_beside_nobody(rt: HostRuntime) -> Result<(), Fail> {
         0,
         &[],
         (Some(0), 5, 0),
-        words_with(511, 511, 0x1000_0000),
+        words_with(511, 511, b"10000000"),
     )?;
     answers(
         &rt,
@@ -234,7 +233,7 @@ fn takes_beside_nobody(rt: HostRuntime) -> Result<(), Fail> {
         7,
         &[],
         (Some(0), 13, 0),
-        words_with(384, 384, 0xff00_0000),
+        words_with(384, 384, b"ff000000"),
     )?;
     answers(
         &rt,
@@ -242,7 +241,7 @@ fn takes_beside_nobody(rt: HostRuntime) -> Result<(), Fail> {
         8,
         &[],
         (Some(0), 15, 0),
-        words_with(256, 256, 0xffff_0000),
+        words_with(256, 256, b"ffff0000"),
     )
 }
 
@@ -264,16 +263,23 @@ fn takes_go_on_after_lost_exchanges(rt: HostRuntime) -> Result<(), Fail> {
         0,
         &skips,
         (Some(0), 7, 2),
-        words_with(511, 511, 0x1000_0000),
+        words_with(511, 511, b"10000000"),
     )?;
-    answers(&rt, alloc, 0, &four, (None, 8, 0), words_with(512, 511, 0))?;
+    answers(
+        &rt,
+        alloc,
+        0,
+        &four,
+        (None, 8, 0),
+        words_with(512, 511, b"00000000"),
+    )?;
     answers(
         &rt,
         alloc,
         7,
         &claims(0, 1, 11),
         (Some(128), 17, 0),
-        words_with(383, 383, 0x01ff_0000),
+        words_with(383, 383, b"01ff0000"),
     )?;
     answers(
         &rt,
@@ -281,7 +287,7 @@ fn takes_go_on_after_lost_exchanges(rt: HostRuntime) -> Result<(), Fail> {
         8,
         &claims(0, 3, 13),
         (Some(256), 23, 0),
-        words_with(255, 255, 0x0001_ffff),
+        words_with(255, 255, b"0001ffff"),
     )
 }
 
@@ -290,21 +296,21 @@ fn takes_go_on_after_lost_exchanges(rt: HostRuntime) -> Result<(), Fail> {
 #[test]
 fn a_stop_shows_each_step(rt: HostRuntime) -> Result<(), Fail> {
     for (order, claim, at, entry, digits) in [
-        (7, None, 1, 512, 0),
-        (7, None, 2, 384, 0),
-        (7, None, 11, 384, 0xf000_0000),
-        (7, None, 12, 384, 0xff00_0000),
-        (7, Some((1, 11)), 10, 383, 0),
-        (7, Some((1, 11)), 11, 383, 0xf100_0000),
-        (7, Some((1, 11)), 13, 383, 0xf100_0000),
-        (7, Some((1, 11)), 14, 383, 0x0100_0000),
-        (7, Some((1, 11)), 15, 383, 0x01f0_0000),
-        (7, Some((1, 11)), 16, 383, 0x01ff_0000),
-        (8, Some((3, 13)), 15, 255, 0xfff1_0000),
-        (8, Some((3, 13)), 16, 255, 0x0ff1_0000),
-        (8, Some((3, 13)), 17, 255, 0x00f1_0000),
-        (8, Some((3, 13)), 18, 255, 0x0001_0000),
-        (8, Some((3, 13)), 22, 255, 0x0001_ffff),
+        (7, None, 1, 512, b"00000000"),
+        (7, None, 2, 384, b"00000000"),
+        (7, None, 11, 384, b"f0000000"),
+        (7, None, 12, 384, b"ff000000"),
+        (7, Some((1, 11)), 10, 383, b"00000000"),
+        (7, Some((1, 11)), 11, 383, b"f1000000"),
+        (7, Some((1, 11)), 13, 383, b"f1000000"),
+        (7, Some((1, 11)), 14, 383, b"01000000"),
+        (7, Some((1, 11)), 15, 383, b"01f00000"),
+        (7, Some((1, 11)), 16, 383, b"01ff0000"),
+        (8, Some((3, 13)), 15, 255, b"fff10000"),
+        (8, Some((3, 13)), 16, 255, b"0ff10000"),
+        (8, Some((3, 13)), 17, 255, b"00f10000"),
+        (8, Some((3, 13)), 18, 255, b"00010000"),
+        (8, Some((3, 13)), 22, 255, b"0001ffff"),
     ] {
         if order > 9 {
             return Err(Fail::from("no such order"));
@@ -317,7 +323,7 @@ fn a_stop_shows_each_step(rt: HostRuntime) -> Result<(), Fail> {
         cues.push(stop(at))?;
         let outcome = run(rt.alloc(), order, &cues)?;
         let found = outcome.stop.ok_or("no stop")?;
-        assert_eq!(rt; found, words_with(entry, found.tree, digits), "at {at}");
+        assert!(rt; found == words_with(entry, found.tree, digits), "at {at}");
     }
     Ok(())
 }
@@ -338,15 +344,12 @@ fn a_loss_at_any_move_leaves_the_sums(rt: HostRuntime) -> Result<(), Fail> {
     Ok(())
 }
 
-// How many of the claims were not made: those that were refused, and those at moves that never came.
-fn unmade(outcome: &Outcome, ats: &[u32]) -> u32 {
-    let mut count = outcome.skipped;
-    for at in ats {
-        if u64::from(*at) >= outcome.moves {
-            count = count.saturating_add(1);
-        }
-    }
-    count
+// How many of two claims were not made: those that were refused, and those at moves that never came.
+fn unmade(outcome: &Outcome, at: u32, later: u32) -> u32 {
+    outcome
+        .skipped
+        .saturating_add(u32::from(u64::from(at) >= outcome.moves))
+        .saturating_add(u32::from(u64::from(later) >= outcome.moves))
 }
 
 // Two strangers each claim a word before a move of a take of order 8. Where they have a frame of
@@ -363,7 +366,7 @@ fn claims_of_strangers_leave_the_sums(rt: HostRuntime) -> Result<(), Fail> {
                         cues.push(cue)?;
                     }
                     let outcome = run(rt.alloc(), 8, &cues)?;
-                    let charged = unmade(&outcome, &[at, later]);
+                    let charged = unmade(&outcome, at, later);
                     assert!(rt;
                         adds_up(8, &outcome, charged),
                         "{word} {at} {other} {later}"

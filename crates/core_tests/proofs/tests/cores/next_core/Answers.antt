@@ -1,6 +1,6 @@
 use Rattle.std.proofs.lemmas.List.Elements.{All-pop}
 use Rattle.core_frames.specs.Cores.{IsNewCore}
-use Rattle.core_tests.proofs.tests.desk.next_core.Goals as goal
+use Rattle.core_tests.proofs.tests.cores.next_core.Goals as goal
 
 pub returns-clause-core : goal.returns-clause-core
 returns-clause-core c =
