@@ -16,7 +16,7 @@ fn a_trace_tells_its_cores(rt: HostRuntime) -> Result<(), Fail> {
         ("0,give,a,\n,round,,\n0,move,a,63\n", 64),
         (",round,,\n5,move,a,2\n1,give,a,\n", 6),
     ] {
-        assert_eq!(rt; cores_in(rt.alloc(), text)?, cores);
+        assert!(rt; cores_in(rt.alloc(), text)? == cores);
     }
     Ok(())
 }

@@ -22,12 +22,12 @@ pub(super) fn taken(zones: &Zones, core: &mut ZoneCore, order: u8) -> Result<u64
 #[test]
 fn a_full_home_zone_falls_over_to_the_next(rt: HostRuntime) -> Result<(), Fail> {
     let (zones, mut first, mut second) = open_for_two(rt.alloc(), 1)?;
-    assert_eq!(rt; taken(&zones, &mut second, 7), Ok(8320));
-    assert_eq!(rt; taken(&zones, &mut first, 8), Ok(256));
-    assert_eq!(rt; taken(&zones, &mut first, 8), Ok(8448));
-    assert_eq!(rt; taken(&zones, &mut second, 7), Ok(128));
-    assert_eq!(rt; taken(&zones, &mut first, 7), Err(TakeFault::NoBlock));
-    assert_eq!(rt; taken(&zones, &mut first, 10), Err(TakeFault::BadOrder));
+    assert!(rt; taken(&zones, &mut second, 7) == Ok(8320));
+    assert!(rt; taken(&zones, &mut first, 8) == Ok(256));
+    assert!(rt; taken(&zones, &mut first, 8) == Ok(8448));
+    assert!(rt; taken(&zones, &mut second, 7) == Ok(128));
+    assert!(rt; taken(&zones, &mut first, 7) == Err(TakeFault::NoBlock));
+    assert!(rt; taken(&zones, &mut first, 10) == Err(TakeFault::BadOrder));
     Ok(())
 }
 
@@ -53,7 +53,7 @@ fn taken_in_all(rt: &impl Abort, zones: &Zones, core: &mut ZoneCore) -> u32
 fn a_hole_is_never_given_out(rt: HostRuntime) -> Result<(), Fail> {
     let (zones, mut cores) = open_two(rt.alloc(), 1, 1)?;
     let mut core = next_core(&zones, &mut cores).ok_or("a core")?;
-    assert_eq!(rt; taken_in_all(&rt, &zones, &mut core), 2 * 504);
+    assert!(rt; taken_in_all(&rt, &zones, &mut core) == 2 * 504);
     Ok(())
 }
 
@@ -90,16 +90,16 @@ fn recalled(zones: &Zones, core: &mut ZoneCore, block: ZoneBlock) -> ZoneBlock
 #[test]
 fn a_block_is_split_kept_and_given(rt: HostRuntime) -> Result<(), Fail> {
     let (zones, _first, mut core) = open_for_two(rt.alloc(), 1)?;
-    assert_eq!(rt; zones.count(), 2);
+    assert!(rt; zones.count() == 2);
     let Ok(block) = zones.take(&mut core, 8) else {
         return Err(Fail::from("a block"));
     };
     let (low, high) = halves(&rt, &zones, &mut core, block);
     blocks_lie_in_zones(&zones, &low, &high);
-    assert_eq!(rt; (zones.frame_of(&low), low.order()), (8448, 7));
+    assert!(rt; (zones.frame_of(&low), low.order()) == (8448, 7));
     zones.give(&mut core, low);
     let high = recalled(&zones, &mut core, high);
-    assert_eq!(rt; (zones.frame_of(&high), high.order()), (8576, 7));
-    assert_eq!(rt; zones.keep(&mut core, high), (1, 384, 7));
+    assert!(rt; (zones.frame_of(&high), high.order()) == (8576, 7));
+    assert!(rt; zones.keep(&mut core, high) == (1, 384, 7));
     Ok(())
 }

@@ -129,8 +129,8 @@ fn adopts_by_table(
         (1, 512, 0, Err(Fault::NotHeld), 1024, 2),
     ] {
         let found = adopted(zones, core, survivors, zone, frame, order);
-        assert_eq!(rt; found, answer, "zone {zone}, frame {frame}");
-        assert_eq!(rt; free_in(zones, core), (free, huge));
+        assert!(rt; found == answer, "zone {zone}, frame {frame}");
+        assert!(rt; free_in(zones, core) == (free, huge));
     }
 }
 
@@ -146,10 +146,10 @@ fn held_in_two(rt: &impl Abort, images: &[ZoneImage]) -> [(u64, u32); 2] {
 // The images of two zones of which a block of each is held, besides what is held back.
 fn in_use(rt: &impl Abort, alloc: Global) -> Result<Vec<ZoneImage>, Fault> {
     let (zones, mut first, mut second) = open_for_two(alloc, 1)?;
-    assert_eq!(rt; free_in(&zones, &mut second), (1008, 0));
-    assert_eq!(rt; taken(&zones, &mut first, 8), Ok(256));
-    assert_eq!(rt; taken(&zones, &mut second, 7), Ok(8320));
-    assert_eq!(rt; free_in(&zones, &mut first), (624, 0));
+    assert!(rt; free_in(&zones, &mut second) == (1008, 0));
+    assert!(rt; taken(&zones, &mut first, 8) == Ok(256));
+    assert!(rt; taken(&zones, &mut second, 7) == Ok(8320));
+    assert!(rt; free_in(&zones, &mut first) == (624, 0));
     closed(alloc, zones, first, second)
 }
 
@@ -164,9 +164,9 @@ fn full(
     requires first { AreCoresOf zones first }
     requires second { AreCoresOf zones second }
 {
-    assert_eq!(rt; taken(&zones, &mut first, 9), Ok(0));
-    assert_eq!(rt; taken(&zones, &mut second, 9), Ok(8192));
-    assert_eq!(rt; free_in(&zones, &mut first), (0, 0));
+    assert!(rt; taken(&zones, &mut first, 9) == Ok(0));
+    assert!(rt; taken(&zones, &mut second, 9) == Ok(8192));
+    assert!(rt; free_in(&zones, &mut first) == (0, 0));
     closed(alloc, zones, first, second)
 }
 
@@ -179,7 +179,7 @@ fn taken_again(
     let images = rebuilt(alloc, images)?;
     let (zones, cores, mut survivors) = opened(alloc, &images)?;
     let (first, mut second) = two_of(&zones, cores)?;
-    assert_eq!(rt; free_in(&zones, &mut second), (624, 0));
+    assert!(rt; free_in(&zones, &mut second) == (624, 0));
     adopts_by_table(rt, &zones, &mut second, &mut survivors);
     full(rt, alloc, zones, first, second)
 }
@@ -187,8 +187,8 @@ fn taken_again(
 #[test]
 fn what_zones_held_is_adopted_once(rt: HostRuntime) -> Result<(), Fail> {
     let images = in_use(&rt, rt.alloc())?;
-    assert_eq!(rt; held_in_two(&rt, &images), [(0, 264), (8192, 136)]);
+    assert!(rt; held_in_two(&rt, &images) == [(0, 264), (8192, 136)]);
     let images = taken_again(&rt, rt.alloc(), &images)?;
-    assert_eq!(rt; held_in_two(&rt, &images), [(0, 512), (8192, 512)]);
+    assert!(rt; held_in_two(&rt, &images) == [(0, 512), (8192, 512)]);
     Ok(())
 }
