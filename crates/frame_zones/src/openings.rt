@@ -1,10 +1,10 @@
 //! Opening zones.
 
-ghost use Rattle.std.specs.Prelude.{◌≡◌, ◌<◌, IfOk, IfErr, OnOk, vec_len, map};
+ghost use Rattle.std.specs.Prelude.{◌≡◌, ◌<◌, ◌≤◌, [], IfOk, IfErr, OnOk, vec_len, vec_capacity, map};
 ghost use Rattle.std.specs.List.{All};
 ghost use Rattle.core_frames.specs.Cores.{IsOpened};
 ghost use Rattle.core_frames.specs.Ranges.{IsUnopenedFor};
-ghost use Rattle.frame_zones.specs.Spans.{place_of, HoldsLawful};
+ghost use Rattle.frame_zones.specs.Spans.{most_zones, place_of, HoldsLawful};
 ghost use Rattle.frame_zones.specs.Openings.{IsLonger, AreDealt, IsBegun, AreOpened, AreUnopenedFor};
 
 use crate::row::Row;
@@ -27,9 +27,7 @@ impl Zones {
             return Err(Fault::BadRange);
         }
         let mut all = begun(alloc, cores, spans.len() as u32)?;
-        let mut zones = Vec::with_capacity(alloc, spans.len() + ZONES_APART)?;
-        let mut firsts = Vec::with_capacity(alloc, spans.len() + FIRSTS_APART)?;
-        let mut frames = Vec::with_capacity(alloc, spans.len() + FRAMES_APART)?;
+        let (mut zones, mut firsts, mut frames) = room_for(alloc, spans.len())?;
         for span in spans {
             let (zone, parts) = open_zone(alloc, span)?;
             deal(&mut all, parts)?;
@@ -60,13 +58,30 @@ fn open_zone(alloc: Global, span: &Span) -> Result<(Allocator, Vec<Core>), Fault
 
 // A list of what all cores read, and a core's parts, which it writes, have room for so many items more, at
 // least a cache line: so no line has some of two such lists, however the heap lays them.
-pub(crate) const ZONES_APART: usize = 1;
+const ZONES_APART: usize = 1;
 
-pub(crate) const FIRSTS_APART: usize = 16;
+const FIRSTS_APART: usize = 16;
 
-pub(crate) const FRAMES_APART: usize = 32;
+const FRAMES_APART: usize = 32;
 
 const PARTS_APART: usize = 8;
+
+/// Room for so many allocators, their first frames and their frames.
+pub(crate) fn room_for(
+    alloc: Global,
+    zones: usize,
+) -> Result<(Vec<Allocator>, Vec<u64>, Vec<u32>), Fault>
+    requires { zones ≤ most_zones }
+    ensures zones { IfOk result (λ r. (r.0.items ≡ []) × (zones ≤ vec_capacity r.0)) }
+    ensures firsts { IfOk result (λ r. (r.1.items ≡ []) × (zones ≤ vec_capacity r.1)) }
+    ensures frames { IfOk result (λ r. (r.2.items ≡ []) × (zones ≤ vec_capacity r.2)) }
+    ensures err { IfErr result (λ e. e ≡ Fault.NoMemory) }
+{
+    let allocators = Vec::with_capacity(alloc, zones + ZONES_APART)?;
+    let firsts = Vec::with_capacity(alloc, zones + FIRSTS_APART)?;
+    let frames = Vec::with_capacity(alloc, zones + FRAMES_APART)?;
+    Ok((allocators, firsts, frames))
+}
 
 /// So many cores with no part yet, whose homes lie evenly among so many zones.
 pub(crate) fn begun(alloc: Global, cores: u32, zones: u32) -> Result<Vec<ZoneCore>, Fault>

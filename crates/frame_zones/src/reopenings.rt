@@ -10,7 +10,7 @@ ghost use Rattle.frame_zones.specs.Zones.{zone_count, IsOutIn};
 
 use crate::block::ZoneBlock;
 use crate::image::ZoneImage;
-use crate::openings::{FIRSTS_APART, FRAMES_APART, ZONES_APART, begun, deal};
+use crate::openings::{begun, deal, room_for};
 use crate::row::Row;
 use crate::spans::may_be_zones_again;
 use crate::zones::{ZoneCore, Zones};
@@ -36,10 +36,8 @@ impl Zones {
             return Err(Fault::BadRange);
         }
         let mut all = begun(alloc, cores, images.len() as u32)?;
-        let mut zones = Vec::with_capacity(alloc, images.len() + ZONES_APART)?;
-        let mut firsts = Vec::with_capacity(alloc, images.len() + FIRSTS_APART)?;
+        let (mut zones, mut firsts, mut frames) = room_for(alloc, images.len())?;
         let mut left = Vec::with_capacity(alloc, images.len())?;
-        let mut frames = Vec::with_capacity(alloc, images.len() + FRAMES_APART)?;
         for image in images {
             let (zone, parts, survivors) = Allocator::open_at(alloc, &image.image)?;
             deal(&mut all, parts)?;
