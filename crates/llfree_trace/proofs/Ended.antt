@@ -35,7 +35,7 @@ use Rattle.core_frames.specs.declared.shared.allocator.Allocator.{Allocator}
 use Rattle.core_frames.specs.declared.shared.desk.Desk.{Desk}
 use Rattle.core_frames.proofs.PlainCalls.{same_geometry}
 use Rattle.llfree_trace.specs.Outcome.{all_blocks, HoldsFrames, IsAnsweredBy, key_under, Runs}
-use Rattle.llfree_trace.specs.Rounds.{GoesOn, lent_by_desks, lists_at}
+use Rattle.llfree_trace.specs.Rounds.{GoesOn, lent_by_desks, lists_at, seats_at}
 use Rattle.trace_text.specs.Trace.{ranges_in}
 use Rattle.trace_text.specs.declared.line.Line.{Line}
 use Rattle.llfree_trace.specs.declared.progress.Progress.{Progress}
@@ -46,10 +46,6 @@ use Rattle.llfree_trace.proofs.Boot.{boot_are}
 same_sizes : (g h : Geometry) → g.children ≡ h.children → g.cores ≡ h.cores → g.frames ≡ h.frames → g ≡ h
 same_sizes g h p q r =
     same_geometry g h true true (λ i. record { children = p i; cores = q i; frames = r i; ranges = []; sealed = true })
-
--- the seats of the desks' cores
-abbrev pub seats_at : List Desk → List CoreSeat
-seats_at ds = map seat_of (map core_of ds)
 
 lent_same : (ds : List Desk) → lent_through (seats_at ds) ≡ lent_by_desks ds
 lent_same ds = ap lent_through (seats_are ds)

@@ -1,19 +1,25 @@
 -- A run of a trace of one round that is in parts.
-use Rattle.std.proofs.Common.{◌≡◌, ◌+◌, ◌-◌, ◌<◌, ◌≤◌, ◌∙◌, ℕ, List, [], ◌∷◌, ◌++◌, ap, arith, length, length-append, refl, subst, sym, take, get_or}
-use Rattle.std.specs.List.{All}
+use Rattle.std.proofs.Common.{◌≡◌, ◌+◌, ◌-◌, ◌<◌, ◌≤◌, ◌∙◌, ℕ, List, [], ◌∷◌, ◌++◌, ap, arith, length, length-append, refl, subst, sym, take, get_or, Result, Ok, Err, IfOk}
+use Rattle.std.specs.List.{All, flat_map}
+use Rattle.std.specs.declared.alloc.Global.{Global}
+use Rattle.std.specs.declared.vec.Vec.{Vec}
 use Rattle.std.proofs.lemmas.List.{append-nil}
 use Rattle.std.proofs.lemmas.List.Elements.{All-head, All-push, All-tail, All-take}
 use Rattle.frame_core.specs.Image.{Contents}
+use Rattle.frame_words.specs.declared.fault.Fault.{Fault}
+use Rattle.frame_words.specs.declared.geometry.Geometry.{Geometry}
+use Rattle.held_blocks.specs.Desk.{MayRefuse}
 use Rattle.trace_text.specs.AnswerText.{answer_rows_text, answers_of}
 use Rattle.trace_text.specs.Parts.{IsOneRound, lines_of}
 use Rattle.trace_text.specs.Trace.{core_count, ranges_in}
+use Rattle.trace_text.specs.TraceText.{trace_of}
 use Rattle.trace_text.specs.declared.line.Line.{Line}
 use Rattle.trace_text.specs.declared.line.Line.TheVariants as line
 use Rattle.trace_text.specs.declared.reply.Answer.{Answer}
 use Rattle.trace_text.proofs.Cores.{cores_in_at}
 use Rattle.trace_text.proofs.RoundParts.{fewer_lines, lines_of_next}
 use Rattle.llfree_trace.specs.Rounds.{Ask, Fitting, HasLists, IsAsk, IsRunnable, Merged, Spells, Told, all_answers, answers_to, asks_between, asks_from, asks_in, asks_of}
-use Rattle.llfree_trace.specs.RunText.{ShowsAnswers, front_of, last_of, shown_of}
+use Rattle.llfree_trace.specs.RunText.{IsRunOf, ShowsAnswers, ShowsRunOf, front_of, last_of, shown_of}
 use Rattle.llfree_trace.specs.declared.streams.Show.{Show}
 use Rattle.llfree_trace.specs.declared.streams.Show.TheVariants as show
 use Rattle.llfree_trace.specs.Rounds.{Stretch}
@@ -112,6 +118,14 @@ pub shows_none : (stretches : List Stretch) (told : List Told) → Fitting all_a
 shows_none stretches told fit =
     let merged = merge_is all_answers (asks_of stretches) told fit in
     record { answers = merged.0; merged = merged.1; shows = refl }
+
+-- what shows a run of records shows one of the text that says them
+pub run_of : (geometry : Geometry) (show : Show) (lines : List Line) (text : List ℕ) (r : Result (Vec (Vec ℕ Global) Global) Fault)
+    → trace_of geometry.cores text ≡ Ok lines
+    → IfOk r (λ texts. ShowsRunOf geometry show lines (flat_map (λ t. t.items) texts.items))
+    → IfOk r (λ texts. IsRunOf MayRefuse geometry show text (flat_map (λ t. t.items) texts.items))
+run_of geometry show lines text (Ok texts) says shows = shows text says
+run_of geometry show lines text (Err f) says shows = tt
 
 -- the records of one part alone
 pub only_part : (parts : List (List Line)) (part : List Line) → length parts ≡ 1 → part ≡ get_or parts 0 part → lines_of parts ≡ part

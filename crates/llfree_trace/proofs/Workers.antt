@@ -1,7 +1,7 @@
 -- How the answers of a desk grow by one.
 use Rattle.std.proofs.Common.{◌≡◌, ◌≢◌, ◌==◌, ◌+◌, ◌<◌, ◌∙◌, ℕ, List, [], ◌∷◌, ◌++◌, true, false}
 use Rattle.std.proofs.Common.{length, take, get_or, refl, sym, subst, ap, arith, add-zero, zero-add}
-use Rattle.std.proofs.Common.{ap₂, zero, suc, ◌≤◌, map, drop, inl, inr}
+use Rattle.std.proofs.Common.{ap₂, zero, suc, ◌≤◌, map, drop, inl, inr, Result, Ok, Err, IfOk}
 use Rattle.std.proofs.lemmas.Bool.Decides.{eqb_tells, nat_tests}
 use Rattle.std.specs.List.{All, flat_map}
 use Rattle.std.specs.declared.alloc.Global.{Global}
@@ -16,6 +16,7 @@ use Rattle.core_frames.specs.Desks.{core_of, IsDeskOf, list_of}
 use Rattle.core_frames.specs.declared.shared.allocator.Allocator.{Allocator}
 use Rattle.core_frames.specs.declared.shared.desk.Desk.{Desk}
 use Rattle.frame_model.specs.declared.key.Key.{Key}
+use Rattle.frame_words.specs.declared.fault.Fault.{Fault}
 use Rattle.llfree_trace.specs.Outcome.{DeskStep}
 use Rattle.trace_text.specs.declared.reply.Answer.{Answer}
 use Rattle.trace_text.specs.declared.line.Line.{Line}
@@ -23,7 +24,7 @@ use Rattle.trace_text.specs.declared.line.Line.TheVariants as line
 use Rattle.trace_text.specs.declared.line.Request.{Request}
 use Rattle.llfree_trace.specs.declared.lines.Done.{Done}
 use Rattle.trace_text.specs.Trace.{cores_in}
-use Rattle.llfree_trace.specs.Rounds.{Answered, Ask, DeskRun, IsAsk, IsNoAskOf, Ran, RanAll, ask_core}
+use Rattle.llfree_trace.specs.Rounds.{Answered, Ask, DeskRun, Follows, IsAsk, IsNoAskOf, Ran, RanAll, ask_core}
 use Rattle.llfree_trace.specs.Rounds.{ask_spot, asks_by, asks_from, asks_in, asks_of, spot}
 use Rattle.llfree_trace.specs.Rounds.{Stretch}
 use Rattle.llfree_trace.proofs.Listed.{at_new, at_old, flat_next, flat_push, none_at, none_in_each}
@@ -135,6 +136,17 @@ pub last_ran : (al : Allocator) (desks front : List Desk) (lines : List Stretch)
 last_ran al desks front lines done all core d e is place more ran one =
     let at : Ran al (0 + length front) d lines e = rw (zero-add, ← place) one in
     rw (is, more) (one_more al 0 front lines done d e ran at)
+
+-- what follows what ran has run
+pub follow_ran : (al : Allocator) (desks front : List Desk) (lines : List Stretch) (core : ℕ) (d : Desk)
+    (first : Result (Vec Done Global) Fault) (last : Result Done Fault) (result : Result (Vec Done Global) Fault)
+    → desks ≡ front ++ d ∷ [] → core ≡ length front
+    → IfOk first (λ all. RanAll al 0 front lines all.items) → IfOk last (Ran al core d lines)
+    → IfOk result (λ all. Follows first last all.items) → IfOk result (λ all. RanAll al 0 desks lines all.items)
+follow_ran al desks front lines core d first last (Err f) is place ran one follows = tt
+follow_ran al desks front lines core d first last (Ok all) is place ran one follows =
+    last_ran al desks front lines follows.others.items all.items core d follows.done is place follows.is_all
+    (rw follows.is_first at ran) (rw follows.is_last at one)
 
 -- the core of a request
 pub ask_core_is : (first : ℕ) (lines : List Line) (i : ℕ) (d : Line) (e : Ask) → All IsAsk lines → i < length lines

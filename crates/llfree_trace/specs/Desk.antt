@@ -1,7 +1,6 @@
 -- The list of one core beside the allocator that its blocks came from.
-use Rattle.std.specs.Prelude.{ℕ, ◌+◌, ◌≡◌, List, [], ◌∷◌, length, Option}
+use Rattle.std.specs.Prelude.{ℕ, ◌+◌, ◌≡◌, List, [], ◌∷◌, length}
 use Rattle.std.specs.List.{sum_by}
-use Rattle.std.specs.Option.{option_to_list}
 use Rattle.core_frames.specs.PlainState.{PlainState}
 use Rattle.frame_model.specs.Holding.{IsHolding}
 use Rattle.frame_model.specs.Key.{sealed_key}
@@ -58,8 +57,8 @@ abbrev pub MovesToEnd : List LabelledBlock → List ℕ → Reply → List Label
 MovesToEnd old label r new =
     (others : List (List LabelledBlock)) → Moves (old ∷ others) 0 label 0 r (new ∷ others)
 
--- a run of one record on the first core, whatever the others hold
-abbrev pub RunsOne : DeskState → ℕ → Line → Option Answer → DeskState → Type 0
-RunsOne old number line answer new =
+-- a run of records on the first core, whatever the others hold
+abbrev pub RunsFirst : DeskState → ℕ → List Line → List Answer → DeskState → Type 0
+RunsFirst old number lines answers new =
     (others : List (List LabelledBlock)) → Runs MustRefuseHere (desk_key old) number
-    (old.list ∷ others) (line ∷ []) (option_to_list answer) (new.list ∷ others)
+    (old.list ∷ others) lines answers (new.list ∷ others)

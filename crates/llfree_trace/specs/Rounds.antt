@@ -7,6 +7,7 @@ use Rattle.std.specs.declared.alloc.Global.{Global}
 use Rattle.std.specs.declared.vec.Vec.{Vec}
 use Rattle.frame_model.specs.declared.key.Key.{Key}
 use Rattle.frame_table.specs.Closing.{lent_through}
+use Rattle.frame_table.specs.declared.seats.CoreSeat.{CoreSeat}
 use Rattle.frame_words.specs.declared.fault.Fault.{Fault}
 use Rattle.frame_words.specs.declared.fault.Fault.TheVariants as fault
 use Rattle.held_blocks.specs.Desk.{MayRefuse}
@@ -190,6 +191,14 @@ RanAll a core (d ∷ desks) stretches (e ∷ done) =
     Ran a core d stretches e × RanAll a (core + 1) desks stretches done
 RanAll a core _ stretches _ = ⊥
 
+-- these were done first, and then this
+pub record Follows (first : Result (Vec Done Global) Fault) (last : Result Done Fault) (all : List Done) : Type 0 where
+  pub others : Vec Done Global
+  pub done : Done
+  pub is_first : first ≡ Ok others
+  pub is_last : last ≡ Ok done
+  pub is_all : all ≡ others.items ++ done ∷ []
+
 -- a core has at most so many lists of answers
 abbrev pub HasLists : ℕ → Told → Type 0
 HasLists count t = length t.items ≤ count
@@ -226,6 +235,10 @@ pub record IsSpellingOf (all : List Stretch) (lists : List Told) (first last : �
   pub told : promise.told.now ≡ lists
   pub from : promise.from ≡ first
   pub end : promise.end ≡ last
+
+-- the seats of the cores of these desks
+abbrev pub seats_at : List Desk → List CoreSeat
+seats_at desks = map seat_of (map core_of desks)
 
 -- how many blocks more were handed out by the cores of these desks than they took in
 abbrev pub lent_by_desks : List Desk → ℤ

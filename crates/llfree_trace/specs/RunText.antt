@@ -1,6 +1,8 @@
 -- The text that a run of a trace shows, and why a trace is not run.
 use Rattle.std.specs.Prelude.{ℕ, ◌≡◌, ◌≢◌, List, [], Ok}
 use Rattle.core_frames.specs.Ranges.{MayHoldBack}
+use Rattle.core_frames.specs.declared.shared.allocator.Allocator.{Allocator}
+use Rattle.core_frames.specs.declared.shared.desk.Desk.{Desk}
 use Rattle.frame_core.specs.Image.{Contents, key_in}
 use Rattle.frame_model.specs.Laws.{AddsUp}
 use Rattle.frame_model.specs.Report.{free_frames, held_frames}
@@ -12,7 +14,7 @@ use Rattle.frame_words.specs.declared.fault.Fault.TheVariants as fault
 use Rattle.frame_words.specs.declared.geometry.Geometry.{Geometry}
 use Rattle.held_blocks.specs.Desk.{MayRefuse}
 use Rattle.llfree_trace.specs.Outcome.{IsAnsweredBy, MustRefuseHere, key_under}
-use Rattle.llfree_trace.specs.Rounds.{Merged, Told, all_answers, asks_of}
+use Rattle.llfree_trace.specs.Rounds.{Merged, RoundRan, Told, all_answers, asks_of}
 use Rattle.trace_text.specs.AnswerText.{answer_rows_text, answers_of}
 use Rattle.trace_text.specs.Trace.{ranges_in}
 use Rattle.trace_text.specs.TraceText.{ExplainsTrace, trace_of}
@@ -49,6 +51,13 @@ pub record ShowsAnswers (show : Show) (stretches : List Stretch) (told : List To
     : Type 0 where
   pub answers : List Answer
   pub merged : Merged all_answers (asks_of stretches) told answers
+  pub shows : text ≡ front_of show answers
+
+-- a round, and the text is what is shown of its answers in front of the last piece
+pub record IsShownRound (a : Allocator) (old : List Desk) (show : Show) (stretches : List Stretch) (new : List Desk)
+    (text : List ℕ) : Type 0 where
+  pub answers : List Answer
+  pub round : RoundRan a old (asks_of stretches) answers new
   pub shows : text ≡ front_of show answers
 
 -- the bytes show an outcome that fits what the text says as a trace, whose ranges may be held back;

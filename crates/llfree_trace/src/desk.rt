@@ -2,10 +2,11 @@
 
 ghost use Rattle.std.specs.Prelude.{◌≡◌, ◌≤◌, ◌<◌, ◌∷◌, ◌++◌, [], IfErr, IfOk};
 ghost use Rattle.std.specs.Prelude.{Contains, IsPermutation};
+ghost use Rattle.std.specs.Option.{option_to_list};
 ghost use Rattle.core_frames.specs.Ranges.{IsUnopenedFor, MayHoldBack};
 ghost use Rattle.frame_words.specs.Faults.{fault_of};
 ghost use Rattle.llfree_trace.specs.Desk.{desk_key, CountsBy, IsLawful, IsSameMemory, MovesToEnd};
-ghost use Rattle.llfree_trace.specs.Desk.{RunsOne};
+ghost use Rattle.llfree_trace.specs.Desk.{RunsFirst};
 ghost use Rattle.trace_text.specs.Trace.{cores_in};
 
 use crate::transfers::moved;
@@ -68,7 +69,8 @@ impl PlainDesk {
     pub(crate) fn run(&mut self, number: u32, line: &Line) -> Result<Option<Answer>, Fault>
         requires core { cores_in line.now ≤ 1 }
         requires lawful { IsLawful self.old }
-        ensures run { IfOk result (λ a. RunsOne self.old number line.now a self.new) }
+        ensures run { IfOk result (λ a.
+            RunsFirst self.old number (line.now ∷ []) (option_to_list a) self.new) }
         ensures lawful { IfOk result (λ _. IsLawful self.new) }
         ensures memory { IsSameMemory self.old self.new }
         ensures fault { IfErr result (λ e. e ≡ Fault.NoMemory) }

@@ -38,12 +38,30 @@ pub(crate) fn run_lines<G: Gate>(
     ensures ran { IfOk result (λ d. Ran allocator.now core desk stretches.now d) }
     ensures fault { IfErr result (λ e. e ≡ Fault.NoMemory) }
 {
+    let answers = run_stretches(alloc, allocator, gate, core, &mut desk, stretches)?;
+    Ok(Done { desk, answers })
+}
+
+// Runs the requests of one core, in order, and answers a list for each stretch.
+fn run_stretches<G: Gate>(
+    alloc: Global,
+    allocator: &Allocator,
+    gate: &G,
+    core: u32,
+    desk: &mut Desk,
+    stretches: &[Stretch],
+) -> Result<Vec<Vec<Answer>>, Fault>
+    requires { MayRun allocator.now desk.old stretches.now }
+    ensures ran { IfOk result (λ answers. Ran allocator.now core desk.old stretches.now
+        (record { desk = desk.new; answers = answers })) }
+    ensures fault { IfErr result (λ e. e ≡ Fault.NoMemory) }
+{
     let mut answers = Vec::with_capacity(alloc, stretches.len())?;
     for stretch in stretches {
-        let own = run_stretch(alloc, allocator, gate, core, &mut desk, stretch)?;
+        let own = run_stretch(alloc, allocator, gate, core, desk, stretch)?;
         answers.push(own)?;
     }
-    Ok(Done { desk, answers })
+    Ok(answers)
 }
 
 // Runs the requests of one core in a stretch, in order.

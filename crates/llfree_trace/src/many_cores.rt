@@ -10,7 +10,7 @@ ghost use Rattle.trace_text.specs.Trace.{core_count, ranges_in};
 use crate::gate::Gate;
 use crate::outcome::Outcome;
 use crate::progress::{Progress, run_all};
-use crate::run_desks::{finish_all, open_desks};
+use crate::run_desks::{close_desks, open_desks};
 use core_frames::Allocator;
 use frame_words::{Fault, Geometry};
 use std::alloc::Global;
@@ -44,9 +44,6 @@ pub fn run_trace<G: Gate, R: Threads + Wait>(
     let start = Progress { desks, answers };
     let end = run_all(rt, alloc, &allocator, gate, start, trace)?;
     let Progress { desks, answers } = end;
-    let cores = finish_all(alloc, desks)?;
-    match allocator.close(alloc, cores) {
-        Ok(image) => Ok(Outcome { answers, image }),
-        Err(_) => Err(Fault::NoMemory),
-    }
+    let image = close_desks(alloc, allocator, desks)?;
+    Ok(Outcome { answers, image })
 }

@@ -1,13 +1,15 @@
 //! Runs on several cores from a reader to a writer.
 
-ghost use Rattle.std.specs.Prelude.{◌≡◌, IfErr, IfOk, OnErr, OnOk};
+ghost use Rattle.std.specs.Prelude.{◌≡◌, ◌≤◌, IfErr, IfOk, OnErr, OnOk};
 ghost use Rattle.std.specs.Io.KnownBytes.{Appends};
 ghost use Rattle.std.specs.List.{flat_map};
 ghost use Rattle.std.specs.Result.{is_err};
+ghost use Rattle.core_frames.specs.Ranges.{IsUnopenedFor};
 ghost use Rattle.frame_text.specs.Devices.{WritesFront, device_of, has_failed};
 ghost use Rattle.held_blocks.specs.Desk.{MayRefuse};
-ghost use Rattle.llfree_trace.specs.RunText.{ExplainsRun, IsRunOf, shown_of};
+ghost use Rattle.llfree_trace.specs.RunText.{ExplainsRun, IsRunOf, ShowsRunOf, shown_of};
 ghost use Rattle.llfree_trace.specs.Streams.{Filters};
+ghost use Rattle.trace_text.specs.Trace.{core_count, ranges_in};
 
 use crate::gate::Gate;
 use crate::many_cores::run_trace;
@@ -20,7 +22,7 @@ use std::alloc::Global;
 use std::io::{Read, Write};
 use std::sync::Wait;
 use std::thread::Threads;
-use trace_text::{answers_apart, parse_parts};
+use trace_text::{Trace, answers_apart, parse_parts};
 
 /// Runs the trace that the reader has left, each core on a thread of its own in each round, and
 /// writes what is to be shown.
@@ -79,7 +81,24 @@ fn run_many_text<Rt: Threads + Wait, G: Gate>(
     if parts.len() != 1 {
         return run_in_parts(rt, alloc, geometry, show, parts.as_slice(), gate);
     }
-    let outcome = run_trace(rt, alloc, geometry, &parts[0], gate)?;
+    run_whole(rt, alloc, geometry, show, &parts[0], gate)
+}
+
+// Runs a trace, and makes the text of what is shown of it, as one piece.
+fn run_whole<Rt: Threads + Wait, G: Gate>(
+    rt: &Rt,
+    alloc: Global,
+    geometry: Geometry,
+    show: Show,
+    trace: &Trace,
+    gate: &G,
+) -> Result<Vec<Vec<u8>>, Fault>
+    requires cores { core_count trace.now ≤ geometry.cores }
+    ensures shows { IfOk result (λ texts.
+        ShowsRunOf geometry show trace.now (flat_map (λ t. t.items) texts.items)) }
+    ensures refused { IfErr result (IsUnopenedFor geometry (ranges_in trace.now)) }
+{
+    let outcome = run_trace(rt, alloc, geometry, trace, gate)?;
     let text = shown_apart(rt, alloc, show, &outcome)?;
     let mut pieces = Vec::new(alloc);
     pieces.push(text)?;

@@ -1,17 +1,18 @@
 //! A run of a trace on one core, on the calling thread.
 
-ghost use Rattle.std.specs.Prelude.{◌≡◌, ◌≤◌, IfErr, IfOk};
+ghost use Rattle.std.specs.Prelude.{◌≡◌, ◌≤◌, length, IfErr, IfOk};
 ghost use Rattle.core_frames.specs.Ranges.{IsUnopenedFor, MayHoldBack};
 ghost use Rattle.frame_model.specs.Laws.{AddsUp};
 ghost use Rattle.held_blocks.specs.Desk.{MayRefuse};
+ghost use Rattle.llfree_trace.specs.Desk.{IsLawful, IsSameMemory, RunsFirst};
 ghost use Rattle.llfree_trace.specs.Outcome.{IsAnsweredBy, MustRefuseHere, key_under};
-ghost use Rattle.trace_text.specs.Trace.{core_count, ranges_in};
+ghost use Rattle.trace_text.specs.Trace.{core_count, most_records, ranges_in};
 
 use crate::desk::PlainDesk;
 use crate::outcome::Outcome;
 use frame_words::{Fault, Geometry};
 use std::alloc::Global;
-use trace_text::Trace;
+use trace_text::{Answer, Line, Trace};
 
 /// Runs a trace that names no core but 0.
 ///
@@ -28,14 +29,28 @@ pub fn run_one(alloc: Global, geometry: Geometry, trace: &Trace) -> Result<Outco
     ensures refused { IfErr result (IsUnopenedFor geometry (ranges_in trace.now)) }
 {
     let mut desk = PlainDesk::open(alloc, geometry, trace.ranges())?;
+    let answers = run_records(alloc, &mut desk, trace.lines())?;
+    let image = desk.close(alloc)?;
+    Ok(Outcome { answers, image })
+}
+
+// Runs all records.
+fn run_records(alloc: Global, desk: &mut PlainDesk, lines: &[Line]) -> Result<Vec<Answer>, Fault>
+    requires few { length lines.now ≤ most_records }
+    requires core { core_count lines.now ≤ 1 }
+    requires lawful { IsLawful desk.old }
+    ensures run { IfOk result (λ all. RunsFirst desk.old 1 lines.now all.items desk.new) }
+    ensures lawful { IfOk result (λ all. IsLawful desk.new) }
+    ensures memory { IsSameMemory desk.old desk.new }
+    ensures fault { IfErr result (λ e. e ≡ Fault.NoMemory) }
+{
     let mut answers = Vec::new(alloc);
     let mut number: u32 = 0;
-    for line in trace.lines() {
+    for line in lines {
         number += 1;
         if let Some(answer) = desk.run(number, line)? {
             answers.push(answer)?;
         }
     }
-    let image = desk.close(alloc)?;
-    Ok(Outcome { answers, image })
+    Ok(answers)
 }

@@ -1,20 +1,21 @@
 //! A run of a trace of one round that is in parts: its answers are spelled without a list of all.
 
-ghost use Rattle.std.specs.Prelude.{◌≡◌, ◌≤◌, ◌<◌, length, IfErr, IfOk};
+ghost use Rattle.std.specs.Prelude.{◌≡◌, ◌≤◌, ◌<◌, length, vec_len, IfErr, IfOk};
 ghost use Rattle.std.specs.List.{All, flat_map};
-ghost use Rattle.llfree_trace.specs.Rounds.{Fitting, HasLists, MaySpell, all_answers, asks_of};
-ghost use Rattle.llfree_trace.specs.RunText.{ShowsAnswers, ShowsRunOf, last_of};
+ghost use Rattle.llfree_trace.specs.Rounds.{Fitting, HasLists, MayRunAll, MaySpell};
+ghost use Rattle.llfree_trace.specs.Rounds.{all_answers, asks_of};
+ghost use Rattle.llfree_trace.specs.RunText.{IsShownRound, ShowsAnswers, ShowsRunOf, last_of};
 ghost use Rattle.trace_text.specs.Parts.{IsOneRound, lines_of};
 ghost use Rattle.trace_text.specs.Trace.{core_count, most_records};
 
 use crate::gate::Gate;
 use crate::merge::parted;
 use crate::rounds::run_round;
-use crate::run_desks::{finish_all, open_desks};
+use crate::run_desks::{close_desks, open_desks};
 use crate::streams::{Show, frames_in};
 use crate::stretch_texts::spell_round;
 use crate::stretches::{Stretch, stretches_of};
-use core_frames::Allocator;
+use core_frames::{Allocator, Desk};
 use frame_core::Image;
 use frame_text::image_text;
 use frame_words::{Fault, Geometry};
@@ -42,17 +43,43 @@ pub(crate) fn run_in_parts<G: Gate, R: Threads + Wait>(
     let stretches = stretches_of(alloc, parts)?;
     let (allocator, cores) = Allocator::open(alloc, geometry)?;
     let desks = open_desks(alloc, &allocator, cores)?;
-    let done = run_round(rt, alloc, &allocator, gate, desks, stretches.as_slice())?;
-    let (desks, told) = parted(alloc, done)?;
-    let size = stretches.len() / geometry.cores() as usize + 1;
-    let answers = answers_shown(rt, alloc, show, stretches.as_slice(), told.as_slice(), size)?;
-    let cores = finish_all(alloc, desks)?;
-    let Ok(image) = allocator.close(alloc, cores) else {
-        return Err(Fault::NoMemory);
-    };
-    let mut texts = answers;
+    let (desks, mut texts) = run_shown(
+        rt,
+        alloc,
+        &allocator,
+        gate,
+        desks,
+        stretches.as_slice(),
+        show,
+    )?;
+    let image = close_desks(alloc, allocator, desks)?;
     texts.push(last_text(alloc, show, &image)?)?;
     Ok(texts)
+}
+
+// Runs a round, and makes the text of its answers, where they are shown, in pieces.
+fn run_shown<G: Gate, R: Threads + Wait>(
+    rt: &R,
+    alloc: Global,
+    allocator: &Allocator,
+    gate: &G,
+    desks: Vec<Desk>,
+    stretches: &[Stretch],
+    show: Show,
+) -> Result<(Vec<Desk>, Vec<Vec<u8>>), Fault>
+    requires some { 0 < vec_len desks }
+    requires few { vec_len desks ≤ 64 }
+    requires all { MayRunAll allocator.now desks.items stretches.now }
+    requires inside { All (λ k. k.core < length desks.items) (asks_of stretches.now) }
+    ensures shown { IfOk result (λ r. IsShownRound allocator.now desks.items show stretches.now
+        r.0.items (flat_map (λ t. t.items) r.1.items)) }
+    ensures fault { IfErr result (λ e. e ≡ Fault.NoMemory) }
+{
+    let size = stretches.len() / desks.len() + 1;
+    let done = run_round(rt, alloc, allocator, gate, desks, stretches)?;
+    let (desks, told) = parted(alloc, done)?;
+    let texts = answers_shown(rt, alloc, show, stretches, told.as_slice(), size)?;
+    Ok((desks, texts))
 }
 
 // The text of the answers, where they are shown, in pieces.

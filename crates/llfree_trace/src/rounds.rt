@@ -1,7 +1,7 @@
 //! A round: the requests of each core on a thread of their own.
 
-ghost use Rattle.std.specs.Prelude.{◌≡◌, ◌+◌, ◌≤◌, vec_len, IfOk, IfErr};
-ghost use Rattle.llfree_trace.specs.Rounds.{IsPromiseOf, MayRun, MayRunAll, Ran, RanAll};
+ghost use Rattle.std.specs.Prelude.{◌≡◌, ◌≤◌, [], vec_len, IfOk, IfErr};
+ghost use Rattle.llfree_trace.specs.Rounds.{Follows, IsPromiseOf, MayRun, MayRunAll, Ran, RanAll};
 
 use crate::gate::Gate;
 use crate::lines::{Done, has_lines, run_lines};
@@ -88,15 +88,31 @@ fn run_cores<'s, E, G: Gate, R: Threads>(
     };
     let core = desks.len() as u32;
     if !has_lines(core, stretches) {
-        let mut all = run_cores(scope, rt, alloc, allocator, gate, desks, stretches)?;
-        let answers = Vec::new(alloc);
-        all.push(Done { desk, answers })?;
-        return Ok(all);
+        let others = run_cores(scope, rt, alloc, allocator, gate, desks, stretches);
+        return followed(others, Ok(idle(alloc, desk)));
     }
     let child = start(scope, alloc, allocator, gate, core, desk, stretches)?;
     // No `?` here: the thread is joined first.
     let others = run_cores(scope, rt, alloc, allocator, gate, desks, stretches);
-    let done = child.join(rt);
+    followed(others, child.join(rt))
+}
+
+// What a core without requests does.
+fn idle(alloc: Global, desk: Desk) -> Done
+    ensures desk { result.desk ≡ desk }
+    ensures answers { result.answers.items ≡ [] }
+{
+    let answers = Vec::new(alloc);
+    Done { desk, answers }
+}
+
+// What was done on the cores below, and then what was done on this one.
+fn followed(others: Result<Vec<Done>, Fault>, done: Result<Done, Fault>) -> Result<Vec<Done>, Fault>
+    requires others { IfErr others (λ e. e ≡ Fault.NoMemory) }
+    requires done { IfErr done (λ e. e ≡ Fault.NoMemory) }
+    ensures all { IfOk result (λ all. Follows others done all.items) }
+    ensures fault { IfErr result (λ e. e ≡ Fault.NoMemory) }
+{
     let mut all = others?;
     all.push(done?)?;
     Ok(all)

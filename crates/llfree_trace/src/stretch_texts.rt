@@ -1,6 +1,6 @@
 //! The text of the answers of a round, a piece for each stretch, made on several threads.
 
-ghost use Rattle.std.specs.Prelude.{◌≡◌, ◌<◌, ◌≤◌, ◌-◌, length, IfErr, IfOk};
+ghost use Rattle.std.specs.Prelude.{◌≡◌, ◌<◌, ◌≤◌, ◌-◌, ◌+◌, length, IfErr, IfOk};
 ghost use Rattle.std.specs.List.{flat_map};
 ghost use Rattle.llfree_trace.specs.Rounds.{IsSpellingOf, MaySpell, Spells};
 
@@ -142,8 +142,25 @@ fn spell(
 {
     let mut texts = Vec::with_capacity(alloc, end - from)?;
     for place in from..end {
-        let answers = merge(alloc, &stretches[place], place, told)?;
-        texts.push(rows_text(alloc, answers.as_slice())?)?;
+        texts.push(spell_one(alloc, stretches, told, place)?)?;
     }
     Ok(texts)
+}
+
+// Spells the answers to the stretch at this place.
+fn spell_one(
+    alloc: Global,
+    stretches: &[Stretch],
+    told: &[Vec<Vec<Answer>>],
+    place: usize,
+) -> Result<Vec<u8>, Fault>
+    requires place { place < length stretches.now }
+    requires may { MaySpell stretches.now told.now }
+    ensures spells { IfOk result (λ text.
+        Spells stretches.now told.now place (place + 1) text.items) }
+    ensures fault { IfErr result (λ e. e ≡ Fault.NoMemory) }
+{
+    let answers = merge(alloc, &stretches[place], place, told)?;
+    let text = rows_text(alloc, answers.as_slice())?;
+    Ok(text)
 }

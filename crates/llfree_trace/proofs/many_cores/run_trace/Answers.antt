@@ -6,7 +6,7 @@ use Rattle.core_frames.specs.Desks.{core_of}
 use Rattle.trace_text.specs.Trace.{ranges_in}
 use Rattle.trace_text.proofs.Cores.{cores_in_at}
 use Rattle.llfree_trace.proofs.Ended.{adds_up, image_is, is_answered}
-use Rattle.llfree_trace.proofs.NewDesks.{all_cores, none_lent}
+use Rattle.llfree_trace.proofs.NewDesks.{none_lent}
 use Rattle.llfree_trace.proofs.many_cores.run_trace.Goals as goal
 
 pub run_all-requires-clause-inside : goal.run_all-requires-clause-inside
@@ -16,41 +16,39 @@ run_all-requires-clause-inside g c κs within =
     omega (arith, ap length c.in_ok-desks.ensures.cores, length-map desks.items core_of, c.in_ok-allocator.ensures.opened.count) in
     λ k d lt. omega (arith, cores_in_at c.args.trace.now k d lt, c.requires, wide, desks.ok)
 
-pub close-requires : goal.close-requires
-close-requires g c =
-    all_cores c.in_ok-allocator.allocator c.in_ok-end.end.desks.items c.in_ok-cores.cores.items c.in_ok-cores.ensures.cores
-    c.in_ok-end.ensures.goes.desks
+pub close_desks-requires : goal.close_desks-requires
+close_desks-requires g c = c.in_ok-end.ensures.goes.desks
 
-pub returns-in-Ok-clause-fits : goal.returns-in-Ok-clause-fits
-returns-in-Ok-clause-fits g c =
+pub returns-clause-fits : goal.returns-clause-fits
+returns-clause-fits g c =
     let a = c.in_ok-allocator.allocator in
     let opened = c.in_ok-allocator.ensures.opened in
     let goes = c.in_ok-end.ensures.goes in
-    let closing = rw c.in_ok-cores.ensures.cores at c.in-Ok.ensures.ok in
+    let closing = c.in_ok-image.ensures.closing in
     let start = c.in_ok-desks.desks in
     let count : vec_len c.in_ok-allocator.cores ≡ c.args.geometry.cores = omega (arith, opened.count, c.in_ok-allocator.cores.ok) in
     let begins = rw count at c.in_ok-desks.ensures.lists in
-    is_answered a c.in_ok-end.end.desks.items c.in-Ok.image (ap (λ (k : Key). k.sealed) opened.memory) goes.desks closing
+    is_answered a c.in_ok-end.end.desks.items c.in_ok-image.image (ap (λ (k : Key). k.sealed) opened.memory) goes.desks closing
     (goes.lent ∙ none_lent a start.items c.in_ok-allocator.cores.items c.in_ok-desks.ensures.cores opened.each)
     c.args.geometry c.args.trace.now _ c.in_ok-end.end (opened.memory ∙ ap (sealed_key c.args.geometry) c.ranges-2.ensures)
     goes refl c.new-answers.ensures.items begins
 
-pub returns-in-Ok-clause-geometry : goal.returns-in-Ok-clause-geometry
-returns-in-Ok-clause-geometry g c =
+pub returns-clause-geometry : goal.returns-clause-geometry
+returns-clause-geometry g c =
     let a = c.in_ok-allocator.allocator in
     let opened = c.in_ok-allocator.ensures.opened in
     let goes = c.in_ok-end.ensures.goes in
-    let closing = rw c.in_ok-cores.ensures.cores at c.in-Ok.ensures.ok in
-    image_is a c.in_ok-end.end.desks.items c.in-Ok.image (ap (λ (k : Key). k.sealed) opened.memory) goes.desks closing
+    let closing = c.in_ok-image.ensures.closing in
+    image_is a c.in_ok-end.end.desks.items c.in_ok-image.image (ap (λ (k : Key). k.sealed) opened.memory) goes.desks closing
     (goes.lent ∙ none_lent a c.in_ok-desks.desks.items c.in_ok-allocator.cores.items c.in_ok-desks.ensures.cores opened.each)
     c.args.geometry (ranges_in c.args.trace.now) (opened.memory ∙ ap (sealed_key c.args.geometry) c.ranges-2.ensures)
 
-pub returns-in-Ok-clause-counters : goal.returns-in-Ok-clause-counters
-returns-in-Ok-clause-counters g c =
+pub returns-clause-counters : goal.returns-clause-counters
+returns-clause-counters g c =
     let a = c.in_ok-allocator.allocator in
     let opened = c.in_ok-allocator.ensures.opened in
     let goes = c.in_ok-end.ensures.goes in
-    let closing = rw c.in_ok-cores.ensures.cores at c.in-Ok.ensures.ok in
-    adds_up a c.in_ok-end.end.desks.items c.in-Ok.image (ap (λ (k : Key). k.sealed) opened.memory) goes.desks closing
+    let closing = c.in_ok-image.ensures.closing in
+    adds_up a c.in_ok-end.end.desks.items c.in_ok-image.image (ap (λ (k : Key). k.sealed) opened.memory) goes.desks closing
     (goes.lent ∙ none_lent a c.in_ok-desks.desks.items c.in_ok-allocator.cores.items c.in_ok-desks.ensures.cores opened.each)
     c.args.geometry c.args.trace.now (opened.memory ∙ ap (sealed_key c.args.geometry) c.ranges-2.ensures)

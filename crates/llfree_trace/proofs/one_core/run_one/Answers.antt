@@ -1,79 +1,27 @@
-use Rattle.std.proofs.Common.{◌≡◌, ◌+◌, ◌<◌, ◌≤◌, ◌∷◌, ◌++◌, ◌-◌, ◌∙◌, [], length, replicate, take}
-use Rattle.std.proofs.Common.{true, refl, arith, rules}
-use Rattle.std.specs.Result.{is_ok}
-use Rattle.std.specs.Option.{option_to_list}
-use Rattle.std.proofs.lemmas.List.{append-nil, length-take, take_all, take_more}
-use Rattle.llfree_trace.specs.Outcome.{Runs}
-use Rattle.trace_text.proofs.Cores.{cores_in_at}
+use Rattle.std.proofs.Common.{◌-◌, ◌∷◌, ◌∙◌, [], replicate, arith}
 use Rattle.llfree_trace.proofs.Running.{blocks_of_one, first_list, may_runs, none_lawful}
-use Rattle.llfree_trace.proofs.Running.{renumbered, runs_append}
 use Rattle.llfree_trace.proofs.one_core.run_one.Goals as goal
-use Rattle.llfree_trace.proofs.one_core.run_one.Goals.{in-Some+in_ok-push, in_default}
 
-pub loop-line-init : goal.loop-line-init
-unfolding Runs
-loop-line-init c =
-    rw (c.new-answers.ensures.items, c.in_ok-desk.ensures.empty) (record {
-      runs = first_list c.args.geometry.cores (omega arith);
-      lawful = none_lawful _;
-      count = refl;
-      geometry = c.in_ok-desk.ensures.geometry.0;
-      ranges = c.in_ok-desk.ensures.geometry.1 ∙ c.ranges-2.ensures;
-    })
-
-pub run-requires-clause-core : goal.run-requires-clause-core
-run-requires-clause-core c =
-    let all = c.lines-line-items.ensures.value in
-    let i = c.loop-line.line-index in
-    let within : i < length c.args.trace.now = rw all at c.loop-line-test.true in
-    let item = rw all at c.line-item.is in
-    let named = rw (← item) at (cores_in_at c.args.trace.now i c.line-item.result within) in
-    omega (arith, named, c.requires)
-
-pub loop-line-preserved : goal.loop-line-preserved
-loop-line-preserved c =
-    let inv = c.loop-line.invariant in
-    let i = c.loop-line.line-index in
-    let lines = c.args.trace.now in
-    let all = c.lines-line-items.ensures.value in
-    let within : i < length lines = rw all at c.loop-line-test.true in
-    let item = rw all at c.line-item.is in
-    let more = take_more lines i c.line-item.result within in
-    let size = length-take i lines in
-    let same = c.in_ok-answer.ensures.memory in
-    let grown : c.match-branch-3.answers.items ≡ c.loop-line.answers.items ++ option_to_list c.in_ok-answer.field-0 =
-    elim c.match-branch-3.branch [
-      | in-Some+in_ok-push w ↦
-          let good : is_ok w.push.result ≡ true = search rules in
-          let items = rw good at w.push.ensures.items in
-          rw (w.answers-is, items, w.in-Some.is) refl
-      | in_default w ↦ rw (w.answers-is, w.in_default.is, append-nil) refl
-    ] in
-    let next = rw (inv.geometry, inv.ranges) at (c.in_ok-answer.ensures.run (replicate (c.args.geometry.cores - 1) [])) in
-    let count : c.loop-line.number + 1 ≡ 1 + length (take i lines) = omega arith in
-    let run = runs_append _ _ 1 _ (take i lines) c.loop-line.answers.items _ _ _ _ inv.runs (renumbered _ _ _ _ _ _ _ _ count next) in
-    record {
-      runs = rw (more, ← item, grown) run;
-      lawful = c.in_ok-answer.ensures.lawful;
-      count = omega arith;
-      geometry = same.0 ∙ inv.geometry;
-      ranges = same.1 ∙ inv.ranges;
-    }
+pub run_records-requires-clause-lawful : goal.run_records-requires-clause-lawful
+run_records-requires-clause-lawful c = rw c.in_ok-desk.ensures.empty (none_lawful _)
 
 -- what the list and the image say at the end
 pub returns-clause-exact : goal.returns-clause-exact
 returns-clause-exact c =
-    let inv = c.loop-line.invariant in
-    let all = c.lines-line-items.ensures.value in
-    let ended : length c.args.trace.now ≤ c.loop-line.line-index = rw all at c.loop-line-test.false in
-    let whole = take_all c.loop-line.line-index c.args.trace.now ended in
-    let same = c.in_ok-image.ensures.geometry ∙ inv.geometry in
-    let others = blocks_of_one c.loop-line.desk.list (c.args.geometry.cores - 1) in
+    let opened = c.in_ok-desk.ensures in
+    let ran = c.in_ok-answers.ensures in
+    let desk = c.run_records.new.desk in
+    let others = replicate (c.args.geometry.cores - 1) [] in
+    let begun = rw (opened.empty, opened.geometry.0, opened.geometry.1, c.ranges-2.ensures, c.lines.ensures.value) at (ran.run others) in
+    let same = ran.memory.0 ∙ opened.geometry.0 in
+    let ranges = ran.memory.1 ∙ opened.geometry.1 ∙ c.ranges-2.ensures in
+    let key = c.in_ok-image.ensures.geometry ∙ same in
+    let alone = blocks_of_one desk.list (c.args.geometry.cores - 1) in
     record {
-      lists = c.loop-line.desk.list ∷ replicate (c.args.geometry.cores - 1) [];
-      runs = rw same (rw whole at inv.runs);
-      disjoint = rw (same, others) (rw (inv.geometry, inv.ranges) at inv.lawful);
-      holds = rw (same, others) (rw (inv.geometry, inv.ranges) at c.in_ok-image.ensures.holds);
+      lists = desk.list ∷ others;
+      runs = rw (key, first_list c.args.geometry.cores (omega arith)) begun;
+      disjoint = rw (key, alone) (rw (same, ranges) at ran.lawful);
+      holds = rw (key, alone) (rw (same, ranges) at c.in_ok-image.ensures.holds);
     }
 
 pub returns-clause-fits : goal.returns-clause-fits
@@ -88,6 +36,8 @@ returns-clause-fits c =
 
 pub returns-clause-counters : goal.returns-clause-counters
 returns-clause-counters c =
-    let inv = c.loop-line.invariant in
-    let same = c.in_ok-image.ensures.geometry ∙ inv.geometry in
-    rw same (rw (inv.geometry, inv.ranges) at c.in_ok-image.ensures.counters)
+    let opened = c.in_ok-desk.ensures in
+    let ran = c.in_ok-answers.ensures in
+    let same = ran.memory.0 ∙ opened.geometry.0 in
+    let ranges = ran.memory.1 ∙ opened.geometry.1 ∙ c.ranges-2.ensures in
+    rw (c.in_ok-image.ensures.geometry ∙ same) (rw (same, ranges) at c.in_ok-image.ensures.counters)

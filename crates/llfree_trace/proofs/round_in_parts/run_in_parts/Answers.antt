@@ -14,51 +14,21 @@ use Rattle.llfree_trace.proofs.Ended.{adds_up, image_is, runs_answered}
 use Rattle.llfree_trace.proofs.GoingOn.{all_asks}
 use Rattle.llfree_trace.proofs.Interleaving.{round_runs}
 use Rattle.llfree_trace.proofs.Listed.{flat_push}
-use Rattle.llfree_trace.proofs.Merging.{few_lists, fitting, may_spell, round_ran}
-use Rattle.llfree_trace.proofs.NewDesks.{all_cores, none_lent}
+use Rattle.llfree_trace.proofs.NewDesks.{none_lent}
 use Rattle.llfree_trace.proofs.RoundParts.{cores_inside, no_ranges, one_round, shown_is}
 use Rattle.llfree_trace.proofs.round_in_parts.run_in_parts.Goals as goal
 
-pub answers_shown-requires-clause-may : goal.answers_shown-requires-clause-may
-answers_shown-requires-clause-may g c =
-    let a = c.in_ok-allocator.allocator in
-    let desks = c.in_ok-desks.desks.items in
-    let stretches = c.in_ok-stretches.stretches.items in
-    let wide : length desks ≡ c.args.geometry.cores =
-    omega (arith, ap length c.in_ok-desks.ensures.cores, length-map desks core_of, c.in_ok-allocator.ensures.opened.count) in
-    let inside = cores_inside stretches (lines_of c.args.parts.now) (length desks) c.in_ok-stretches.ensures.asks
-    (one_round c.args.parts.now c.requires.rounds) (omega (arith, wide, c.requires.cores)) in
-    let ran = rw c.as_slice.ensures.value at c.in_ok-done.ensures.ran in
-    rw (c.as_slice-2.ensures.value, c.as_slice-3.ensures.value, c.in_ok-desks-2.ensures.told)
-    (may_spell a desks stretches c.in_ok-done.done.items ran c.in_ok-stretches.ensures.runnable inside)
+pub run_shown-requires-clause-inside : goal.run_shown-requires-clause-inside
+run_shown-requires-clause-inside g c κs within =
+    let desks = c.in_ok-desks.desks in
+    let wide : length desks.items ≡ c.args.geometry.cores =
+    omega (arith, ap length c.in_ok-desks.ensures.cores, length-map desks.items core_of, c.in_ok-allocator.ensures.opened.count) in
+    rw c.as_slice.ensures.value
+    (cores_inside c.in_ok-stretches.stretches.items (lines_of c.args.parts.now) (length desks.items) c.in_ok-stretches.ensures.asks
+    (one_round c.args.parts.now c.requires.rounds) (omega (arith, wide, c.requires.cores)))
 
-pub answers_shown-requires-clause-fit : goal.answers_shown-requires-clause-fit
-answers_shown-requires-clause-fit g c =
-    let a = c.in_ok-allocator.allocator in
-    let desks = c.in_ok-desks.desks.items in
-    let stretches = c.in_ok-stretches.stretches.items in
-    let wide : length desks ≡ c.args.geometry.cores =
-    omega (arith, ap length c.in_ok-desks.ensures.cores, length-map desks core_of, c.in_ok-allocator.ensures.opened.count) in
-    let inside = cores_inside stretches (lines_of c.args.parts.now) (length desks) c.in_ok-stretches.ensures.asks
-    (one_round c.args.parts.now c.requires.rounds) (omega (arith, wide, c.requires.cores)) in
-    let ran = rw c.as_slice.ensures.value at c.in_ok-done.ensures.ran in
-    rw (c.as_slice-2.ensures.value, c.as_slice-3.ensures.value, c.in_ok-desks-2.ensures.told)
-    (fitting a desks stretches c.in_ok-done.done.items ran inside)
-
-pub answers_shown-requires-clause-all : goal.answers_shown-requires-clause-all
-answers_shown-requires-clause-all g c =
-    let ran = rw c.as_slice.ensures.value at c.in_ok-done.ensures.ran in
-    rw (c.as_slice-2.ensures.value, c.as_slice-3.ensures.value, c.in_ok-desks-2.ensures.told)
-    (few_lists c.in_ok-allocator.allocator c.in_ok-desks.desks.items c.in_ok-stretches.stretches.items c.in_ok-done.done.items ran)
-
-pub close-requires : goal.close-requires
-close-requires g c =
-    let stretches = c.in_ok-stretches.stretches.items in
-    let ran = rw c.as_slice.ensures.value at c.in_ok-done.ensures.ran in
-    let shows = rw (c.as_slice-2.ensures.value, c.as_slice-3.ensures.value, c.in_ok-desks-2.ensures.told) at c.in_ok-answers.ensures.shows in
-    let round = round_ran c.in_ok-allocator.allocator c.in_ok-desks.desks.items stretches c.in_ok-done.done.items shows.answers
-    c.in_ok-desks-2.desks.items ran shows.merged c.in_ok-desks-2.ensures.desks in
-    all_cores c.in_ok-allocator.allocator c.in_ok-desks-2.desks.items c.in_ok-cores.cores.items c.in_ok-cores.ensures.cores round.desks
+pub close_desks-requires : goal.close_desks-requires
+close_desks-requires g c = c.in_ok-desks-2.ensures.shown.round.desks
 
 pub returns-clause-shows : goal.returns-clause-shows
 returns-clause-shows g c text says =
@@ -66,19 +36,17 @@ returns-clause-shows g c text says =
     let opened = c.in_ok-allocator.ensures.opened in
     let old = c.in_ok-desks.desks.items in
     let new = c.in_ok-desks-2.desks.items in
-    let stretches = c.in_ok-stretches.stretches.items in
     let lines : List Line = lines_of c.args.parts.now in
     let one = one_round c.args.parts.now c.requires.rounds in
     let geometry = c.args.geometry in
-    let image = c.in-Ok.image in
+    let image = c.in_ok-image.image in
     let wide : length old ≡ geometry.cores = omega (arith, ap length c.in_ok-desks.ensures.cores, length-map old core_of, opened.count) in
-    let ran = rw c.as_slice.ensures.value at c.in_ok-done.ensures.ran in
-    let shows = rw (c.as_slice-2.ensures.value, c.as_slice-3.ensures.value, c.in_ok-desks-2.ensures.told) at c.in_ok-answers.ensures.shows in
-    let round = round_ran a old stretches c.in_ok-done.done.items shows.answers new ran shows.merged c.in_ok-desks-2.ensures.desks in
-    let in_order = subst (λ (l : List Ask). RoundRan a old l shows.answers new) c.in_ok-stretches.ensures.asks round in
+    let shown = rw c.as_slice.ensures.value at c.in_ok-desks-2.ensures.shown in
+    let round = shown.round in
+    let in_order = subst (λ (l : List Ask). RoundRan a old l shown.answers new) c.in_ok-stretches.ensures.asks round in
     let inside : All (λ l. cores_in l ≤ length old) lines = λ k d lt. omega (arith, cores_in_at lines k d lt, c.requires.cores, wide) in
-    let runs = round_runs a old 1 lines shows.answers new c.in_ok-desks.ensures.desks (all_asks lines one) inside in_order in
-    let closing = rw c.in_ok-cores.ensures.cores at c.in-Ok.ensures.ok in
+    let runs = round_runs a old 1 lines shown.answers new c.in_ok-desks.ensures.desks (all_asks lines one) inside in_order in
+    let closing = c.in_ok-image.ensures.closing in
     let sealed = ap (λ (k : Key). k.sealed) opened.memory in
     let lent = round.lent ∙ none_lent a old c.in_ok-allocator.cores.items c.in_ok-desks.ensures.cores opened.each in
     let memory : memory_of a ≡ sealed_key geometry (ranges_in lines) =
@@ -87,13 +55,13 @@ returns-clause-shows g c text says =
     let begins = rw count at c.in_ok-desks.ensures.lists in
     record {
       lines = lines;
-      answers = shows.answers;
+      answers = shown.answers;
       image = image;
       says = says;
       of = image_is a new image sealed round.desks closing lent geometry (ranges_in lines) memory;
       ranges = rw (no_ranges lines one) (record { few = opened.is_key.few_ranges; apart = opened.is_key.ranges });
-      fits = runs_answered a new image sealed round.desks closing lent geometry lines old shows.answers memory runs begins;
+      fits = runs_answered a new image sealed round.desks closing lent geometry lines old shown.answers memory runs begins;
       counters = adds_up a new image sealed round.desks closing lent geometry lines memory;
-      spells = rw (c.in_ok-push.ensures.items, flat_push (λ t. t.items) c.in_ok-answers.answers.items c.in_ok-last_text.field-0)
-          (ap₂ ◌++◌ shows.shows c.in_ok-last_text.ensures.text ∙ sym (shown_is c.args.show shows.answers image));
+      spells = rw (c.in_ok-push.ensures.items, flat_push (λ t. t.items) c.in_ok-desks-2.texts.items c.in_ok-last_text.field-0)
+          (ap₂ ◌++◌ shown.shows c.in_ok-last_text.ensures.text ∙ sym (shown_is c.args.show shown.answers image));
     }

@@ -1,5 +1,5 @@
-use Rattle.std.proofs.Common.{rules, ◌≡◌, length, refl}
-use Rattle.llfree_trace.proofs.Workers.{front_desks, last_ran, none_ran}
+use Rattle.std.proofs.Common.{◌≡◌, Ok, length, rules}
+use Rattle.llfree_trace.proofs.Workers.{follow_ran, front_desks, none_ran}
 use Rattle.llfree_trace.proofs.rounds.+run_cores.Goals as goal
 
 pub start-requires-clause-run : goal.start-requires-clause-run
@@ -19,14 +19,16 @@ returns-then-not-has_lines-clause-ran g t c =
     let core = c.len-core.result in
     let place : core ≡ length c.pop.new.self.items = search rules in
     let desk = (front_desks _ _ _ _ c.in-Some.ensures.items c.requires.all.desks).1 in
-    let one = none_ran c.args.allocator.now core c.args.stretches.now c.in-Some.desk _ desk c.if-not-has_lines.ensures refl
-    c.new-answers.ensures.items in
-    last_ran _ _ _ c.args.stretches.now _ _ core _ _ c.in-Some.ensures.items place c.in_ok-push.ensures.items c.in_ok-all.ensures.ran one
+    let one = none_ran c.args.allocator.now core c.args.stretches.now c.in-Some.desk _ desk c.if-not-has_lines.ensures c.idle.ensures.desk
+    c.idle.ensures.answers in
+    follow_ran _ _ _ c.args.stretches.now core _ _ (Ok c.idle.result) c.followed.result c.in-Some.ensures.items place
+    c.run_cores-others.ensures.ran one c.followed.ensures.all
 
 pub returns-clause-ran : goal.returns-clause-ran
 returns-clause-ran g t c =
     let core = c.len-core.result in
     let place : core ≡ length c.pop.new.self.items = search rules in
     let is = c.in_ok-child.ensures.promise in
-    let one = rw (is.allocator, is.core, is.was, is.stretches) at c.in_ok-done.ensures.0 in
-    last_ran _ _ _ c.args.stretches.now _ _ core _ _ c.in-Some.ensures.items place c.in_ok-push-2.ensures.items c.in_ok-all-2.ensures.ran one
+    let one = rw (is.allocator, is.core, is.was, is.stretches) at c.join.ensures.0 in
+    follow_ran _ _ _ c.args.stretches.now core _ _ c.join.result c.followed-2.result c.in-Some.ensures.items place
+    c.run_cores-others-2.ensures.ran one c.followed-2.ensures.all

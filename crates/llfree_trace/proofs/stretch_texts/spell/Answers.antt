@@ -1,6 +1,6 @@
 use Rattle.std.proofs.Common.{◌+◌, arith}
 use Rattle.llfree_trace.proofs.Listed.{flat_push}
-use Rattle.llfree_trace.proofs.Spelling.{spells_both, spells_none, spells_one}
+use Rattle.llfree_trace.proofs.Spelling.{spells_both, spells_none}
 use Rattle.llfree_trace.proofs.stretch_texts.spell.Goals as goal
 
 pub loop-place-init : goal.loop-place-init
@@ -15,12 +15,10 @@ pub loop-place-preserved : goal.loop-place-preserved
 loop-place-preserved c =
     let inv = c.loop-place.invariant in
     let place = c.loop-place.place in
-    let text = c.in_ok-rows_text.field-0 in
+    let text = c.in_ok-spell_one.field-0 in
     rw (c.in_ok-push.ensures.items, flat_push (λ t. t.items) c.loop-place.texts.items text) (record {
       low = omega (arith, inv.low);
       high = omega (arith, c.loop-place-test.true);
       spells = spells_both c.args.stretches.now c.args.told.now c.args.from place (place + 1) _ text.items inv.low (omega arith) inv.spells
-          (spells_one c.args.stretches.now c.args.told.now place c.index-stretches-place.result c.in_ok-answers.answers.items text.items
-          (omega (arith, c.loop-place-test.true, c.requires.end.1)) c.index-stretches-place.is c.in_ok-answers.ensures.merged
-          (rw c.as_slice.ensures.value at c.in_ok-rows_text.ensures.text));
+          c.in_ok-spell_one.ensures.spells;
     })
