@@ -145,7 +145,7 @@ typedef struct llfree_claim {
  * with a core behind each of the closed handles. The claimed blocks are those that the program holds
  * from before: they are out, as if they had been taken, and any core gives them. What the image holds
  * besides is held for good, and all else is free (for several threads the latter is tested, not proved).
- * Of more frames than a zone has they are those that llfree_open makes of so many.
+ * Where frames are more than a zone has, the numbers are those of the zones that llfree_open makes of so many.
  * The counts of free frames are not read: only that none is above 512. On OPEN_HANDLE (of any handle),
  * BAD_GEOMETRY, BAD_IMAGE (count is not llfree_image_words(frames), a number is none of an image, the
  * last child is cut and one block of order 9, or a bit past the end is clear), BAD_ORDER, NOT_HELD (a
@@ -165,8 +165,8 @@ enum llfree_status llfree_reopen_zones(llfree_core *handles, size_t cores, const
                                        const llfree_claim *claims, size_t claimed);
 
 /* Takes a block of the order, and writes its first frame. NO_BLOCK after at least as many steps in each zone
- * as it has trees, of 4096 frames each, and no exchange that another core won; CONTENDED after as many and
- * one that another core won, or where the block that it took could not be laid down in the library's list and
+ * as it has trees, of 4096 frames each, and without losing an exchange to another core; CONTENDED after as
+ * many, where one was lost so, or where the block that it took could not be laid down in the library's list and
  * is free again (of cores that llfree_open opened no run ever showed this); BAD_ORDER; CLOSED_HANDLE: then
  * *frame is as it was, and nothing more is held. It needs no memory, and neither locks nor waits.
  *
