@@ -450,7 +450,9 @@ all() {
 }
 
 if command -v cc >/dev/null; then
-    cc -O2 -shared -fPIC -o "$work/refusing.so" tools/refusing.c -ldl
+    cc -O2 -shared -fPIC -o "$work/refusing.so" tools/refusing.c -ldl || failed=$((failed + 1))
+else
+    echo 'answers: no C compiler: nothing is read or written slowly'
 fi
 for program in "${@:-crates/llfree/out/llfree}"; do
     if [ -x "$program" ]; then

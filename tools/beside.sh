@@ -48,6 +48,7 @@ converter() {
     gzip -dc examples/replay/kernel-events.txt.gz >"$work/events"
     for cores in 1 3; do
         tools/kernel_trace.py --cores "$cores" <"$work/events" >"$work/trace.$cores" 2>"$work/counts.$cores"
+        tries "the recording on $cores cores" [ $? = 0 ]
     done
     tries 'the counts of the recording' cmp examples/replay/counts.txt "$work/counts.1"
     tools/kernel_trace.py <examples/replay/parts.txt >"$work/parts" 2>"$work/errors"

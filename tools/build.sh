@@ -50,12 +50,13 @@ declare -A crate_of=() jobs_of=()
 
 stop_all() {
     local pid
-    for pid in "${!crate_of[@]}"; do kill -- "-$pid" 2>/dev/null; done
+    # one that has no group yet is killed by itself
+    for pid in "${!crate_of[@]}"; do kill -- "-$pid" "$pid" 2>/dev/null; done
     wait
 }
 
 interrupted() {
-    trap '' INT TERM HUP
+    trap '' INT TERM HUP PIPE
     stop_all
     printf '%s: stopped; the next run goes on with the crates that were not done\n' "$target" >&2
     exit "$1"
@@ -63,15 +64,9 @@ interrupted() {
 trap 'interrupted 130' INT
 trap 'interrupted 143' TERM
 trap 'interrupted 129' HUP
+trap 'interrupted 141' PIPE
 
-# as many processes as there are processors, up to 4, each with 2 GB
-slots=$(awk -v processors="$(nproc)" '
-    /^MemAvailable/ { slots = int($2 / 2000000) }
-    END {
-        if (slots > processors) slots = processors
-        if (slots > 4) slots = 4
-        print (slots < 1 ? 1 : slots)
-    }' /proc/meminfo)
+slots=$(slots)
 
 # the crates that the target stands on and itself: seconds of the longest chain from each to the target, its name, its
 # own seconds and MB, and those that it stands on; the longest chain first
@@ -83,7 +78,7 @@ crates() {
         END {
             for (i = 1; i <= count; i++) if (!(name[i] in seconds)) { seconds[name[i]] = 60; megabytes[name[i]] = 150 }
             behind[target] = seconds[target]
-            for (again = 1; again; ) {
+            for (again = 1; again && rounds++ <= count; ) {
                 again = 0
                 for (i = 1; i <= count; i++) if (name[i] in behind) {
                     many = split(uses[name[i]], use, " ")
@@ -129,7 +124,7 @@ begin() {
         [ "$free" -gt 0 ] || return
         its_jobs=1
         if [ "$crate" = "$first" ] && [ "$free" -gt "${#ready[@]}" ]; then its_jobs=$((free - ${#ready[@]} + 1)); fi
-        setsid "$top/tools/crate.sh" "$crate" "$its_jobs" </dev/null >"$out/$crate.log" 2>&1 &
+        setsid "$top/tools/crate.sh" "$crate" "$its_jobs" </dev/null 3>&2 >"$out/$crate.log.$$" 2>&1 &
         crate_of[$!]=$crate jobs_of[$!]=$its_jobs state[$crate]=begun free=$((free - its_jobs))
     done
 }
@@ -152,7 +147,7 @@ main() {
     done <<<"$all"
 
     lines=$product.sources.read.$$
-    trap 'rm -f "$lines"' EXIT
+    trap 'rm -f "$lines" "$out"/*.log.$$' EXIT
     forget "$product" && : >"$log" && sources "$top" >"$lines" ||
         stops "$out cannot be written to: copy the repository to a folder of yours$hint"
     echo "$target: proving and building ${#order[@]} crates; with nothing kept that takes about" \
@@ -162,13 +157,14 @@ main() {
     local count=0 built=0 began=0 pid status left
     while [ "$count" -lt "${#order[@]}" ]; do
         begin
+        [ "${#crate_of[@]}" -gt 0 ] || stops 'some crates of crates.txt stand on each other'
         wait -n -p pid "${!crate_of[@]}"
         status=$?
         crate=${crate_of[$pid]}
         free=$((free + ${jobs_of[$pid]}))
         unset "crate_of[$pid]" "jobs_of[$pid]"
-        cat "$out/$crate.log" >>"$log"
-        rm -f "$out/$crate.log"
+        cat "$out/$crate.log.$$" >>"$log"
+        rm -f "$out/$crate.log.$$"
         if [ "$status" != 0 ]; then
             stop_all
             echo "$target: $crate failed" >&2

@@ -151,7 +151,8 @@ source=$root/examples/c/first.c
 name='first.c with pkg-config'
 if command -v make >/dev/null && command -v pkg-config >/dev/null; then
     make -s -C "$root/examples/c" llfree.pc >/dev/null || fails "$name: no llfree.pc"
-    read -ra with < <(PKG_CONFIG_PATH=$root/examples/c pkg-config --cflags --libs llfree)
+    # it sets a backslash before a space
+    read -a with < <(PKG_CONFIG_PATH=$root/examples/c pkg-config --cflags --libs llfree)
     "$cc" -o "$folder/program" "$source" "${with[@]}" || fails "$name: not built"
     runs "$name" "$source"
 else

@@ -10,8 +10,9 @@ cc=${CC:-cc}
 kills=${1:-150}
 folder=$(mktemp -d)
 # files in memory where there are some: a kill is the same, and nothing waits for a disk
-files=$(mktemp -d -p "$([ -w /dev/shm ] && echo /dev/shm || echo "${TMPDIR:-/tmp}")")/kept
-trap 'rm -rf "$folder" "$(dirname "$files")"' EXIT
+room=$(mktemp -d -p "$([ -w /dev/shm ] && echo /dev/shm || echo "${TMPDIR:-/tmp}")") || exit
+files=$room/kept
+trap 'rm -rf "$folder" "$room"' EXIT
 passed=0
 fails() {
     [ ! -s "$folder/log" ] || tail -n 20 "$folder/log" >&2

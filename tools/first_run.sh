@@ -1,8 +1,8 @@
 #!/usr/bin/env bash
-# Tries what ./llfree, tools/c_library.sh and examples/c/Makefile build, and when they do so again, in a small
-# tree with a stand-in for rt: sources that are edited, deleted or renamed, also while they are built, another
-# kit, a crate that fails, interrupts, a clone that cannot be written to, and words that are no command. Nothing is
-# proved. The last line counts what was tried.
+# Tries what ./llfree, tools/c_library.sh, tools/kernel_library.sh and examples/c/Makefile build, and when they do so
+# again, in a small tree with a stand-in for rt: sources that are edited, deleted or renamed, also while they are built,
+# another kit, a crate that fails, interrupts, a clone that cannot be written to, and words that are no command. Nothing
+# is proved. The last line counts what was tried.
 set -u
 root=$(cd "$(dirname "$0")/.." && pwd)
 . "$root/tools/sources.sh"
@@ -29,7 +29,8 @@ holds() {
 
 # a kit that says what it was called for, does what a hook of the crate says, and builds a file of the sources
 makes_kit() {
-    mkdir -p "$kit/bin" "$kit/rlibs" "$kit/c"
+    mkdir -p "$kit/bin" "$kit/rlibs" "$kit/c" "$kit/toolchain/bin" "$kit/toolchain/lib"
+    : >"$kit/toolchain/bin/clang"
     echo 'stand-in 1' >"$kit/KIT-ID"
     : >"$kit/calls"
     cat >"$kit/bin/rt" <<'RT'
@@ -40,10 +41,16 @@ case $1 in
     doc) echo "$kit/START-HERE.md" ;;
     try) shift 2; echo "try $*" >>"$kit/calls"; echo "tried $*" ;;
     ci)
+        # as the kit's: out/ goes, and what stood in out/rlib is given back at the end
+        for name in low mid; do [ ! -d crates/$name/out/rlib ] || mv crates/$name/out/rlib crates/$name/before; done
+        rm -rf crates/*/out
         mkdir -p crates/low/out/rlib/low.rlib crates/mid/out/rlib/mid.rlib crates/llfree/out
         printf '#!/bin/sh\n' >crates/llfree/out/llfree
         chmod +x crates/llfree/out/llfree
         if [ -e "$kit/hook.ci" ]; then . "$kit/hook.ci"; fi
+        for name in low mid; do
+            [ ! -d crates/$name/before ] || { rm -r crates/$name/out/rlib; mv crates/$name/before crates/$name/out/rlib; }
+        done
         printf '%s\n' 'a line' '3 passed, 0 failed' ;;
 esac
 RT
@@ -143,6 +150,8 @@ changes() {
     builds "$1: after an edit"
     [ "$1" != program ] || holds "$1: the edit is in it" grep -q lew "$work/output"
     builds_nothing "$1: after an edit, again"
+    echo '# another way' >>"$tree/tools/crate.sh"
+    builds "$1: after the way it is built changed"
     rm "$tree/crates/mid/specs/Lib.antt"
     builds "$1: after a file was deleted" "mid $last"
     mv "$tree/crates/low/specs/Lib.antt" "$tree/crates/low/specs/Low.antt"
@@ -196,7 +205,7 @@ changes() {
     holds "$1: a crate fails" is "$(calls)" 'low mid'
     holds "$1: and its status" is "$status" "$([ "$1" = make ] && echo 2 || echo 4)"
     holds "$1: and it is said" says 'not proved'
-    holds "$1: and nothing is run" is "$(cat "$work/output")" ''
+    [ "$1" != program ] || holds "$1: and nothing is run" is "$(cat "$work/output")" ''
     runs "${words[@]}"
     holds "$1: a crate fails once more" is "$(calls)" 'mid'
     rm "$kit/hook.mid"
@@ -211,7 +220,7 @@ changes() {
         echo 'kill -'$signal' $(ps -o ppid= -p $PPID); sleep 5; echo "late $name" >>"$kit/calls"; exit 1' >"$kit/hook.mid"
         runs env --default-signal=INT "${words[@]}"
         holds "$1: $signal" is "$(calls)" 'low mid'
-        holds "$1: $signal: and nothing is run" is "$(cat "$work/output")" ''
+        [ "$1" != program ] || holds "$1: $signal: and nothing is run" is "$(cat "$work/output")" ''
         holds "$1: $signal: and it is said" says 'stopped'
         [ "$1" != program ] || holds "$1: $signal: its status" is "$status" "$([ $signal = INT ] && echo 130 || echo 143)"
         rm "$kit/hook.mid"
@@ -293,6 +302,49 @@ after_ci() {
     builds 'library: after .ci/run and an edit'
     target program
     builds 'program: after .ci/run and an edit, of which the libraries stand built' llfree
+    # over what the gate before left; rt ci gives that back
+    makes_gate
+    runs .ci/run
+    : >"$tree/crates/low/out/rlib/low.rlib/old"
+    echo new >"$tree/crates/low/src/lib.rt"
+    runs .ci/run
+    target library
+    builds 'library: after .ci/run, an edit and .ci/run' llfree_c
+    holds 'library: over what the last .ci/run left' is "$(find "$tree/crates" -name old)" ''
+    # what else built a library below
+    local mark
+    for mark in key stamp; do
+        makes_gate
+        runs .ci/run
+        touch "$tree/crates/low/out/rlib/$mark"
+        builds "library: after .ci/run, where one below has a $mark"
+    done
+}
+
+# two at once build one archive, one after the other
+two_at_once() {
+    target library
+    makes_tree
+    runs sh -c 'tools/c_library.sh & tools/c_library.sh && wait $!'
+    holds 'library: two at once' is "$status, $(calls)" "0, $built"
+}
+
+# the archive for kernels, beside the one for programs
+for_kernels() {
+    makes_tree
+    cp "$root/tools/kernel_library.sh" "$tree/tools"
+    words=(tools/kernel_library.sh) built='low mid llfree_c llfree_c'
+    builds 'kernels: in a fresh clone'
+    builds_nothing 'kernels: again'
+    echo new >"$tree/crates/low/src/lib.rt"
+    builds 'kernels: after an edit'
+    echo 'echo mad >../low/src/lib.rt' >"$kit/hook.mid"
+    echo low >"$tree/crates/low/src/lib.rt"
+    builds 'kernels: edited while it is built'
+    rm "$kit/hook.mid"
+    builds 'kernels: next after an edit while it was built'
+    holds 'kernels: that edit is in it' grep -q mad "$tree/crates/llfree_c/out/libllfree_kernel.a"
+    builds_nothing 'kernels: and again'
 }
 
 # what no program has to be built for
@@ -302,6 +354,7 @@ words_alone() {
     runs ./llfree
     usage=$(cat "$work/errors")
     holds 'no words' is "$status, $(calls), $(cat "$work/output")" '2, , '
+    holds 'no words: the usage' says 'usage: llfree run'
     runs ./llfree foo
     holds 'a word that is no command' is "$status, $(calls), $(cat "$work/output" "$work/errors")" "2, , $usage"
     if [ -x "$root/crates/llfree/out/llfree" ]; then
@@ -333,6 +386,8 @@ unproved() {
     builds 'LLFREE_UNPROVED=0 is not set'
     words=(env LLFREE_UNPROVED= ./llfree run 1 1)
     builds_nothing 'LLFREE_UNPROVED with no word is not set'
+    words=(env RT_BACKEND=rattle ./llfree run 1 1)
+    builds 'by the other compiler' llfree
 }
 
 without_rt() {
@@ -365,9 +420,8 @@ unwritable() {
     makes_tree
     chmod -R a-w "$tree"
     local one
-    for one in program library make; do
+    for one in program library; do
         target $one
-        [ $one != make ] || continue
         runs "${nobody[@]}" "${words[@]}"
         holds "$one: unwritable" is "$status, $(calls), $(wc -l <"$work/errors")" '4, , 1'
         holds "$one: unwritable: the way out" says 'copy the repository'
@@ -404,6 +458,8 @@ changes library
 if command -v make >/dev/null; then changes make; else echo 'make: not here'; fi
 two_beside
 after_ci
+two_at_once
+for_kernels
 words_alone
 unproved
 without_rt

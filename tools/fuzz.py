@@ -484,7 +484,7 @@ def try_case(case):
     program, name, words, data = case
     try:
         return name, words, data, try_words(program, words, data), '', Answer.longest
-    except (Wrong, ValueError, IndexError) as wrong:
+    except (Wrong, Refused, ValueError, IndexError) as wrong:
         return name, words, data, 'wrong', str(wrong), Answer.longest
 
 

@@ -14,15 +14,19 @@ case ${1:-kernel} in
     *) echo "usage: $0 [linux]" >&2; exit 2 ;;
 esac
 archive=$top/crates/llfree_c/out/libllfree_$name.a
+work=$(mktemp -d)
+trap 'rm -rf "$work"' EXIT
 
+# before the libraries below are built: an edit meanwhile is in none of them
+sources "$top" >"$work/lines"
 "$top/tools/c_library.sh"
+# one at a time, where the file system has locks
+exec 8<"$top/tools"
+flock 8 || :
 if is_current "$top" "$archive"; then
     exit
 fi
-kit=$(dirname "$(rt doc)")
-work=$(mktemp -d)
-trap 'rm -rf "$work"' EXIT
-sources "$top" >"$work/lines"
+kit=$(kit)
 mkdir -p "$work/toolchain/bin"
 ln -s "$kit/toolchain/lib" "$work/toolchain/lib"
 ln -s "$kit"/toolchain/bin/* "$work/toolchain/bin"

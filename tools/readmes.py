@@ -27,7 +27,8 @@ def names_in(text):
             match = re.match(r"(src|specs)/", span)
             if match:
                 room = match.group(1)
-                names.add(span)
+                if span != f"{room}/":  # that alone says where the names behind it lie
+                    names.add(span)
             elif span.endswith((".rt", ".antt")):
                 names.add(f"{'src' if span.endswith('.rt') else 'specs'}/{span}")
             elif room:

@@ -76,13 +76,19 @@ class Refusals:
         """Status, output and errors, and how many calls of each kind there were."""
         surroundings = {'LD_PRELOAD': self.between, 'REFUSE_COUNTS': self.counts}
         surroundings.update({name: str(limit) for name, limit in limits.items()})
-        done = subprocess.run([self.program, *words.split()], input=text, capture_output=True,
-                              env=surroundings, timeout=60, check=False)
+        try:
+            done = subprocess.run([self.program, *words.split()], input=text, capture_output=True,
+                                  env=surroundings, timeout=60, check=False)
+            got = done.returncode, done.stdout, done.stderr
+        except subprocess.TimeoutExpired:
+            got = 'none after 60 s', b'', b''
         self.runs += 1
-        with open(self.counts, encoding='ascii') as file:
-            counts = dict(zip(KINDS, map(int, file.read().split())))
-        os.remove(self.counts)
-        return (done.returncode, done.stdout, done.stderr), counts
+        counts = dict.fromkeys(KINDS, 0)
+        if os.path.exists(self.counts):  # a program that is killed leaves none
+            with open(self.counts, encoding='ascii') as file:
+                counts = dict(zip(KINDS, map(int, file.read().split())))
+            os.remove(self.counts)
+        return got, counts
 
     def want(self, condition, words, limits, got):
         if not condition:
@@ -131,19 +137,21 @@ class Refusals:
             self.try_devices(words, text, alone)
 
     def try_devices(self, words, text, alone):
-        reads = self.run(words, text, MOST_READ=READ_BYTES)[1]['READ']
-        self.refuse(words, text, 'READ', reads,
+        got, counts = self.run(words, text, MOST_READ=READ_BYTES)
+        self.want(got == alone or not is_alone(words) and got[0] == alone[0], words, f'{READ_BYTES} bytes a read', got)
+        self.refuse(words, text, 'READ', counts['READ'],
                     lambda place, got, seen: got == READ_FAILED and seen['READ'] == place, MOST_READ=READ_BYTES)
         if alone[0] != 0 or not is_alone(words):
             return
-        writes = self.run(words, text, MOST_WRITTEN=WRITTEN_BYTES)[1]['WRITE']
+        got, counts = self.run(words, text, MOST_WRITTEN=WRITTEN_BYTES)
+        self.want(got == alone, words, f'{WRITTEN_BYTES} bytes a write', got)
 
         def is_prefix(place, got, seen):
             prefix = alone[1][:WRITTEN_BYTES * (place - 1)]
             return got == (3, prefix, b'llfree: write failed\n') and seen['WRITE'] == place
 
-        self.refuse(words, text, 'WRITE', writes, is_prefix, MOST_WRITTEN=WRITTEN_BYTES)
-        self.refuse(words, text, 'WRITE', writes, is_prefix, MOST_WRITTEN=WRITTEN_BYTES, REFUSE_WITH=0)
+        for how in {}, {'REFUSE_WITH': 0}:
+            self.refuse(words, text, 'WRITE', counts['WRITE'], is_prefix, MOST_WRITTEN=WRITTEN_BYTES, **how)
 
     def try_calls(self):
         """The driver counts what was refused, and the calls are answered as if nothing had been."""

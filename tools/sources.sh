@@ -16,21 +16,42 @@ kit_lines() {
     fi
 }
 
-# rattle_words TOP CRATE ROOT: what the kit's rattle is told of a crate and the libraries below it, a word a line, for
-# one that is run in the crate's folder
+# kit: its folder
+kit() {
+    local page
+    page=$(rt doc) && dirname "$page"
+}
+
+# slots: as many processes as there are processors, up to 4, each with 2 GB
+slots() {
+    awk -v processors="$(nproc)" '
+        /^MemAvailable/ { slots = int($2 / 2000000) }
+        END {
+            if (slots > processors) slots = processors
+            if (slots > 4) slots = 4
+            print (slots < 1 ? 1 : slots)
+        }' /proc/meminfo
+}
+
+# libraries_of TOP CRATE: those that it stands on, the repository's and the kit's
+libraries_of() {
+    sed -nE "s/#.*//; s/^$2( [^:]*)?://p" "$1/crates.txt"
+}
+
+# rattle_words TOP CRATE ROOT KIT: what the kit's rattle is told of a crate and the libraries below it, a word a line,
+# for one that is run in the crate's folder
 rattle_words() {
-    local kit name folder
-    kit=$(dirname "$(rt doc)")
-    printf '%s\n' --crate-name "$2" "$3" --extern "std=$kit/rlibs/std.rlib" -L "dependency=$kit/rlibs"
-    for name in $(sed -nE "s/#.*//; s/^$2( [^:]*)?://p" "$1/crates.txt"); do
-        folder=$kit/rlibs
+    local name folder
+    printf '%s\n' --crate-name "$2" "$3" --extern "std=$4/rlibs/std.rlib" -L "dependency=$4/rlibs"
+    for name in $(libraries_of "$1" "$2"); do
+        folder=$4/rlibs
         [ ! -d "../$name" ] || folder=../$name/out/rlib
         printf '%s\n' --extern "$name=$folder/$name.rlib"
     done
     for folder in ../*/out/rlib; do
         printf '%s\n' -L "dependency=$folder"
     done
-    printf '%s\n' --antt-project "$kit/rattle/logic/antt-project.json" --logic-built "$kit/logic_built" --links "$2="
+    printf '%s\n' --antt-project "$4/rattle/logic/antt-project.json" --logic-built "$4/logic_built" --links "$2="
 }
 
 # sources TOP [RECORD]: the lines of now; where no rt is on the PATH, the kit's are those of the record
@@ -42,7 +63,7 @@ sources() {
         awk '$1 == "kit"' "$2"
     fi
     (cd "$1" && find llfree tools/build.sh tools/crate.sh tools/*_library.sh tools/sources.sh HANDLES crates.txt crates -name out -prune -o \
-        \( ! -path 'crates/*' -o -name '*.rt' -o -name '*.antt' \) ! -type d -printf '%p %s %T@\n' 2>/dev/null)
+        \( ! -path 'crates/*' -o -name '*.rt' -o -name '*.antt' \) ! -type d -printf '%p %s %T@\n' 2>/dev/null || :)
 }
 
 # stamp FILE: the last line of its record
