@@ -1,16 +1,12 @@
 //! The lines of takes and gives of a whole memory.
 
 use crate::phases::Figure;
-use crate::rows::Plan;
+use crate::rows::{ORDERS, Plan, THREADS};
 use crate::works::{Work, round, share};
 use std::alloc::Global;
 use std::io;
 use std::rt::Clock;
 use std::thread::Threads;
-
-const ORDERS: [u8; 3] = [0, 3, 9];
-
-const THREADS: [u32; 3] = [1, 2, 4];
 
 /// A line for each work, number of threads and order: these, the name of the allocator, tenths of a
 /// nanosecond for one take and one give of one thread, and how many takes of all threads were refused.

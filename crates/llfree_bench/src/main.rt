@@ -15,15 +15,14 @@ mod zone_rows;
 mod zone_works;
 
 use allocator_rows::print_all;
-use rows::{Plan, Row, fastest};
+use rows::{Plan, Row, THREADS, fastest};
 use std::alloc::Global;
 use std::rt::Clock;
 use std::thread::Threads;
 use std::{env, io};
 
-const ORDERS: [u8; 5] = [0, 3, 6, 7, 9];
-
-const THREADS: [u32; 3] = [1, 2, 4];
+/// The orders of pairs in a tree.
+const PAIRS: [u8; 5] = [0, 3, 6, 7, 9];
 
 // The pairs of a thread, and the rounds.
 fn plan_of(count: Option<String>, rounds: Option<String>) -> Option<Plan> {
@@ -44,7 +43,7 @@ fn print_rows<R: Threads + Clock + Print + Sync>(
     requires { (1 ≤ threads) × (threads ≤ 64) }
 {
     let trees = if is_shared { "one tree" } else { "own trees" };
-    for order in ORDERS {
+    for order in PAIRS {
         let row = Row {
             is_shared,
             threads,

@@ -19,6 +19,12 @@ const CHILDREN: u32 = 512;
 
 const TREES: u32 = 64;
 
+/// How many threads.
+pub const THREADS: [u32; 3] = [1, 2, 4];
+
+/// The orders of takes and gives of a whole memory.
+pub const ORDERS: [u8; 3] = [0, 3, 9];
+
 /// The pairs of a thread, and the rounds of which the fastest counts.
 #[derive(Clone, Copy)]
 pub struct Plan {

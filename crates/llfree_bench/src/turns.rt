@@ -4,8 +4,7 @@ ghost use Rattle.llfree_bench.specs.Hands.{IsHandOf};
 
 use crate::hand::Hand;
 use core_frames::Allocator;
-
-const HUGE_ORDER: u32 = 9;
+use frame_words::HUGE_ORDER;
 
 /// What each hand does.
 #[derive(Clone, Copy)]
@@ -127,7 +126,7 @@ impl Hand {
         ensures { IsHandOf memory.now self.new }
     {
         self.random = next(self.random);
-        let order = self.random.trailing_zeros().min(HUGE_ORDER);
+        let order = self.random.trailing_zeros().min(HUGE_ORDER as u32);
         self.take(memory, order as u8);
     }
 

@@ -10,17 +10,16 @@ use crate::hand::Hand;
 use crate::phases::{Figure, cores_of, hands_of, no_memory, phase};
 use crate::turns::Task;
 use core_frames::{Allocator, Core};
-use frame_words::{Fault, Geometry};
+use frame_words::{CHILD_FRAMES, Fault, Geometry, HUGE_ORDER};
 use std::alloc::Global;
 use std::io;
 use std::rt::Clock;
 use std::thread::Threads;
 
-const CHILDREN: u32 = 1024;
+/// Children of the memory.
+pub const CHILDREN: u32 = 1024;
 
-const FRAMES: u32 = 512 * CHILDREN;
-
-const HUGE_ORDER: u8 = 9;
+const FRAMES: u32 = CHILD_FRAMES * CHILDREN;
 
 /// The blocks that all threads hold of mixed orders.
 const HELD: u32 = 49_152;

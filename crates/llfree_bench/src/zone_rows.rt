@@ -2,17 +2,13 @@
 
 use crate::allocator_rows::{fastest, tenths};
 use crate::phases::Figure;
-use crate::rows::Plan;
+use crate::rows::{ORDERS, Plan, THREADS};
 use crate::works::Work;
 use crate::zone_works::{Setting, opening, pairs};
 use std::alloc::Global;
 use std::io;
 use std::rt::Clock;
 use std::thread::Threads;
-
-const ORDERS: [u8; 3] = [0, 3, 9];
-
-const THREADS: [u32; 3] = [1, 2, 4];
 
 /// A line for each number of threads and order of one allocator, and one for each number of zones;
 /// then one for each where the home zone is full, and one of an opening: the work, the zones, the

@@ -5,17 +5,14 @@ ghost use Rattle.std.specs.List.{All};
 ghost use Rattle.frame_zones.specs.Zones.{AreCoresOf};
 
 use crate::phases::{Figure, no_memory};
-use frame_words::{Fault, Geometry};
+use crate::works::CHILDREN;
+use frame_words::{Fault, Geometry, HUGE_ORDER};
 use frame_zones::{Span, ZoneCore, Zones};
 use std::alloc::{AllocError, Global};
 use std::io;
 use std::rt::Clock;
 use std::thread::{self, Threads};
 use std::time::Instant;
-
-const CHILDREN: u32 = 1024;
-
-const HUGE_ORDER: u8 = 9;
 
 /// How many threads, and the order of a take.
 #[derive(Clone, Copy)]
