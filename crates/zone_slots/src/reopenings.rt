@@ -83,8 +83,7 @@ impl Memory {
         numbers: &[u64],
         claimed: &[Vec<FrameBlock>],
     ) -> Result<(), Fault>
-        requires core { AreCoresOf self.old.zones core.old }
-        requires unused { IsUnusedCore core.old }
+        requires core { AreCoresOf self.old.zones core.old × IsUnusedCore core.old }
         requires claimed { length claimed.now ≡ zone_count self.old.zones }
         ensures zones { self.new.zones ≡ self.old.zones }
         ensures core { AreCoresOf self.old.zones core.new }
