@@ -3,7 +3,7 @@
 # same search over std's atomics, a buddy allocator and a bitmap, each of these two under a mutex. What
 # the work is stands in bench/reference/allocator/work.rs. Both programs print a line a measurement:
 # work, threads, order, allocator, tenths of a nanosecond for one take and one give of one thread, and
-# the refused takes of all threads. It needs rustc, and a built crates/llfree_bench/out/llfree_bench.
+# the refused takes of all threads. It needs rustc, and a built build/llfree_bench.
 # The two run in turn, RUNS times, each time with ROUNDS rounds of PAIRS pairs a thread; each figure is
 # the least of all rounds. `times` is how many times as long as llfree the other one takes.
 # UNDER, which stands before both programs: two_programs.sh

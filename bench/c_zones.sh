@@ -7,14 +7,14 @@
 set -eu
 here=$(cd "$(dirname "$0")" && pwd)
 top=$(dirname "$here")
-library=$top/crates/llfree_c/out/libllfree_c.a
+library=$top/build/libllfree_c.a
 heap=$(dirname "$(rt doc)")/c/liblibc_c.a
 pairs=${PAIRS:-200000}
 runs=${RUNS:-15}
 . "$here/progress.sh"
 folder=$(mktemp -d)
 trap 'rm -rf "$folder"' EXIT
-"$top/tools/c_library.sh" >&2
+make -s -C "$top" library >&2
 "${CC:-cc}" -O2 -Wall -Wextra -I"$top/include" -o "$folder/pairs" "$here"/c/*.c "$library" "$heap" -lpthread
 
 for run in $(seq "$runs"); do

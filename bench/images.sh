@@ -1,11 +1,11 @@
 #!/usr/bin/env bash
 # Measures `llfree rebuild` and `llfree report` on an image of 4,096 children, file to file, beside a
 # plain Rust program that does the same. It needs rustc and python3, and a built
-# crates/llfree/out/llfree. Each figure is the least of RUNS runs, of a whole process.
+# build/llfree. Each figure is the least of RUNS runs, of a whole process.
 set -eu
 here=$(cd "$(dirname "$0")" && pwd)
 . "$here/progress.sh"
-program=$here/../crates/llfree/out/llfree
+program=$here/../build/llfree
 runs=${RUNS:-20}
 folder=$(mktemp -d)
 trap 'rm -rf "$folder"' EXIT

@@ -6,12 +6,12 @@
 set -eu
 here=$(cd "$(dirname "$0")" && pwd)
 top=$(dirname "$here")
-library=$top/crates/llfree_c/out/libllfree_c.a
+library=$top/build/libllfree_c.a
 rounds=${ROUNDS:-5}
 folder=$(mktemp -d)
 trap 'rm -rf "$folder"' EXIT
 [ $# -gt 0 ] || set -- 262144 2097152
-"$top/tools/c_library.sh" >&2
+make -s -C "$top" library >&2
 "${CC:-cc}" -O2 -Wall -Wextra -I"$top/include" -o "$folder/opening" "$here/opening.c" "$library" \
     "$(dirname "$(rt doc)")/c/liblibc_c.a" -lpthread
 printf '%-12s %8s %10s %10s %14s %12s %14s\n' opening frames ms touches 'ns a frame' 'bytes kept' 'at the peak'

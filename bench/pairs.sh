@@ -1,6 +1,6 @@
 #!/usr/bin/env bash
 # Measures pairs of a take and a give on a shared table beside a plain Rust program that makes the
-# same atomic steps. It needs rustc, and a built crates/llfree_bench/out/llfree_bench. The two
+# same atomic steps. It needs rustc, and a built build/llfree_bench. The two
 # programs run in turn, RUNS times, each time with ROUNDS rounds of PAIRS pairs a thread; each
 # figure is the least of all rounds.
 # UNDER, which stands before both programs: two_programs.sh

@@ -2,13 +2,14 @@
 """Draws what a script of bench/ has measured: how many pairs of a take and a give a second, over threads; of a
 recording that is replayed, how many takes and gives.
 
-    bench/plot.py bench/results/FILE [--only GROUP ..] > PLOT.svg
-    bench/plot.py --measure allocator|c|pairs|replay [--only GROUP ..] > PLOT.svg
+    bench/plot.py bench/results/FILE [--only GROUP ..] [--slide] > PLOT.svg
+    bench/plot.py --measure allocator|c|pairs|phases|replay [--only GROUP ..] > PLOT.svg
 
 A file of bench/results has lines `# machine:`, `# date:`, `# method:` and then the table as the script prints it,
-with a line for each number of threads. A group is an order, or a kind of work and an order (`random,mixed`), or trees
-and an order (`one tree,0`); with none named all are drawn. --measure runs the script first, which takes its time, and
-lays down such a file, a new one at each run.
+with a line for each number of threads. A group is an order, or a kind of work, trees or a phase and an order
+(`random,mixed`, `one tree,0`, `take,9`); with none named all are drawn. The plot is for light and dark pages. With
+--slide it has no line on machine and method, which belongs beside it then. --measure runs the script first, which takes
+its time, and lays down such a file, a new one at each run.
 """
 import argparse
 import datetime
@@ -20,20 +21,33 @@ import sys
 import textwrap
 
 HERE = os.path.dirname(os.path.abspath(__file__))
-WIDTH, ACROSS, PANEL_WIDTH, PANEL_HEIGHT, LEFT, GAP = 860, 3, 230, 190, 44, 42
-TEXT, GRID = '#24292f', '#dfe4e9'
+WIDTH, ACROSS, PANEL_HEIGHT, LEFT, EDGE, GAP = 860, 3, 190, 44, 12, 42
 FONT = 'font-family="DejaVu Sans, Verdana, sans-serif"'
-# a column of a table, what it is called, and its colour
+# a column of a table, what it is called, and its colour on light and on dark paper
 ALLOCATORS = (
-    ('llfree', 'LLFree', '#b3123f'),
-    ('unchecked', 'LLFree, blocks in structs', '#e27a97'),
-    ('own', 'LLFree, from Rust', '#7a3b4d'),
-    ('plain', 'LLFree for one thread', '#9a8f93'),
-    ('reference', 'lock-free in plain Rust', '#336fa5'),
-    ('malloc', 'malloc', '#7a5ea8'),
-    ('buddy', 'buddy, mutex', '#e08a1e'),
-    ('bitmap', 'bitmap, mutex', '#4f8f3a'),
+    ('llfree', 'LLFree', '#b3123f', '#ff7b9c'),
+    ('unchecked', 'LLFree, blocks in structs', '#e27a97', '#d0587c'),
+    ('own', 'LLFree, from Rust', '#7a3b4d', '#b98a98'),
+    ('plain', 'LLFree for one thread', '#9a8f93', '#8d8387'),
+    ('reference', 'lock-free in plain Rust', '#336fa5', '#6cb0f0'),
+    ('lists', 'buddy, per-CPU lists', '#2f6fb0', '#6cb0f0'),
+    ('malloc', 'malloc', '#7a5ea8', '#b79bf0'),
+    ('buddy', 'buddy, mutex', '#e08a1e', '#f2b04c'),
+    ('bitmap', 'bitmap, mutex', '#4f8f3a', '#8fd07f'),
 )
+
+
+PHASES = 'take', 'give', 'pair', 'foreign'
+
+
+def style():
+    """The colours, by what a browser prefers."""
+    def rules(place, paper, text, grid):
+        lines = ''.join(f'.{row[0]}{{stroke:{row[2 + place]};fill:none}}.{row[0]}-dot{{fill:{row[2 + place]}}}'
+                        for row in ALLOCATORS)
+        return f'.paper{{fill:{paper}}}text{{fill:{text}}}.grid{{stroke:{grid}}}{lines}'
+    return (f'<style>{rules(0, "#ffffff", "#24292f", "#dfe4e9")}'
+            f'@media (prefers-color-scheme: dark){{{rules(1, "#0d1117", "#e6edf3", "#30363d")}}}</style>')
 
 
 class Fault(Exception):
@@ -64,7 +78,7 @@ def rows_of(table):
 
 
 def group_of(row):
-    return ','.join(row[name] for name in ('work', 'trees', 'order') if name in row)
+    return ','.join(row[name] for name in ('work', 'trees', 'phase', 'order') if name in row)
 
 
 def result_of(text):
@@ -78,7 +92,7 @@ def result_of(text):
         if 'threads' not in row:
             continue
         figures, threads = groups.setdefault(group_of(row), {}), int(row['threads'])
-        for column, _, _ in ALLOCATORS:
+        for column, *_ in ALLOCATORS:
             if f'{column} ns' in row:
                 figures.setdefault(column, []).append((threads, 1000 * threads / float(row[f'{column} ns'])))
     if not groups:
@@ -93,6 +107,8 @@ def heading_of(groups):
     """What is drawn. The table of a recording tells no orders, so it has one group, without a name."""
     if list(groups) == ['']:
         return 'Page frames of a kernel, replayed: million takes and gives a second of all threads (logarithmic)'
+    if any(name.split(',')[0] in PHASES for name in groups):
+        return 'Takes and gives in 8 GiB: million a second of all threads, pairs in their panel (logarithmic)'
     return 'A take and a give of page frames: million pairs a second of all threads (logarithmic)'
 
 
@@ -101,8 +117,10 @@ def title_of(group):
     if not group:
         return 'takes and gives as recorded'
     *kind, order = group.split(',')
-    kinds = {'pairs': 'take and give', 'fill': 'fill and empty', 'random': 'random, half held',
-             'own trees': 'trees of their own', 'one tree': 'all on one tree'}
+    kinds = {'pairs': 'take and give', 'fill': 'fill and empty', 'random': 'random, half held' if order == 'mixed' else 'gives in random order',
+             'own trees': 'trees of their own', 'one tree': 'all on one tree',
+             'take': 'takes in a row', 'give': 'gives in that order', 'pair': 'take and give',
+             'foreign': 'gives of what others took'}
     words = 'mixed orders' if order == 'mixed' else f'order {order}'
     return ', '.join([kinds.get(word, word) for word in kind] + [words])
 
@@ -121,7 +139,7 @@ class Panel:
 
     def __init__(self, place, of, top, threads, axis):
         across = min(of, ACROSS)
-        self.width = (ACROSS * PANEL_WIDTH + (ACROSS - across) * GAP) // across
+        self.width = (WIDTH - LEFT - EDGE - (across - 1) * GAP) // across
         self.left = LEFT + place % ACROSS * (self.width + GAP)
         self.top = top + 24 + place // ACROSS * (PANEL_HEIGHT + 70)
         self.threads, self.axis = threads, axis
@@ -135,77 +153,78 @@ class Panel:
         return self.top + PANEL_HEIGHT * (high - math.log10(figure)) / (high - low)
 
     def frame(self, title):
-        yield (f'<text x="{self.left}" y="{self.top - 10}" font-size="13" font-weight="bold" fill="{TEXT}">'
+        yield (f'<text x="{self.left}" y="{self.top - 10}" font-size="13" font-weight="bold">'
                f'{title}</text>')
         for tick in self.axis:
             height = self.height_of(tick)
-            yield f'<path d="M{self.left} {height:.1f}h{self.width}" stroke="{GRID}"/>'
-            yield (f'<text x="{self.left - 5}" y="{height + 4:.1f}" font-size="11" text-anchor="end" fill="{TEXT}">'
+            yield f'<path d="M{self.left} {height:.1f}h{self.width}" class="grid"/>'
+            yield (f'<text x="{self.left - 5}" y="{height + 4:.1f}" font-size="11" text-anchor="end">'
                    f'{tick:g}</text>')
         for threads in self.threads:
             yield (f'<text x="{self.right_of(threads):.1f}" y="{self.top + PANEL_HEIGHT + 16}" font-size="11" '
-                   f'text-anchor="middle" fill="{TEXT}">{threads}</text>')
+                   f'text-anchor="middle">{threads}</text>')
         yield (f'<text x="{self.left + self.width // 2}" y="{self.top + PANEL_HEIGHT + 31}" font-size="11" '
-               f'text-anchor="middle" fill="{TEXT}">threads</text>')
+               f'text-anchor="middle">threads</text>')
 
-    def line(self, points, colour, width):
+    def line(self, points, column, width):
         places = [(self.right_of(threads), self.height_of(figure)) for threads, figure in points]
         path = ' '.join(f'{right:.1f},{height:.1f}' for right, height in places)
-        yield f'<polyline points="{path}" fill="none" stroke="{colour}" stroke-width="{width}"/>'
+        yield f'<polyline points="{path}" class="{column}" stroke-width="{width}"/>'
         if len(places) == 1:
             # a ring, which is seen around a point of another line
             right, height = places[0]
-            yield (f'<circle cx="{right:.1f}" cy="{height:.1f}" r="7" fill="none" stroke="{colour}" '
-                   'stroke-width="2"/>')
+            yield (f'<circle cx="{right:.1f}" cy="{height:.1f}" r="7" class="{column}" stroke-width="2"/>')
         for right, height in places:
-            yield f'<circle cx="{right:.1f}" cy="{height:.1f}" r="{width // 2 + 2}" fill="{colour}"/>'
+            yield f'<circle cx="{right:.1f}" cy="{height:.1f}" r="{width // 2 + 2}" class="{column}-dot"/>'
 
 
 def keys_of(columns):
     """The names of the lines, each with its row and its place in it."""
     row, right = 0, 10
-    for column, name, colour in ALLOCATORS:
+    for column, name, *_ in ALLOCATORS:
         if column in columns:
             wide = 46 + 7 * len(name)
             if right + wide > WIDTH:
                 row, right = row + 1, 10
-            yield row, right, name, colour
+            yield row, right, name, column
             right += wide
 
 
 def key(keys, height):
-    for row, right, name, colour in keys:
+    for row, right, name, column in keys:
         line = height + 18 * row
-        yield f'<path d="M{right} {line - 4}h22" stroke="{colour}" stroke-width="3"/>'
-        yield f'<text x="{right + 27}" y="{line}" font-size="12" fill="{TEXT}">{name}</text>'
+        yield f'<path d="M{right} {line - 4}h22" class="{column}" stroke-width="3"/>'
+        yield f'<text x="{right + 27}" y="{line}" font-size="12">{name}</text>'
 
 
 def escaped(text):
     return text.replace('&', '&amp;').replace('<', '&lt;').replace('>', '&gt;')
 
 
-def plot(said, groups):
+def plot(said, groups, is_slide):
     figures = [point for group in groups.values() for points in group.values() for point in points]
     axis = ticks(min(figure for _, figure in figures), max(figure for _, figure in figures))
     threads = sorted({count for count, _ in figures})
-    told = textwrap.wrap(f'{said["date"]}, {said["machine"]}: {said["method"]}', 140)
+    told = [] if is_slide else textwrap.wrap(f'{said["date"]}, {said["machine"]}: {said["method"]}', 140)
     keys = list(keys_of({column for group in groups.values() for column in group}))
     more = 18 * keys[-1][0]
-    top = 76 + 15 * len(told) + more
+    top = 66 + 15 * len(told) + more + (10 if told else 0)
     height = top + -(-len(groups) // ACROSS) * (PANEL_HEIGHT + 70)
     yield (f'<svg xmlns="http://www.w3.org/2000/svg" width="{WIDTH}" height="{height}" '
-           f'viewBox="0 0 {WIDTH} {height}" {FONT}>')
-    yield f'<rect width="{WIDTH}" height="{height}" fill="#ffffff"/>'
-    yield f'<text x="10" y="24" font-size="15" fill="{TEXT}">{heading_of(groups)}</text>'
+           f'viewBox="0 0 {WIDTH} {height}" role="img" {FONT}>')
+    yield f'<title>{heading_of(groups)}</title>'
+    yield style()
+    yield f'<rect width="{WIDTH}" height="{height}" class="paper"/>'
+    yield f'<text x="10" y="24" font-size="15">{heading_of(groups)}</text>'
     for place, text in enumerate(told):
-        yield f'<text x="10" y="{44 + 15 * place}" font-size="11" fill="{TEXT}">{escaped(text)}</text>'
+        yield f'<text x="10" y="{44 + 15 * place}" font-size="11">{escaped(text)}</text>'
     yield from key(keys, top - more - 14)
     for place, (group, lines) in enumerate(groups.items()):
         panel = Panel(place, len(groups), top, threads, axis)
         yield from panel.frame(title_of(group))
-        for column, _, colour in ALLOCATORS:
+        for column, *_ in ALLOCATORS:
             if column in lines:
-                yield from panel.line(lines[column], colour, 4 if column == 'llfree' else 2)
+                yield from panel.line(lines[column], column, 4 if column == 'llfree' else 2)
     yield '</svg>'
 
 
@@ -262,7 +281,8 @@ def text_of(given):
 def main():
     parser = argparse.ArgumentParser(description=__doc__.split('\n', maxsplit=1)[0])
     parser.add_argument('file', nargs='?', help='a file of bench/results; standard input where none is named')
-    parser.add_argument('--measure', choices=('allocator', 'c', 'pairs', 'replay'), help='measure first')
+    parser.add_argument('--measure', choices=('allocator', 'c', 'pairs', 'phases', 'replay'), help='measure first')
+    parser.add_argument('--slide', action='store_true', help='without the line on machine and method')
     parser.add_argument('--only', nargs='+', metavar='GROUP', help="as '0', or 'pairs,0'")
     given = parser.parse_args()
     try:
@@ -271,7 +291,7 @@ def main():
             if name not in groups:
                 raise Fault(f'there is no group {name}; there are {" ".join(groups)}')
         groups = {name: groups[name] for name in given.only or groups}
-        print('\n'.join(plot(said, groups)))
+        print('\n'.join(plot(said, groups, given.slide)))
     except Fault as fault:
         print(f'plot: {fault}', file=sys.stderr)
         return 1

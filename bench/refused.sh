@@ -6,12 +6,12 @@
 set -eu
 here=$(cd "$(dirname "$0")" && pwd)
 top=$(dirname "$here")
-library=$top/crates/llfree_c/out/libllfree_c.a
+library=$top/build/libllfree_c.a
 count=${COUNT:-20000}
 rounds=${ROUNDS:-15}
 folder=$(mktemp -d)
 trap 'rm -rf "$folder"' EXIT
-"$top/tools/c_library.sh" >&2
+make -s -C "$top" library >&2
 "${CC:-cc}" -O2 -Wall -Wextra -I"$top/include" -o "$folder/refused" "$here/refused.c" "$library" \
     "$(dirname "$(rt doc)")/c/liblibc_c.a" -lpthread
 ${UNDER:-} "$folder/refused" "$count" "$rounds" >"$folder/lines"

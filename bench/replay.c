@@ -1,5 +1,5 @@
-/* Replays a trace on threads, as fast as it goes, through the library for C, a buddy allocator and a bitmap, each of
- * these two under a mutex.
+/* Replays a trace on threads, as fast as it goes, through the library for C, a buddy allocator with lists for each
+ * processor as Linux has it, and a buddy allocator and a bitmap, each under a mutex.
  *
  *     replay THREADS CHILDREN REPEATS < TRACE
  *
@@ -51,6 +51,7 @@ static uint32_t threads, rounds, blocks, kept;
 static uint32_t frames[MOST_RECORDS]; /* the first frame of each block that is held, or NONE */
 static uint8_t orders[MOST_RECORDS];
 static uint32_t kept_frames[CHILDREN];
+static struct peer *lists, *buddy;
 
 static void want(bool is_right, const char *what)
 {
@@ -82,16 +83,26 @@ static void library_give(struct worker *me, uint32_t frame, uint8_t order)
     want(llfree_give(&me->core, frame, order) == LLFREE_OK, "a give was refused");
 }
 
-static uint32_t plain_buddy_take(struct worker *me, uint8_t order)
+static uint32_t lists_take(struct worker *me, uint8_t order)
 {
-    (void)me;
-    return buddy_take(order);
+    return peer_take(lists, (uint32_t)(me - workers), order);
 }
 
-static void plain_buddy_give(struct worker *me, uint32_t frame, uint8_t order)
+static void lists_give(struct worker *me, uint32_t frame, uint8_t order)
+{
+    peer_give(lists, (uint32_t)(me - workers), frame, order);
+}
+
+static uint32_t buddy_take(struct worker *me, uint8_t order)
 {
     (void)me;
-    buddy_give(frame, order);
+    return peer_take(buddy, 0, order);
+}
+
+static void buddy_give(struct worker *me, uint32_t frame, uint8_t order)
+{
+    (void)me;
+    peer_give(buddy, 0, frame, order);
 }
 
 static uint32_t plain_bitmap_take(struct worker *me, uint8_t order)
@@ -108,7 +119,8 @@ static void plain_bitmap_give(struct worker *me, uint32_t frame, uint8_t order)
 
 static const struct allocator allocators[] = {
     { "llfree", library_take, library_give },
-    { "buddy", plain_buddy_take, plain_buddy_give },
+    { "lists", lists_take, lists_give },
+    { "buddy", buddy_take, buddy_give },
     { "bitmap", plain_bitmap_take, plain_bitmap_give },
 };
 
@@ -295,7 +307,9 @@ int main(int count, char **words)
     kept = CHILDREN - (uint32_t)atoi(words[2]);
     read_trace();
     want(blocks > 0, "a trace without a take");
-    buddy_open();
+    lists = peer_open(FRAMES, threads);
+    buddy = peer_open(FRAMES, 0);
+    want(lists != NULL && buddy != NULL, "no memory");
     for (int repeat = atoi(words[3]); repeat > 0; repeat--) {
         open_library();
         for (size_t i = 0; i < sizeof allocators / sizeof *allocators; i++)

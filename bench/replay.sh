@@ -1,11 +1,11 @@
 #!/usr/bin/env bash
 # Replays a recording of a kernel's page frames on 1 to 4 threads, as fast as it goes, through the library for C and
-# through a buddy allocator and a bitmap, each under a mutex (bench/replay.c). It needs a C compiler and python3; the
-# library is built where it is not there.
+# through a buddy allocator with lists for each processor, as Linux has it, and a buddy allocator and a bitmap, each under
+# a mutex (bench/replay.c). It needs a C compiler and python3; the library is built where it is not there.
 #     bench/replay.sh [RECORDING.gz]
 # A round is a tenth of a second of the recording, so threads seldom wait for each other. A time is the median of
 # REPEATS repeats, in nanoseconds of one thread for a take or a give; `times` is how many times as long as the library;
-# huge are the huge frames left free at the end, of CHILDREN, in the mean; refused are the takes refused by the three,
+# huge are the huge frames left free at the end, of CHILDREN, in the mean; refused are the takes refused by the four,
 # in all repeats. UNDER stands before the program, as in 'chrt -f 10'.
 set -eu
 here=$(cd "$(dirname "$0")" && pwd)
@@ -14,11 +14,11 @@ top=$(dirname "$here")
 recording=${1:-$top/examples/replay/kernel-events.txt.gz}
 children=${CHILDREN:-64}
 repeats=${REPEATS:-15}
-library=$top/crates/llfree_c/out/libllfree_c.a
+library=$top/build/libllfree_c.a
 folder=$(mktemp -d)
 trap 'rm -rf "$folder"' EXIT
-"$top/tools/c_library.sh" >&2
-"${CC:-cc}" -O2 -Wall -Wextra -I"$top/include" -I"$here/c" -o "$folder/replay" "$here/replay.c" "$here/c/buddy.c" \
+make -s -C "$top" library >&2
+"${CC:-cc}" -O2 -Wall -Wextra -I"$top/include" -I"$here/c" -o "$folder/replay" "$here/replay.c" "$here/c/peers.c" \
     "$here/c/bitmap.c" "$library" "$(dirname "$(rt doc)")/c/liblibc_c.a" -lpthread
 
 for threads in 1 2 3 4; do
@@ -29,8 +29,8 @@ for threads in 1 2 3 4; do
 done
 shows
 
-printf '%7s %10s %9s %6s %10s %6s %11s %10s %11s %12s\n' threads 'llfree ns' 'buddy ns' times 'bitmap ns' times \
-    llfree-huge buddy-huge bitmap-huge refused
+printf '%7s %10s %9s %6s %9s %6s %10s %6s %11s %10s %10s %11s %12s\n' threads 'llfree ns' 'lists ns' times 'buddy ns' \
+    times 'bitmap ns' times llfree-huge lists-huge buddy-huge bitmap-huge refused
 sort -t, -k1,1n -k2,2 -k3,3n "$folder/lines" | awk -F, '
     { key = $1 "," $2; spent[key, ++count[key]] = $3 / 10; huge[key] += $5; refused[key] += $4; last = $1 }
     # the figures of each are in order
@@ -41,9 +41,11 @@ sort -t, -k1,1n -k2,2 -k3,3n "$folder/lines" | awk -F, '
     function left(key) { return huge[key] / count[key] }
     END {
         for (threads = 1; threads <= last; threads++) {
-            a = median(threads ",llfree"); b = median(threads ",buddy"); c = median(threads ",bitmap")
-            printf "%7d %10.1f %9.1f %6.2f %10.1f %6.2f %11.1f %10.1f %11.1f %12s\n", threads, a, b, b / a, c, c / a,
-                left(threads ",llfree"), left(threads ",buddy"), left(threads ",bitmap"),
-                refused[threads ",llfree"] "/" refused[threads ",buddy"] "/" refused[threads ",bitmap"]
+            a = median(threads ",llfree"); b = median(threads ",lists")
+            c = median(threads ",buddy"); d = median(threads ",bitmap")
+            printf "%7d %10.1f %9.1f %6.2f %9.1f %6.2f %10.1f %6.2f %11.1f %10.1f %10.1f %11.1f %12s\n", threads, a,
+                b, b / a, c, c / a, d, d / a, left(threads ",llfree"), left(threads ",lists"), left(threads ",buddy"),
+                left(threads ",bitmap"), refused[threads ",llfree"] "/" refused[threads ",lists"] "/" \
+                refused[threads ",buddy"] "/" refused[threads ",bitmap"]
         }
     }'

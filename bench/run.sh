@@ -1,10 +1,10 @@
 #!/usr/bin/env bash
 # Measures `llfree run` file to file beside a plain Rust program that does the same text work.
-# It needs rustc and python3, and a built crates/llfree/out/llfree. Each figure is the least of RUNS runs.
+# It needs rustc and python3, and a built build/llfree. Each figure is the least of RUNS runs.
 set -eu
 here=$(cd "$(dirname "$0")" && pwd)
 . "$here/progress.sh"
-program=$here/../crates/llfree/out/llfree
+program=$here/../build/llfree
 runs=${RUNS:-5}
 folder=$(mktemp -d)
 trap 'rm -rf "$folder"' EXIT

@@ -4,7 +4,7 @@
 Each core takes and gives blocks in its own round, on a tree of its own. All runs are made in turn, some
 times over. Printed are the cores, the least wall time, the same for records that are refused without a
 step (what text and threads cost), how many times the records a second of one core that makes, and the
-greatest memory of a run for each record. It needs a built crates/llfree/out/llfree.
+greatest memory of a run for each record. It needs a built build/llfree.
 """
 import os
 import subprocess
@@ -16,7 +16,7 @@ RECORDS = 1_000_000
 CHILDREN = int(os.environ.get('CHILDREN', '1024'))
 RUNS = int(os.environ.get('RUNS', '5'))
 HERE = os.path.dirname(os.path.abspath(__file__))
-PROGRAM = os.path.join(HERE, '../crates/llfree/out/llfree')
+PROGRAM = os.path.join(HERE, '../build/llfree')
 
 
 def trace(cores, kind):

@@ -2,11 +2,11 @@
 # UNDER stands before both programs: with UNDER='chrt -f 10' threads stand on processors of their own from
 # the start, and other work on the machine does not slow them.
 . "$here/progress.sh"
-program=$top/crates/llfree_bench/out/llfree_bench
+program=$top/build/llfree_bench
 under=${UNDER:-}
 folder=$(mktemp -d)
 trap 'rm -rf "$folder"' EXIT
 [ -x "$program" ] || {
-    echo 'run rt run in crates/llfree_bench once: it builds the program' >&2
+    echo 'run make bench once: it proves and builds the program' >&2
     exit 1
 }

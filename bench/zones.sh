@@ -2,7 +2,7 @@
 # Measures pairs of a take and a give in 1, 4 and 64 zones beside one allocator, all of 1,024 children:
 # nanoseconds for a pair of one thread, where each thread has a home zone of its own if there are enough,
 # and where the home zone of 2, 4 and 64 is full, so that each take goes on to the next one. And how long it takes to open
-# 64 GiB in 8 zones. It needs a built crates/llfree_bench/out/llfree_bench, which runs RUNS times, each time
+# 64 GiB in 8 zones. It needs a built build/llfree_bench, which runs RUNS times, each time
 # with ROUNDS rounds of PAIRS pairs a thread; each figure is the least of all rounds.
 # UNDER, which stands before the program: two_programs.sh
 set -eu

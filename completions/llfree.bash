@@ -16,7 +16,7 @@ _llfree() {
         3) mapfile -t COMPREPLY < <(compgen -W '1 2 4 8 16 32 64' -- "$word") ;;
         4)
             children=${COMP_WORDS[2]}
-            if [[ $children =~ ^[1-9][0-9]{0,3}$ ]]; then
+            if [[ $children =~ ^[1-9][0-9]{0,3}$ ]] && ((children <= 4096)); then
                 mapfile -t COMPREPLY < <(compgen -W "$((512 * children))" -- "$word")
             fi
             ;;

@@ -9,7 +9,10 @@
  *  - memcheck: memory that is given may not be touched until it is taken, and is undefined then. Before its first
  *    give it is what the program made of it.
  * A give is told before it is made, since afterwards the next one may have the frames; so what a give that is
- * refused was told stays told. A split needs no telling, nor does llfree_plain, whose calls are in an order. */
+ * refused was told stays told. A split needs no telling, nor does llfree_plain, whose calls are in an order.
+ *
+ * A give of numbers is told only where they may be a block of the memory. Of a memory with holes no call says which
+ * frames it has: there llfree_give_told_in is handed the zones that the opening was handed. */
 #ifndef LLFREE_TSAN_H
 #define LLFREE_TSAN_H
 
@@ -41,16 +44,14 @@ extern "C" {
 
 #define LLFREE_FRAME_BYTES 4096
 
-/* Tells that this block was just taken, or is about to be given; nothing of what is no block of the memory. */
-static inline void llfree_tell(llfree_core *handle, void *address, uint32_t frame, uint8_t order, bool is_taken)
+/* Tells that this block of the memory was just taken, or is about to be given. */
+static inline void llfree_tell(void *address, uint32_t frame, uint8_t order, bool is_taken)
 {
-    uint32_t frames = llfree_frames(handle), count = order < 10 ? (uint32_t)1 << order : 0;
+    uint32_t count = (uint32_t)1 << order;
 
-    if (frame >= frames || count > frames - frame)
-        return;
 #ifdef LLFREE_TELLS_TSAN
     for (uint32_t i = 0; i < count; i++) {
-        void *at = (char *)address + (size_t)LLFREE_FRAME_BYTES * (frame + i);
+        void *at = (char *)address + LLFREE_FRAME_BYTES * ((size_t)frame + i);
         if (is_taken)
             __tsan_acquire(at);
         else
@@ -72,7 +73,23 @@ static inline void llfree_tell(llfree_core *handle, void *address, uint32_t fram
     }
 #endif
     (void)address;
+    (void)frame;
+    (void)count;
     (void)is_taken;
+}
+
+/* Tells that these numbers are about to be given, where one of the zones has all of their frames. */
+static inline void llfree_tell_give(void *address, const llfree_range *zones, size_t zone_count, uint32_t frame,
+                                    uint8_t order)
+{
+    for (size_t z = 0; order < 10 && z < zone_count; z++) {
+        uint32_t behind = frame - zones[z].first;
+        if (frame < zones[z].first || behind >= zones[z].frames)
+            continue;
+        if ((uint32_t)1 << order <= zones[z].frames - behind)
+            llfree_tell(address, frame, order, false);
+        return;
+    }
 }
 
 /* llfree_take. */
@@ -83,15 +100,25 @@ static inline enum llfree_status llfree_take_told(llfree_core *handle, void *add
     enum llfree_status status = llfree_take(handle, order, frame);
 
     if (status == LLFREE_OK)
-        llfree_tell(handle, address, *frame, order, true);
+        llfree_tell(address, *frame, order, true);
     return status;
 }
 
-/* llfree_give. */
+/* llfree_give, of a memory without holes. */
 static inline enum llfree_status llfree_give_told(llfree_core *handle, void *address, uint32_t frame,
                                                   uint8_t order)
 {
-    llfree_tell(handle, address, frame, order, false);
+    llfree_range all = { 0, llfree_frames(handle) };
+
+    llfree_tell_give(address, &all, 1, frame, order);
+    return llfree_give(handle, frame, order);
+}
+
+/* llfree_give, of a memory of these zones. */
+static inline enum llfree_status llfree_give_told_in(llfree_core *handle, void *address, const llfree_range *zones,
+                                                     size_t zone_count, uint32_t frame, uint8_t order)
+{
+    llfree_tell_give(address, zones, zone_count, frame, order);
     return llfree_give(handle, frame, order);
 }
 
@@ -103,7 +130,7 @@ static inline enum llfree_status llfree_take_block_told(llfree_core *handle, voi
     enum llfree_status status = llfree_take_block(handle, order, block);
 
     if (status == LLFREE_OK)
-        llfree_tell(handle, address, block->frame, block->order, true);
+        llfree_tell(address, block->frame, block->order, true);
     return status;
 }
 
@@ -111,7 +138,7 @@ static inline enum llfree_status llfree_take_block_told(llfree_core *handle, voi
 static inline enum llfree_status llfree_give_block_told(llfree_core *handle, void *address, llfree_block *block)
 {
     if (block->live)
-        llfree_tell(handle, address, block->frame, block->order, false);
+        llfree_tell(address, block->frame, block->order, false);
     return llfree_give_block(handle, block);
 }
 

@@ -424,6 +424,31 @@ end,,Closed,1,2559' ends 16777216
     done
 }
 
+# limited LIMIT: a run of the input in a shell with this limit
+limited() {
+    status=0
+    # the outer shell would tell of the signal
+    {
+        timeout 60 bash -c "$1"'; exec "$0" run 1 1' "$program" <"$work/input" >"$work/output" 2>"$work/errors" || status=$?
+    } 2>/dev/null
+}
+
+# machine: what a shell says where the system ends the program, or does not start it; a front of the output is there then
+machine() {
+    lines 1000 '0,take,a,10' >"$work/input"
+    limited 'ulimit -f 1'
+    : >"$work/output"
+    expects 'a limit of the output' 153 '' ''
+    limited 'trap "" XFSZ; ulimit -f 1'
+    : >"$work/output"
+    expects 'a limit of the output, as an error' 3 '' 'llfree: write failed'
+    cp "$program" "$work/program"
+    chmod a-x "$work/program"
+    program=$work/program limited :
+    : >"$work/errors"
+    expects 'a program that may not be run' 126 '' ''
+}
+
 all() {
     answered
     images
@@ -434,6 +459,7 @@ all() {
 
     refused
     limits
+    machine
 
     runs run 1 1 <.
     expects 'a reader that fails' 3 '' 'llfree: read failed'

@@ -1,14 +1,15 @@
 #!/usr/bin/env bash
-# Tries the library for C, which it builds where it has to: the header names what the library exports, as
+# Tries the library for C, which make builds where it has to: the header names what the library exports, as
 # C and as C++; the library asks for nothing but a heap; and the programs of examples/c and tools/c run,
 # plainly and under what the compiler has to watch over memory, or just with the flags that are named. One
 # is in C++, one in Rust, one is run under valgrind, and one is built from what is installed: by hand, by pkg-config
 # and by CMake. What the machine lacks is said and left out.
 # The last line counts what was tried.
 set -eu
+unset CDPATH MAKEFLAGS MFLAGS
 root=$(cd "$(dirname "$0")/.." && pwd)
 cc=${CC:-cc}
-library=$root/crates/llfree_c/out/libllfree_c.a
+library=$root/build/libllfree_c.a
 heap=$(dirname "$(rt doc)")/c/liblibc_c.a
 folder=$(mktemp -d)
 trap 'rm -rf "$folder"' EXIT
@@ -22,8 +23,11 @@ passes() {
     echo "$1: ok"
     passed=$((passed + 1))
 }
-command -v "$cc" >/dev/null || { printf 'no C compiler: the library for C is not tried\n0 passed, 0 failed\n'; exit 0; }
-"$root/tools/c_library.sh" >"$folder/log" 2>&1 || { tail -n 20 "$folder/log" >&2; fails 'the library is not built'; }
+# skips WHAT COMMAND PACKAGE: says that it is left out
+skips() { echo "skipped: $1, for want of $2 ($3)"; }
+command -v "$cc" >/dev/null || { skips 'the library for C' "$cc" gcc; echo '0 passed, 0 failed'; exit 0; }
+command -v make >/dev/null || { skips 'the library for C' make make; echo '0 passed, 0 failed'; exit 0; }
+make -s -C "$root" library >"$folder/log" 2>&1 || { tail -n 20 "$folder/log" >&2; fails 'the library is not built'; }
 
 nm "$library" | awk '$2 == "T" && $3 ~ /^llfree_/ { print $3 }' | sort >"$folder/exported"
 # what the header writes out itself is not exported
@@ -49,7 +53,7 @@ compiles() {
     "$cc" -x "$@" -Wall -Wextra -Werror -I"$root/include" -c -o "$folder/header.o" - >"$folder/log" 2>&1
 }
 for language in c c++; do
-    is_here "$language" || { echo "the headers in $language: not here"; continue; }
+    is_here "$language" || { skips "the headers in $language" g++ g++; continue; }
     for header in "$root"/include/*.h; do
         name="$(basename "$header") in $language"
         printf '#include "%s"\nint main(void) { llfree_plain h = LLFREE_CLOSED; llfree_plain_close(&h);
@@ -136,95 +140,80 @@ if command -v valgrind >/dev/null && [ -e /usr/include/valgrind/helgrind.h ]; th
         says "$name: behind the give" 'race\|Conflicting\|Invalid' "${under[@]}" "$folder/told" 300 late
     done
 else
-    echo 'told.c: valgrind: not here'
+    skips 'told.c under valgrind' valgrind valgrind
 fi
 
 for source in "$root"/tools/c/*.cpp; do
     name=$(basename "$source")
-    is_here c++ || { echo "$name: not here"; continue; }
+    is_here c++ || { skips "$name" g++ g++; continue; }
     "$cc" -Wall -Wextra -Werror -I"$root/include" -o "$folder/program" -x c++ "$source" -x none "$library" "$heap" ||
         fails "$name: not built"
     runs "$name" "$source"
 done
 
 source=$root/examples/c/first.c
-name='first.c with pkg-config'
-if command -v make >/dev/null && command -v pkg-config >/dev/null; then
-    make -s -C "$root/examples/c" llfree.pc >/dev/null || fails "$name: no llfree.pc"
-    # it sets a backslash before a space
-    read -a with < <(PKG_CONFIG_PATH=$root/examples/c pkg-config --cflags --libs llfree)
-    "$cc" -o "$folder/program" "$source" "${with[@]}" || fails "$name: not built"
-    runs "$name" "$source"
-else
-    echo "$name: not here"
-fi
-
 # as it is installed: one archive, a shared library of which only llfree_* is seen, and what finds them
 name='installed'
-if command -v make >/dev/null; then
-    make -s -C "$root/examples/c" install PREFIX="$folder/at" >/dev/null || fails "$name: not installed"
-    # CMake has to find it where it was moved to
-    at=$folder/at
-    source=$root/examples/c/first.c
-    "$cc" -I"$at/include" -o "$folder/program" "$source" "$at/lib/libllfree.a" || fails "$name: no archive"
-    runs "$name: the archive" "$source"
-    "$cc" -I"$at/include" -o "$folder/program" "$source" -L"$at/lib" -lllfree -Wl,-rpath,"$at/lib" ||
-        fails "$name: no shared library"
-    readelf -d "$folder/program" | grep -q 'libllfree\.so\.1\]' || fails "$name: the shared library is not asked for"
-    runs "$name: the shared library" "$source"
-    nm -D --defined-only "$at/lib/libllfree.so.1" | awk '$2 != "A" { sub(/@.*/, "", $3); print $3 }' | sort |
-        diff - "$folder/exported" || fails "$name: other names in the shared library"
-    passes "$name: the names of the shared library"
-    if command -v pkg-config >/dev/null; then
-        export PKG_CONFIG_PATH=$at/lib/pkgconfig
-        [ "$(pkg-config --modversion llfree)" = "$(cat "$root/VERSION")" ] || fails "$name: another version for pkg-config"
-        read -ra with < <(pkg-config --cflags --libs llfree)
-        "$cc" -o "$folder/program" "$source" "${with[@]}" -Wl,-rpath,"$at/lib" || fails "$name: not built by pkg-config"
-        runs "$name: by pkg-config" "$source"
-        unset PKG_CONFIG_PATH
-    else
-        echo "$name: by pkg-config: not here"
-    fi
-    source=$root/examples/c/own_heap.c
-    "$cc" -I"$at/include" -o "$folder/program" "$source" "$at/lib/libllfree.a" || fails "$name: no heap of its own"
-    runs "$name: a program's own heap" "$source"
-    if command -v cmake >/dev/null; then
-        source=$root/examples/c/first.c
-        mv "$at" "$folder/moved"
-        with=(-DCMAKE_PREFIX_PATH="$folder/moved" -DCMAKE_C_COMPILER="$cc")
-        { cmake -S "$root/examples/c" -B "$folder/cmake" "${with[@]}" && cmake --build "$folder/cmake"; } >"$folder/log" 2>&1 ||
-            { tail -n 20 "$folder/log" >&2; fails "$name: not built by CMake"; }
-        for kind in first first-static; do
-            cp "$folder/cmake/$kind" "$folder/program"
-            runs "$name: by CMake: $kind" "$source"
-        done
-        # asks VERSION..: whether CMake gives what asks for this version
-        asks() {
-            printf 'cmake_minimum_required(VERSION 3.10)\nproject(asks C)\nfind_package(llfree %s CONFIG REQUIRED)\n' "$*" \
-                >"$folder/asks/CMakeLists.txt"
-            cmake -S "$folder/asks" -B "$folder/asks/build" "${with[@]}" >"$folder/log" 2>&1
-        }
-        mkdir "$folder/asks"
-        IFS=. read -r major minor patch <"$root/VERSION"
-        for version in '' "$major" "$major.$minor.$patch EXACT"; do
-            asks $version || fails "$name: CMake does not find version $version"
-        done
-        for version in "$((major + 1))" "$major.$((minor + 1))" "$major.$minor.$((patch + 1)) EXACT"; do
-            ! asks $version || fails "$name: CMake finds version $version"
-        done
-        passes "$name: by CMake: versions"
-    else
-        echo "$name: by CMake: not here"
-    fi
-    make -s -C "$root/examples/c" install PREFIX=/usr DESTDIR="$folder/to" >/dev/null || fails "$name: not under DESTDIR"
-    [ "$(find "$folder/to" -name '*.h' | wc -l)" = "$(find "$root/include" -name '*.h' | wc -l)" ] ||
-        fails "$name: a header is not installed"
-    make -s -C "$root/examples/c" uninstall PREFIX=/usr DESTDIR="$folder/to" >/dev/null || fails "$name: not removed"
-    [ -z "$(find "$folder/to" ! -type d)" ] || fails "$name: something is left"
-    passes "$name: nothing is left"
+make -s -C "$root" install PREFIX="$folder/at" >/dev/null || fails "$name: not installed"
+# CMake has to find it where it was moved to
+at=$folder/at
+source=$root/examples/c/first.c
+"$cc" -I"$at/include" -o "$folder/program" "$source" "$at/lib/libllfree.a" || fails "$name: no archive"
+runs "$name: the archive" "$source"
+"$cc" -I"$at/include" -o "$folder/program" "$source" -L"$at/lib" -lllfree -Wl,-rpath,"$at/lib" ||
+    fails "$name: no shared library"
+readelf -d "$folder/program" | grep -q 'libllfree\.so\.1\]' || fails "$name: the shared library is not asked for"
+runs "$name: the shared library" "$source"
+nm -D --defined-only "$at/lib/libllfree.so.1" | awk '$2 != "A" { sub(/@.*/, "", $3); print $3 }' | sort |
+    diff - "$folder/exported" || fails "$name: other names in the shared library"
+passes "$name: the names of the shared library"
+if command -v pkg-config >/dev/null; then
+    export PKG_CONFIG_PATH=$at/lib/pkgconfig
+    [ "$(pkg-config --modversion llfree)" = "$(cat "$root/VERSION")" ] || fails "$name: another version for pkg-config"
+    read -ra with < <(pkg-config --cflags --libs llfree)
+    "$cc" -o "$folder/program" "$source" "${with[@]}" -Wl,-rpath,"$at/lib" || fails "$name: not built by pkg-config"
+    runs "$name: by pkg-config" "$source"
+    unset PKG_CONFIG_PATH
 else
-    echo "$name: not here"
+    skips "$name: by pkg-config" pkg-config pkgconf
 fi
+source=$root/examples/c/own_heap.c
+"$cc" -I"$at/include" -o "$folder/program" "$source" "$at/lib/libllfree.a" || fails "$name: no heap of its own"
+runs "$name: a program's own heap" "$source"
+if command -v cmake >/dev/null; then
+    source=$root/examples/c/first.c
+    mv "$at" "$folder/moved"
+    with=(-DCMAKE_PREFIX_PATH="$folder/moved" -DCMAKE_C_COMPILER="$cc")
+    { cmake -S "$root/examples/c" -B "$folder/cmake" "${with[@]}" && cmake --build "$folder/cmake"; } >"$folder/log" 2>&1 ||
+        { tail -n 20 "$folder/log" >&2; fails "$name: not built by CMake"; }
+    for kind in first first-static; do
+        cp "$folder/cmake/$kind" "$folder/program"
+        runs "$name: by CMake: $kind" "$source"
+    done
+    # asks VERSION..: whether CMake gives what asks for this version
+    asks() {
+        printf 'cmake_minimum_required(VERSION 3.10)\nproject(asks C)\nfind_package(llfree %s CONFIG REQUIRED)\n' "$*" \
+            >"$folder/asks/CMakeLists.txt"
+        cmake -S "$folder/asks" -B "$folder/asks/build" "${with[@]}" >"$folder/log" 2>&1
+    }
+    mkdir "$folder/asks"
+    IFS=. read -r major minor patch <"$root/VERSION"
+    for version in '' "$major" "$major.$minor.$patch EXACT"; do
+        asks $version || fails "$name: CMake does not find version $version"
+    done
+    for version in "$((major + 1))" "$major.$((minor + 1))" "$major.$minor.$((patch + 1)) EXACT"; do
+        ! asks $version || fails "$name: CMake finds version $version"
+    done
+    passes "$name: by CMake: versions"
+else
+    skips "$name: by CMake" cmake cmake
+fi
+make -s -C "$root" install PREFIX=/usr DESTDIR="$folder/to" >/dev/null || fails "$name: not under DESTDIR"
+[ "$(find "$folder/to" -name '*.h' | wc -l)" = "$(find "$root/include" -name '*.h' | wc -l)" ] ||
+    fails "$name: a header is not installed"
+make -s -C "$root" uninstall PREFIX=/usr DESTDIR="$folder/to" >/dev/null || fails "$name: not removed"
+[ -z "$(find "$folder/to" ! -type d)" ] || fails "$name: something is left"
+passes "$name: nothing is left"
 
 source=$root/examples/c/first.rs
 if command -v rustc >/dev/null; then
@@ -232,6 +221,6 @@ if command -v rustc >/dev/null; then
         -L"$(dirname "$heap")" -lstatic=libc_c || fails 'first.rs: not built'
     runs first.rs "$source"
 else
-    echo 'first.rs: no Rust compiler'
+    skips first.rs rustc rustc
 fi
 echo "$passed passed, 0 failed"

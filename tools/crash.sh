@@ -5,6 +5,7 @@
 # kills so many times in each way to recover (150), stops behind each instruction of 300 calls, and has to find five
 # wrong programs. It needs a C compiler and python3, and builds the library where it has to. The last line counts.
 set -u
+unset CDPATH MAKEFLAGS MFLAGS
 root=$(cd "$(dirname "$0")/.." && pwd)
 cc=${CC:-cc}
 kills=${1:-150}
@@ -25,9 +26,12 @@ passes() {
     passed=$((passed + 1))
 }
 shows() { [ ! -t 2 ] || printf '\r\033[K%s' "$*" >&2; }
-command -v "$cc" >/dev/null || { printf 'no C compiler: no kill is tried\n0 passed, 0 failed\n'; exit; }
-"$root/tools/c_library.sh" >"$folder/log" 2>&1 || fails 'the library is built'
-library=$root/crates/llfree_c/out/libllfree_c.a
+for command in "$cc gcc" 'make make' 'python3 python3'; do
+    command -v "${command% *}" >/dev/null ||
+        { printf 'skipped: kills, for want of %s (%s)\n0 passed, 0 failed\n' "${command% *}" "${command#* }"; exit; }
+done
+make -s -C "$root" library >"$folder/log" 2>&1 || fails 'the library is built'
+library=$root/build/libllfree_c.a
 
 # builds FOLDER NAME: the program of the sources in that folder; its heap is its own
 builds() {

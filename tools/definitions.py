@@ -3,9 +3,10 @@
 on, in the sentences that stand above them, the promise that needs the fewest first; those on which several pages
 rest stand once, on a page of their own.
 
-Run it at the top of the repository. It ends with status 1 where a definition has no sentence, a contract that is
-named here is missing, or docs/PROOFS.md links to a part that is not there; with `--strict` also where two definitions
-of the specs have one name.
+Run it at the top of the repository. With `--check` it writes nothing, and says which page is another than it would
+write; its last line counts the pages. It ends with status 1 where one differs, a definition has no sentence, a contract
+that is named here is missing, or a page of docs/ links to a part that is not there; with `--strict` also where two
+definitions of the specs have one name.
 """
 import re
 import sys
@@ -14,7 +15,7 @@ from collections import defaultdict
 
 sys.dont_write_bytecode = True
 
-from spec_files import TOP, Definition, Specs, contract, said_of  # noqa: E402
+from spec_files import TOP, Definition, Specs, contract, leave, said_of  # noqa: E402
 
 MOST_FIELDS = 12
 # the page of what more than one page rests on
@@ -44,12 +45,43 @@ PAGES = [
             "Allocator::give", "Allocator::keep", "Allocator::recall", "Allocator::split", "Allocator::join"]),
         ("opening and closing", ["Allocator::open", "Allocator::open_with", "Allocator::close"]),
         ("what survived", ["Allocator::open_at", "Survivors::adopt"]),
+        ("the bounds on moves", ["bounds_are_these"]),
+        ("one core of all, and the cores again", ["Allocator::gather", "Allocator::scatter"]),
+        ("what a search of all trees may miss", ["searches_miss_what_is_withheld"]),
+        ("a core with single frames at hand", ["CachedCore::take", "CachedCore::give"]),
+    ]),
+    ("zones", "Zones", [
+        ("a take, and why it is refused", ["Zones::take"]),
+        ("a give, a split, a block that is kept or recalled", [
+            "Zones::give", "Zones::split", "Zones::keep", "Zones::recall"]),
+        ("blocks of two zones share no frame", ["blocks_lie_in_zones"]),
+        ("opening and closing", ["Zones::open", "Zones::close"]),
+        ("what survived", ["Zones::open_at", "Zones::adopt"]),
+        ("how much is free", ["Zones::free_frames", "Zones::free_huge"]),
+    ]),
+    ("c", "The library for C", [
+        ("one thread: a take, a give, a split", [
+            "llfree_plain_take", "llfree_plain_give", "llfree_plain_split", "llfree_plain_is_held"]),
+        ("one thread: opening and closing", [
+            "llfree_plain_open", "llfree_plain_reopen", "llfree_plain_close_image"]),
+        ("several threads: a take, a give, a split", ["llfree_take", "llfree_give", "llfree_split"]),
+        ("several threads: blocks in structs", [
+            "llfree_take_block", "llfree_give_block", "llfree_split_block"]),
+        ("several threads: openings", [
+            "llfree_open", "llfree_open_zones", "llfree_open_unchecked", "llfree_open_zones_unchecked"]),
+        ("several threads: openings at an image", ["llfree_reopen", "llfree_reopen_zones"]),
+        ("several threads: the image that the last handle leaves", ["llfree_close_image"]),
+        ("the image of words after a kill", ["llfree_words", "llfree_image_of_words"]),
+        ("how much is free", ["llfree_free_frames", "llfree_free_huge"]),
+        ("what no take answers and no stop leaves", ["wrong_takes_are_not_told", "wrong_images_are_not_left"]),
     ]),
     ("threads", "Threads", [
         ("what words and views that agree say of blocks and counters", ["every_fit_is_safe"]),
         ("what the counters say at the end", ["every_closing_adds_up"]),
         ("whatever happens, words and views agree", ["every_run_fits", "every_run_from_an_opening_fits"]),
         ("whatever stops, known blocks are held", ["every_stop_is_survived", "every_reopening_is_survived"]),
+        ("who wins where an exchange is lost, and what pays for it", ["every_loss_has_a_winner", "every_loss_is_paid"]),
+        ("what a seat that rests withholds", ["every_fit_withholds_little"]),
         ("what a move is", ["trait Moves"]),
         ("a table is opened and closed, and who owns a block", [
             "open_table", "open_table_with", "open_table_at", "GroundSeat::part",
@@ -200,35 +232,34 @@ def anchor(heading):
     return re.sub(r"[^a-z0-9 -]", "", heading.lower()).replace(" ", "-")
 
 
-def dead_links(docs):
-    """The links of docs/PROOFS.md into docs/believe/ that lead nowhere."""
+def dead_links(docs, texts):
+    """The links of the pages in docs/ into docs/believe/ that lead nowhere."""
     dead = []
-    for name, _, part_of in re.findall(r"\(believe/([a-z-]+)\.md(#([a-z0-9-]+))?\)", (docs / "PROOFS.md").read_text()):
-        page = docs / "believe" / f"{name}.md"
-        heads = re.findall(r"^#+ (.*)$", page.read_text(), re.M) if page.exists() else []
-        if not heads or (part_of and part_of not in map(anchor, heads)):
-            dead.append(f"{name}.md#{part_of}")
+    for source in sorted(docs.glob("*.md")):
+        for name, _, part_of in re.findall(r"\(believe/([a-z-]+)\.md(#([a-z0-9-]+))?\)", source.read_text()):
+            heads = re.findall(r"^#+ (.*)$", texts.get(docs / "believe" / f"{name}.md", ""), re.M)
+            if not heads or (part_of and part_of not in map(anchor, heads)):
+                dead.append(f"{source.name}: {name}.md#{part_of}")
     return dead
 
 
 def main(words):
     specs, missing = Specs(), []
     docs = TOP / "docs"
-    (docs / "believe").mkdir(exist_ok=True)
     pages = [Page(specs, *page, missing) for page in PAGES]
     shared = shared_by([page.known for page in pages])
     shared_others = shared_by([page.others for page in pages])
-    for page in pages:
-        (docs / "believe" / f"{page.name}.md").write_text(text_of(specs, page, shared, shared_others))
-    (docs / "believe" / f"{COMMON}.md").write_text(common_text(specs, shared, shared_others))
+    texts = {docs / "believe" / f"{page.name}.md": text_of(specs, page, shared, shared_others) for page in pages}
+    texts[docs / "believe" / f"{COMMON}.md"] = common_text(specs, shared, shared_others)
     bare = [f"{d.crate}/specs/{d.module}: {d.name}" for d in specs.found.values() if not d.sentence]
     double = twice(specs)
-    dead = dead_links(docs)
+    dead = dead_links(docs, texts)
     for kind, lines in [("no sentence", bare), ("no contract", missing), ("no part of a page", dead),
                         ("two definitions", double)]:
         for line in lines:
             print(f"{kind}: {line}", file=sys.stderr)
-    return 1 if bare or missing or dead or (double and "--strict" in words) else 0
+    wrong = len(bare) + len(missing) + len(dead) + (len(double) if "--strict" in words else 0)
+    return leave(texts, docs / "believe", "--check" in words, wrong)
 
 
 if __name__ == "__main__":

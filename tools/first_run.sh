@@ -1,469 +1,200 @@
 #!/usr/bin/env bash
-# Tries what ./llfree, tools/c_library.sh, tools/kernel_library.sh and examples/c/Makefile build, and when they do so
-# again, in a small tree with a stand-in for rt: sources that are edited, deleted or renamed, also while they are built,
-# another kit, a crate that fails, interrupts, a clone that cannot be written to, and words that are no command. Nothing
-# is proved. The last line counts what was tried.
+# Tries what ./llfree and make build, and when they do so again, in a small tree with a stand-in for the kit
+# (tools/stand_in.sh); what they refuse; what the gate's last lines say; and with the kit itself a tree with a crate for
+# each rule of rt ci, which rt ci and make have to refuse. The last line counts.
 set -u
-root=$(cd "$(dirname "$0")/.." && pwd)
-. "$root/tools/sources.sh"
-work=$(mktemp -d)
+unset CDPATH MAKEFLAGS MFLAGS LLFREE_UNPROVED RT_JOBS
+root=$(cd "$(dirname "$0")/.." && pwd) work=$(mktemp -d)
+tree="$work/a tree" kit=$work/kit passed=0 failed=0
 trap 'rm -rf "$work"' EXIT
-tree=$work/tree
-kit=$work/kit
-passed=0
-failed=0
-unset LLFREE_UNPROVED RT_BACKEND
 
-# holds NAME COMMAND..: the row passes where the command holds
+# holds NAME WORDS WORDS: the row passes where both are the same
 holds() {
-    local name=$1
-    shift
-    if "$@"; then
-        passed=$((passed + 1))
-        return
-    fi
+    if [ "$2" = "$3" ]; then passed=$((passed + 1)); return; fi
     failed=$((failed + 1))
-    echo "first_run: $name: not so: $*; status ${status:-}, calls: $(calls); output and errors:"
-    head -n 5 "$work/output" "$work/errors"
+    echo "first_run: $1: not so: $2, but wanted: $3; the end of what was said: $(tail -n 8 "$work/output" "$work/errors")"
 }
-
-# a kit that says what it was called for, does what a hook of the crate says, and builds a file of the sources
-makes_kit() {
-    mkdir -p "$kit/bin" "$kit/rlibs" "$kit/c" "$kit/toolchain/bin" "$kit/toolchain/lib"
-    : >"$kit/toolchain/bin/clang"
-    echo 'stand-in 1' >"$kit/KIT-ID"
-    : >"$kit/calls"
-    cat >"$kit/bin/rt" <<'RT'
-#!/usr/bin/env bash
-set -eu
-kit=$(cd "$(dirname "$0")/.." && pwd)
-case $1 in
-    doc) echo "$kit/START-HERE.md" ;;
-    try) shift 2; echo "try $*" >>"$kit/calls"; echo "tried $*" ;;
-    ci)
-        # as the kit's: out/ goes, and what stood in out/rlib is given back at the end
-        for name in low mid; do [ ! -d crates/$name/out/rlib ] || mv crates/$name/out/rlib crates/$name/before; done
-        rm -rf crates/*/out
-        mkdir -p crates/low/out/rlib/low.rlib crates/mid/out/rlib/mid.rlib crates/llfree/out
-        printf '#!/bin/sh\n' >crates/llfree/out/llfree
-        chmod +x crates/llfree/out/llfree
-        if [ -e "$kit/hook.ci" ]; then . "$kit/hook.ci"; fi
-        for name in low mid; do
-            [ ! -d crates/$name/before ] || { rm -r crates/$name/out/rlib; mv crates/$name/before crates/$name/out/rlib; }
-        done
-        printf '%s\n' 'a line' '3 passed, 0 failed' ;;
-esac
-RT
-    cat >"$kit/bin/rattle" <<'RATTLE'
-#!/usr/bin/env bash
-set -eu
-kit=$(cd "$(dirname "$0")/.." && pwd)
-name=$3
-made=${!#}
-echo "$name" >>"$kit/calls"
-before=$(cat ../*/src/*.rt)
-if [ -e "$kit/hook.$name" ]; then . "$kit/hook.$name"; fi
-case $made in
-    *.rlib) mkdir "$made" ;;
-    *) echo "$before" >"$made" ;;
-esac
-RATTLE
-    cat >"$kit/bin/rattle-link" <<'LINK'
-#!/usr/bin/env bash
-set -eu
-printf '#!/bin/sh\necho "%s: $*"\n' "$(echo $(cat "$7"))" >"$6"
-chmod +x "$6"
-LINK
-    chmod +x "$kit"/bin/*
-    chmod -R a+rX "$work"
-    chmod a+w "$kit/calls"
-}
-
-# a tree with a library that nothing uses
+calls() { echo $(cat "$kit/calls"); }
+mkdir -p "$kit"/{bin,c,toolchain/bin,rlibs/std.rlib/toolchain}
+echo 'stand-in logic 1' >"$kit/KIT-ID"
+for name in bin/{rt,rattle,rattle-link} toolchain/bin/clang; do cp "$root/tools/stand_in.sh" "$kit/$name"; done
 makes_tree() {
-    rm -rf "$tree" "$kit"/hook.*
-    mkdir -p "$tree/tools" "$tree/examples/c"
-    cp "$root/llfree" "$tree"
-    cp "$root"/tools/{build,crate,c_library,static_library,sources}.sh "$tree/tools"
-    cp "$root"/examples/c/{Makefile,llfree.pc.in} "$tree/examples/c"
-    echo 'Handles allowed: none.' >"$tree/HANDLES"
-    printf '%s\n' 'low: std' 'mid: low # and no more' 'other: low' 'llfree: mid low' 'llfree_c staticlib: mid low' >"$tree/crates.txt"
     local name
+    rm -rf "$tree" "$kit"/hook.*
+    mkdir -p "$tree"/{tools,.git,.ci,docs,man,include,bindings/rust,crates/low/must-fail}
+    (cd "$root" && cp --parents llfree Makefile VERSION HANDLES .ci/run tools/{prove,judge}.py "$tree")
+    echo 'The kit: stand-in logic 1' >"$tree/README.md"
+    printf '%s\n' 'low: ' 'mid: low # and no more' 'other: low' 'llfree: mid low' 'llfree_c staticlib: mid low' >"$tree/crates.txt"
     for name in low mid other llfree llfree_c; do
-        mkdir -p "$tree/crates/$name/src" "$tree/crates/$name/specs"
-        echo "$name" >"$tree/crates/$name/src/lib.rt"
-        echo "$name" >"$tree/crates/$name/specs/Lib.antt"
+        mkdir -p "$tree/crates/$name"/{src/out,specs,proofs}
+        (cd "$tree/crates/$name" && echo "$name" | tee src/lib.rt src/out/mod.rt specs/Lib.antt >proofs/Lib.antt)
     done
     mv "$tree/crates/llfree/src/lib.rt" "$tree/crates/llfree/src/main.rt"
-    chmod -R a+rX "$tree"
+    : >"$kit/calls"
+    chmod -R a+rwX "$work" && chmod -R go-w "$tree"
 }
-
 # runs COMMAND..: in the tree, with the stand-in
 runs() {
-    : >"$kit/calls"
-    status=0
-    (cd "$tree" && PATH=$kit/bin:/usr/bin:/bin "$@") >"$work/output" 2>"$work/errors" </dev/null || status=$?
+    : >"$kit/calls" && status=0
+    (cd "$tree" && PATH=$kit/bin:$PATH "$@") >"$work/output" 2>"$work/errors" </dev/null || status=$?
 }
-
-calls() {
-    echo $(cat "$kit/calls")
+# builds NAME [CRATES]: just these crates
+builds() { runs "${words[@]}"; holds "$1" "$status, $(calls)" "0, ${2:-}"; }
+# refuses NAME SENTENCE: it is refused, with this sentence
+refuses() { runs "${words[@]}"; holds "$1" "$((status == 0)), $(cat "$work/output")$(grep -oF -m 1 -e "$2" "$work/errors")" "0, $2"; }
+# rows WHAT: of each line the name, what is done, and what is built then; where it begins with ! it is refused, and this said
+rows() {
+    local name what then
+    while IFS='|' read -r name what then; do
+        eval "$what"
+        if [ "${then#!}" = "$then" ]; then builds "$1$name" "$then"; else refuses "$1$name" "${then#!}"; fi
+    done
 }
-
-says() {
-    grep -qF -e "$1" "$work/errors"
+edits() { echo "$2" >"$tree/crates/$1"; }
+hooks() { echo "$2" >"$kit/hook.$1"; }
+links() { mv "$tree/$1" "$work/moved"; ln -s "$work/moved" "$tree/$1"; }
+unlinks() { rm "$tree/$1"; mv "$work/moved" "$tree/$1"; }
+# stopped SIGNAL: while mid is built, as by a terminal
+stopped() {
+    hooks mid "kill -$1 -- -\$(cat '$work/pid'); sleep 2; echo late >>'$kit/calls'"
+    runs setsid -w bash -c 'echo $$ >"$0"; exec "$@"' "$work/pid" env --default-signal=INT "${words[@]}"
+    sleep 2.5; rm "$kit/hook.mid"
 }
-
-is() {
-    [ "$1" = "$2" ]
-}
-
-# the three targets: what is run, which crates are built in a fresh clone, and what is left
-target() {
-    case $1 in
-        program) words=(./llfree run 1 1) built='low mid llfree' product=crates/llfree/out/llfree ;;
-        library) words=(tools/c_library.sh) built='low mid llfree_c' product=crates/llfree_c/out/libllfree_c.a ;;
-        make) words=(make -s -C examples/c llfree.pc) built='low mid llfree_c' product=crates/llfree_c/out/libllfree_c.a ;;
-    esac
-}
-
-# builds NAME [CRATES]: just these crates, or all
-builds() {
-    runs "${words[@]}"
-    holds "$1" is "$status, $(calls)" "0, ${2:-$built}"
-}
-
-builds_nothing() {
-    runs "${words[@]}"
-    holds "$1" is "$status, $(calls)" '0, '
-}
-
-# one target: what is changed is built again, once, with all above it
+# what is changed is built again, once, with all above it that reads it
 changes() {
-    target "$1"
+    local last=$1 product=$2 all="low mid $1" words=("${@:3}")
     makes_tree
-    local last=${built##* }
-    builds "$1: in a fresh clone"
-    holds "$1: what it costs is said" says 'crates; with nothing kept'
-    builds_nothing "$1: again"
-    # as many bytes as before, and no new name
-    echo lew >"$tree/crates/low/src/lib.rt"
-    builds "$1: after an edit"
-    [ "$1" != program ] || holds "$1: the edit is in it" grep -q lew "$work/output"
-    builds_nothing "$1: after an edit, again"
-    echo '# another way' >>"$tree/tools/crate.sh"
-    builds "$1: after the way it is built changed"
-    rm "$tree/crates/mid/specs/Lib.antt"
-    builds "$1: after a file was deleted" "mid $last"
-    mv "$tree/crates/low/specs/Lib.antt" "$tree/crates/low/specs/Low.antt"
-    builds "$1: after a file was renamed"
-    : >"$tree/crates/low/specs/New.antt"
-    touch -d @0 "$tree/crates/low/specs/New.antt"
-    builds "$1: after an old file came"
-    echo 'other: low mid' >>"$tree/crates.txt"
-    builds "$1: after crates.txt changed" "$last"
-    sed -i 's/^mid: .*/mid: low std/' "$tree/crates.txt"
-    builds "$1: after a line of crates.txt changed" "mid $last"
-    echo 'stand-in 2' >"$kit/KIT-ID"
-    builds "$1: with another kit"
-    rm "$tree/$product"
-    builds "$1: after what was built is gone" "$last"
-    rm -r "$tree/crates/mid/out/rlib"
-    echo new >"$tree/crates/other/src/lib.rt"
-    builds "$1: after a library that was built is gone" "mid $last"
-    cp "$tree/$product" "$work/product"
-    cp "$work/product" "$tree/$product"
-    builds "$1: after another was laid in its place" "$last"
-    builds_nothing "$1: after all that, again"
-
-    echo 'echo mad >../low/src/lib.rt' >"$kit/hook.mid"
-    echo low >"$tree/crates/low/src/lib.rt"
-    builds "$1: edited while it is built"
-    holds "$1: that is said" says 'changed while it was built'
-    rm "$kit/hook.mid"
-    builds "$1: next after an edit while it was built"
-    [ "$1" != program ] || holds "$1: that edit is in it" grep -q mad "$work/output"
-    builds_nothing "$1: and again"
-    # edited while it is itself proved: what was read of it is not known
-    echo 'echo sad >../low/src/lib.rt' >"$kit/hook.low"
-    echo low >"$tree/crates/low/src/lib.rt"
-    builds "$1: edited while it is proved"
-    rm "$kit/hook.low"
-    builds "$1: next after an edit while it was proved"
-    # put back as it was, with its time
-    cp -p "$tree/crates/low/src/lib.rt" "$work/low"
-    echo 'cp -p '"$work/low"' ../low/src/lib.rt; touch ../low/src/lib.rt' >"$kit/hook.mid"
-    echo new >"$tree/crates/low/src/lib.rt"
-    builds "$1: edited back while it is built"
-    rm "$kit/hook.mid"
-    cp -p "$work/low" "$tree/crates/low/src/lib.rt"
-    builds "$1: next after that"
-
-    echo 'exit 1' >"$kit/hook.mid"
-    cp -p "$tree/crates/low/src/lib.rt" "$work/low"
-    echo bad >"$tree/crates/low/src/lib.rt"
-    runs "${words[@]}"
-    holds "$1: a crate fails" is "$(calls)" 'low mid'
-    holds "$1: and its status" is "$status" "$([ "$1" = make ] && echo 2 || echo 4)"
-    holds "$1: and it is said" says 'not proved'
-    [ "$1" != program ] || holds "$1: and nothing is run" is "$(cat "$work/output")" ''
-    runs "${words[@]}"
-    holds "$1: a crate fails once more" is "$(calls)" 'mid'
-    rm "$kit/hook.mid"
-    # the old program is there, and so are its sources, with their old times: but what was built since is not known
-    cp -p "$work/low" "$tree/crates/low/src/lib.rt"
-    builds "$1: after the edit that failed was taken back"
-
-    local signal
-    for signal in INT TERM; do
-        cp -p "$tree/crates/low/src/lib.rt" "$work/low"
-        echo out >"$tree/crates/low/src/lib.rt"
-        echo 'kill -'$signal' $(ps -o ppid= -p $PPID); sleep 5; echo "late $name" >>"$kit/calls"; exit 1' >"$kit/hook.mid"
-        runs env --default-signal=INT "${words[@]}"
-        holds "$1: $signal" is "$(calls)" 'low mid'
-        [ "$1" != program ] || holds "$1: $signal: and nothing is run" is "$(cat "$work/output")" ''
-        holds "$1: $signal: and it is said" says 'stopped'
-        [ "$1" != program ] || holds "$1: $signal: its status" is "$status" "$([ $signal = INT ] && echo 130 || echo 143)"
-        rm "$kit/hook.mid"
-        cp -p "$work/low" "$tree/crates/low/src/lib.rt"
-        builds "$1: next after $signal"
-    done
+    rows "$last: " <<ROWS
+in a fresh clone||$all
+again||
+an edit|edits low/src/lib.rt lew|$all
+an edit in a folder named out|edits low/src/out/mod.rt new|low
+an edit of a proof|edits low/proofs/Lib.antt new|low
+an edit back|edits low/src/lib.rt low|$all
+a file is deleted|rm "\$tree/crates/mid/specs/Lib.antt"|mid
+a file is renamed|mv "\$tree"/crates/low/specs/{Lib,Low}.antt|low
+an old time|touch -d @0 "\$tree/crates/low/src/lib.rt"|
+an edit with an old time|edits low/src/lib.rt old; touch -d @0 "\$tree/crates/low/src/lib.rt"|$all
+a line of crates.txt|sed -i 's/^mid: .*/mid: low std/' "\$tree/crates.txt"|mid $last
+another recipe|echo '# another' >>"\$tree/tools/judge.py"|$all
+another library of the kit|echo new >>"\$kit/rlibs/std.rlib/toolchain/checked.a"|$all
+another compiler|echo '# new' >>"\$kit/toolchain/bin/clang"|$all
+another linker|echo '# new' >>"\$kit/bin/rattle-link"|$all
+another C archive|echo new >>"\$kit/c/liblibc_c.a"|$all
+another was laid in its place|echo by hand >"\$tree/build/$product"|
+the clone is copied|cp -r "\$tree" "\$work/copy"; rm -rf "\$tree"; mv "\$work/copy" "\$tree"|
+a crate fails|edits mid/src/lib.rt bad; hooks mid 'exit 1'|!mid is refused: it is not proved
+it fails once more||!mid is refused: it is not proved
+what failed is taken back|edits mid/src/lib.rt mid; rm "\$kit/hook.mid"|mid
+a source was another while it was built|edits low/src/lib.rt new; hooks low "cd '\$tree/crates/mid/src'; mv lib.rt ../lib; echo EVIL >lib.rt; cd - >&2"; hooks $last "cd '\$tree/crates/mid/src'; mv ../lib lib.rt; cd - >&2"; runs "\${words[@]}"; rm "\$kit"/hook.*|mid $last
+it was edited while it was built|edits mid/src/lib.rt new; hooks mid "echo mad >'\$tree/crates/low/src/lib.rt'"; runs "\${words[@]}"; rm "\$kit"/hook.*|$all
+next after Ctrl-C|edits low/src/lib.rt int; stopped INT|mid $last
+next after TERM|edits low/src/lib.rt term; stopped TERM|mid $last
+next after kill -9|edits low/src/lib.rt kill; stopped KILL 2>/dev/null|mid $last
+ROWS
+    holds "$last: of all that nothing is left" "$(grep -lE 'EVIL|by hand' "$tree/build/$product"; pgrep -f "$kit/bin/rattle")" ''
 }
-
-# the crates in the order of their names: two that are proved beside each other begin in any order
-sorted_calls() {
-    echo $(sort "$kit/calls")
-}
-
-# two libraries that do not stand on each other are proved beside each other
-two_beside() {
-    target program
+refusals() {
+    local name nobody=() words=(./llfree run 1 1)
     makes_tree
-    printf '%s\n' 'low: std' 'mid: low' 'side: low' 'llfree: mid side low' >"$tree/crates.txt"
-    cp -r "$tree/crates/other" "$tree/crates/side"
-    local all='llfree low mid side' signal
-    # each waits for the begin of the other
-    local begun='for _ in $(seq 100); do if grep -q mid "$kit/calls" && grep -q side "$kit/calls"; then break; fi; sleep 0.1; done; '
-    echo "$begun"'grep -q side "$kit/calls"' >"$kit/hook.mid"
-    echo "$begun"'grep -q mid "$kit/calls"' >"$kit/hook.side"
-    runs "${words[@]}"
-    holds 'beside: in a fresh clone' is "$status, $(sorted_calls)" "0, $all"
-    rm "$kit"/hook.*
-    builds_nothing 'beside: again'
-    echo new >"$tree/crates/side/src/lib.rt"
-    builds 'beside: an edit of one' 'side llfree'
-
-    echo new >"$tree/crates/low/src/lib.rt"
-    echo "$begun"'exit 1' >"$kit/hook.mid"
-    echo 'sleep 5; echo "late $name" >>"$kit/calls"; exit 1' >"$kit/hook.side"
-    runs "${words[@]}"
-    holds 'beside: one fails, and nobody waits for the other' is "$status, $(sorted_calls)" '4, low mid side'
-    holds 'beside: and it is said' says 'mid failed'
-    for signal in INT TERM; do
-        echo "${begun}kill -$signal"' $(ps -o ppid= -p $PPID); sleep 5; echo "late $name" >>"$kit/calls"; exit 1' >"$kit/hook.mid"
-        runs env --default-signal=INT "${words[@]}"
-        holds "beside: $signal" is "$status, $(sorted_calls)" "$([ $signal = INT ] && echo 130 || echo 143), mid side"
-    done
-    rm "$kit"/hook.*
-    runs "${words[@]}"
-    holds 'beside: next after all that' is "$status, $(sorted_calls)" "0, llfree mid side"
-    holds 'beside: the edit is in it' grep -q new "$work/output"
+    [ "$(id -u)" != 0 ] || nobody=(setpriv --reuid=65534 --regid=65534 --clear-groups)
+    mkdir "$work/bin"
+    for name in /usr/bin/* /bin/*; do case $name in */make | */gmake | */rt) ;; *) ln -sf "$name" "$work/bin" ;; esac; done
+    rows '' <<'ROWS'
+a link to a source|links crates/low/src/lib.rt|!crates/low/src/lib.rt is a link
+a link to sources|unlinks crates/low/src/lib.rt; links crates/low/src|!crates/low/src is a link
+a link to crates|unlinks crates/low/src; links crates|!crates is a link
+a source that no crate reads|unlinks crates; edits low/other.rt text|!no check reads crates/low/other.rt
+a text that rt ci refuses|rm "$tree/crates/low/other.rt"; edits low/src/lib.rt REFUSED|!low is refused: a text that is REFUSED
+an empty contract|edits low/src/lib.rt low; hooks low "said='warning: no call of \`low::never\` can meet its contract'"|!no call can meet the contracts
+no end of empty contracts|hooks low "said='note: the search for empty contracts did not end'"|!the search for contracts that no call can meet
+a chosen term|hooks low "said='warning: calls of a tactic that chose a term: 1'"|!a tactic chose a term
+a tactic|hooks low "said='src/lib.rt:1:1: note: \`search\` stands in'"|!a tactic stands in a clause
+a pattern|hooks low "said='src/lib.rt:1:1: warning: this pattern binds a variable spelled like a constructor'"|!a pattern in a clause
+an impl by a macro|hooks low "said='by-macro: low::mine blocks=1'"|!a macro of this repository
+a macro that hides text|hooks low "said='by-macro: std::mine blocks=0'"|!a macro call may hide text
+Abort|hooks low "word='may-abort=1 '"|!a function takes the bound Abort
+C of its own|hooks low "word='foreign=low::getpid(1) '"|!it declares C functions
+what hides|hooks low "word='hides=1 '"|!a function hands out
+what was not finished|hooks low "word='bugs=1 '"|!the check refused
+a handle|hooks low "word='main=Threads+Net '"|!it takes what only the handle Net gives
+a word that nobody knows|hooks low "word='batches=trusted '"|!its last line has a word
+none of that|rm "$kit/hook.low"|low mid llfree
+a program that starts others|edits low/src/lib.rt new; echo 'echo posix_spawn' >>"$kit/toolchain/bin/clang"|!llfree is refused: it takes what only the handle Processes gives
+and one that does not|cp "$kit/bin/rt" "$kit/toolchain/bin/clang"|low mid llfree
+no make|edits low/src/lib.rt newer; words=(env PATH="$kit/bin:$work/bin" ./llfree run 1 1)|!make is not here
+no rt|words=(env PATH="$work/bin:$(dirname "$(command -v make)")" ./llfree run 1 1)|!rt of the Rattle kit is not on the PATH
+no find, sort or cmp|rm "$work"/bin/{find,sort,cmp}; ln -sf "$(command -v make)" "$(python3 -c 'import sys; print(sys.executable)')" "$work/bin"; words=(env PATH="$kit/bin:$work/bin" ./llfree run 1 1)|low mid llfree
+another kit|words=(./llfree run 1 1); echo 'another logic 2' >"$kit/KIT-ID"|!is none of those that README.md names
+a clone that cannot be written to|echo 'stand-in logic 1' >"$kit/KIT-ID"; chmod -R a-w "$tree"; words=("${nobody[@]}" ./llfree run 1 1)|!this clone cannot be written to
+MAKEFLAGS, CDPATH and POSIXLY_CORRECT|chmod -R u+w "$tree"; edits low/src/lib.rt flags; words=(env MAKEFLAGS=-n CDPATH=/usr POSIXLY_CORRECT=1 ./llfree run 1 1)|low mid llfree
+little room|words=(bash -c 'ulimit -v 60000; exec ./llfree run 1 1')|
+two at once|words=(sh -c 'make -s library & make -s library && wait $!')|llfree_c
+make NAME|words=(make -s -k other low)|other
+make -n|edits low/src/lib.rt last; words=(make -s -n)|
+ROWS
+    holds 'make -n: what would be done' "$(grep -c 'prove.py' "$work/output")" 4
 }
-
-# a tree with the gate, whose other parts have a row each
-makes_gate() {
-    local name
-    makes_tree
-    mkdir "$tree/.ci"
-    cp "$root/.ci/run" "$tree/.ci"
-    for name in answers.sh refusals.py fuzz.py beside.sh steps.sh c.sh crash.sh kernel.sh first_run.sh; do
-        printf '#!/bin/sh\necho "1 passed, 0 failed"\n' >"$tree/tools/$name"
-        chmod +x "$tree/tools/$name"
-    done
-}
-
-# what .ci/run leaves counts: the program, and the libraries below the one for C, of which just that is proved again
-after_ci() {
-    makes_gate
-    echo 'echo mad >crates/low/src/lib.rt' >"$kit/hook.ci"
-    runs .ci/run
-    rm "$kit/hook.ci"
-    target library
-    builds 'library: edited while .ci/run proved'
-    makes_gate
-    runs .ci/run
-    holds '.ci/run' is "$status, $(tail -n 1 "$work/output")" '0, 13 passed, 0 failed'
-    target program
-    builds_nothing 'program: after .ci/run'
-    target library
-    builds 'library: after .ci/run' llfree_c
-    builds_nothing 'library: after .ci/run, again'
-    echo new >"$tree/crates/low/src/lib.rt"
-    target library
-    builds 'library: after .ci/run and an edit'
-    target program
-    builds 'program: after .ci/run and an edit, of which the libraries stand built' llfree
-    # over what the gate before left; rt ci gives that back
-    makes_gate
-    runs .ci/run
-    : >"$tree/crates/low/out/rlib/low.rlib/old"
-    echo new >"$tree/crates/low/src/lib.rt"
-    runs .ci/run
-    target library
-    builds 'library: after .ci/run, an edit and .ci/run' llfree_c
-    holds 'library: over what the last .ci/run left' is "$(find "$tree/crates" -name old)" ''
-    # what else built a library below
-    local mark
-    for mark in key stamp; do
-        makes_gate
-        runs .ci/run
-        touch "$tree/crates/low/out/rlib/$mark"
-        builds "library: after .ci/run, where one below has a $mark"
-    done
-}
-
-# two at once build one archive, one after the other
-two_at_once() {
-    target library
-    makes_tree
-    runs sh -c 'tools/c_library.sh & tools/c_library.sh && wait $!'
-    holds 'library: two at once' is "$status, $(calls)" "0, $built"
-}
-
-# the archive for kernels, beside the one for programs
-for_kernels() {
-    makes_tree
-    cp "$root/tools/kernel_library.sh" "$tree/tools"
-    words=(tools/kernel_library.sh) built='low mid llfree_c llfree_c'
-    builds 'kernels: in a fresh clone'
-    builds_nothing 'kernels: again'
-    echo new >"$tree/crates/low/src/lib.rt"
-    builds 'kernels: after an edit'
-    echo 'echo mad >../low/src/lib.rt' >"$kit/hook.mid"
-    echo low >"$tree/crates/low/src/lib.rt"
-    builds 'kernels: edited while it is built'
-    rm "$kit/hook.mid"
-    builds 'kernels: next after an edit while it was built'
-    holds 'kernels: that edit is in it' grep -q mad "$tree/crates/llfree_c/out/libllfree_kernel.a"
-    builds_nothing 'kernels: and again'
-}
-
-# what no program has to be built for
+# what no program has to be built for, and just what the program has as no command; what it refuses for its sizes is its own
 words_alone() {
+    local said line usage
     makes_tree
-    local said line words usage
-    runs ./llfree
-    usage=$(cat "$work/errors")
-    holds 'no words' is "$status, $(calls), $(cat "$work/output")" '2, , '
-    holds 'no words: the usage' says 'usage: llfree run'
-    runs ./llfree foo
-    holds 'a word that is no command' is "$status, $(calls), $(cat "$work/output" "$work/errors")" "2, , $usage"
-    if [ -x "$root/crates/llfree/out/llfree" ]; then
-        "$root/crates/llfree/out/llfree" >"$work/output" 2>"$work/errors"
-        holds 'the usage of the script and of the program' is "$(cat "$work/errors")" "$usage"
-    else
-        echo 'the usage of the program: it is not built here'
-    fi
-    # just what the program has as no command; what it refuses for its sizes is its own
+    for line in --help --version; do runs ./llfree $line; holds "$line" "$status, $(calls), $(wc -l <"$work/output")" '0, , 1'; done
+    runs ./llfree; usage="2, , $(cat "$work/errors")"
     while read -r said line; do
-        eval "words=($line)"
-        runs env LLFREE_UNPROVED=1 ./llfree "${words[@]}"
-        if [ "$said" = usage ]; then
-            holds "no command: $line" is "$status, $(calls), $(cat "$work/errors")" "2, , $usage"
-        else
-            holds "a command: $line" is "$status, $(calls)" "0, try $line"
-        fi
+        eval "runs env LLFREE_UNPROVED=1 ./llfree $line"
+        if [ "$said" = usage ]; then said="$status, $(calls), $(cat "$work/errors")"; else said=$usage; [ "$(calls)" = "try $line" ] || said=$line; fi
+        holds "words: $line" "$said" "$usage"
     done < <(grep -v '^#' "$root/tools/refused/commands.txt"; printf '%s\n' 'of run 1 1' 'of run 000000001 64' 'of run 1 1 512' \
-        'of image 4096 64 1' 'of rebuild' 'of report' "usage run 1 $'\\xff'" 'usage run 1 1 -1' 'usage run 1 +1')
+        'of image 4096 64 1' 'of rebuild' 'of report' "usage run 1 $'\\xff'" 'usage run 1 1 -1' 'usage run 1 +1' 'usage "run 1 1"')
 }
-
-unproved() {
-    target program
-    makes_tree
-    runs env LLFREE_UNPROVED=1 ./llfree run 1 1
-    holds 'LLFREE_UNPROVED=1' is "$status, $(calls), $(cat "$work/output")" '0, try run 1 1, tried run 1 1'
-    holds 'LLFREE_UNPROVED=1 is said' says 'not proved'
-    words=(env LLFREE_UNPROVED=0 ./llfree run 1 1)
-    builds 'LLFREE_UNPROVED=0 is not set'
-    words=(env LLFREE_UNPROVED= ./llfree run 1 1)
-    builds_nothing 'LLFREE_UNPROVED with no word is not set'
-    words=(env RT_BACKEND=rattle ./llfree run 1 1)
-    builds 'by the other compiler' llfree
+# the gate over parts that say what is wanted, and what make takes of its proofs
+gate() {
+    local name what then part words=(make -s library)
+    while IFS='|' read -r name what then; do
+        makes_tree
+        : | tee "$tree/include/llfree.h" "$tree/crates/low/must-fail/one.edit" >"$kit/hook.ci"
+        for part in tools/{{answers,beside,steps,c,crash,kernel,first_run,play}.sh,{refusals,fuzz,definitions,contracts,readmes}.py} man/pages.py bindings/rust/test.sh; do
+            printf '#!/bin/sh\necho "1 passed, 0 failed"\n' >"$tree/$part" && chmod +x "$tree/$part"
+        done
+        echo '1 passed, 0 failed' >"$tree/man/llfree.3"
+        eval "$what"
+        runs env MAKEFLAGS=-n .ci/run
+        holds "the gate: $name" "$status, $(tail -n 2 "$work/output" | grep -E '^skipped: |^[0-9]+ passed' | paste -sd '|')" "${then#*:}"
+        [ "${then%%:*}" = - ] || builds "library after the gate: $name" "${then%%:*}"
+    done <<'ROWS'
+all passes|:|llfree_c:0, 17 passed, 0 failed, 0 skipped
+a source changes|hooks ci 'echo mad >crates/low/src/lib.rt'|low mid llfree_c:0, 17 passed, 0 failed, 0 skipped
+a part is killed|echo 'kill -9 $$' >"$tree/tools/steps.sh"|-:1, 16 passed, 1 failed, 0 skipped
+a part is missing|rm "$tree/tools/c.sh"|-:1, 16 passed, 1 failed, 0 skipped
+a part counts what failed, and ends well|echo 'echo 5 passed, 2 failed' >"$tree/tools/c.sh"|-:1, 21 passed, 2 failed, 0 skipped
+a part counts nothing, and ends badly|echo 'exit 3' >>"$tree/tools/c.sh"|-:1, 17 passed, 1 failed, 0 skipped
+a mutant that fits no more|cp "$tree"/crates/low/must-fail/{one,two}.edit|-:1, 17 passed, 1 failed, 0 skipped
+a tool is missing|echo 'echo "skipped: this, for want of that (those)"; echo 0 passed, 0 failed' >"$tree/tools/c.sh"|-:0, skipped: this, for want of that (those)|16 passed, 0 failed, 1 skipped
+a page is another|echo 'echo new >docs/new' >>"$tree/tools/definitions.py"|-:1, 16 passed, 1 failed, 0 skipped
+ROWS
 }
-
-without_rt() {
-    if PATH=/usr/bin:/bin command -v rt >/dev/null; then
-        echo 'with no rt on the PATH: it is where all commands are'
-        return
-    fi
-    target program
+# a crate for each rule, with the kit
+rules() {
+    local name file text
+    command -v rt >/dev/null || { echo 'skipped: the rules of rt ci, for want of rt (the Rattle kit)'; return; }
     makes_tree
-    words=(env PATH=/usr/bin:/bin ./llfree run 1 1)
-    runs "${words[@]}"
-    holds 'with no rt' is "$status, $(wc -l <"$work/errors")" '4, 1'
-    runs ./llfree run 1 1
-    builds_nothing 'with no rt, once it is built'
-    echo new >"$tree/crates/low/src/lib.rt"
-    runs "${words[@]}"
-    holds 'with no rt, after an edit' is "$status, $(wc -l <"$work/errors")" '4, 1'
-}
-
-# in a clone that cannot be written to; root can write everywhere, and is nobody for these rows
-unwritable() {
-    local nobody=()
-    if [ "$(id -u)" = 0 ]; then
-        nobody=(setpriv --reuid=65534 --regid=65534 --clear-groups)
-        if ! "${nobody[@]}" test -r "$tree/llfree" 2>/dev/null; then
-            echo 'a clone that cannot be written to: root cannot be kept from writing here'
-            return
-        fi
-    fi
-    makes_tree
-    chmod -R a-w "$tree"
-    local one
-    for one in program library; do
-        target $one
-        runs "${nobody[@]}" "${words[@]}"
-        holds "$one: unwritable" is "$status, $(calls), $(wc -l <"$work/errors")" '4, , 1'
-        holds "$one: unwritable: the way out" says 'copy the repository'
+    rm -r "$tree"/crates/* "$tree/crates.txt" && cp "$root/README.md" "$tree"
+    while read -r name file text; do
+        mkdir -p "$(dirname "$tree/crates/$name/$file")"
+        case $file in */main.rt | */lib.rt) echo "$name:"; text="#![tactic(auto)]\n\n$text" ;; esac >>"$tree/crates.txt"
+        printf '%b\n' "$text" >"$tree/crates/$name/$file"
+    done < <(grep -v '^#' "$root/tools/refused/rules.txt")
+    (cd "$tree" && rt ci) >"$work/output" 2>&1
+    (cd "$tree" && make -k $(tr -d : <crates.txt)) >"$work/errors" 2>&1
+    for name in $(tr -d : <"$tree/crates.txt"); do
+        holds "rt ci, make: $name" "$(grep -c "rt: $name NOT PROVED" "$work/output"), $(grep -c "^$name is refused: " "$work/errors")" \
+            "$([ "$name" = good ] && echo '0, 0' || echo '1, 1')"
     done
-    runs "${nobody[@]}" env LLFREE_UNPROVED=1 ./llfree run 1 1
-    holds 'unwritable: LLFREE_UNPROVED=1' is "$status, $(calls)" '0, try run 1 1'
-    chmod -R u+w "$tree"
-    target program
-    builds 'program: writable again'
-    chmod -R a-w "$tree"
-    runs "${nobody[@]}" "${words[@]}"
-    holds 'program: built, and unwritable' is "$status, $(calls)" '0, '
-    chmod -R u+w "$tree"
-    echo new >"$tree/crates/low/src/lib.rt"
-    chmod -R a-w "$tree"
-    runs "${nobody[@]}" "${words[@]}"
-    holds 'program: built, edited, and unwritable' is "$status, $(calls), $(wc -l <"$work/errors")" '4, , 1'
-    chmod -R u+w "$tree"
+    holds 'make: good' "$(grep -c '^good is proved' "$work/errors")" 1
 }
-
-# how long it takes to see that nothing changed in this repository; nothing is judged by it
-rerun() {
-    local before after
-    sources "$root" >"$work/lines"
-    before=$(date +%s%N)
-    sources "$root" | are_same "$work/lines"
-    after=$(date +%s%N)
-    echo "to see that nothing changed in $(wc -l <"$work/lines") files takes $(((after - before) / 1000000)) ms"
-}
-
-makes_kit
-changes program
-changes library
-if command -v make >/dev/null; then changes make; else echo 'make: not here'; fi
-two_beside
-after_ci
-two_at_once
-for_kernels
-words_alone
-unproved
-without_rt
-unwritable
-rerun
+changes llfree llfree ./llfree run 1 1
+changes llfree_c libllfree_c.a make -s library
+for part in refusals words_alone gate rules; do $part; done
 echo "$passed passed, $failed failed"
 [ "$failed" = 0 ]

@@ -4,8 +4,9 @@
 Traces and images are made, damaged byte by byte, cut, repeated, quoted and stretched, and run through
 `run`, `image`, `rebuild` and `report`. Status, output and errors have to be just what docs/USAGE.md
 and docs/FORMATS.md say of that text: the checker reads it again by the rules of tools/records.py, finds the
-record that is refused, and follows the answers of what is accepted frame by frame. One seed tries the same cases each time;
-each case that fails is kept as a file.
+record that is refused, and follows the answers of what is accepted frame by frame. Some texts are long enough to be
+read in parts: about the places where they are cut the records are quoted, ended and broken in all ways. One seed tries
+the same cases each time; each case that fails is kept as a file.
 
     tools/fuzz.py [--cases N] [--seed N] [--jobs N] [--seconds N] [--program FILE] [--under WORDS]
 """
@@ -341,11 +342,14 @@ def a_trace(chance):
     return [chance.choice(['run', 'image']), *sizes], as_text(rows)
 
 
-def some_rows(chance, cores, frames, count):
+IN_A_ROUND = ['take'] * 6 + ['give'] * 3 + ['giveat'] * 2
+
+
+def some_rows(chance, cores, frames, count, kinds=(*IN_A_ROUND, 'round', 'move')):
     rows, last = [], ''
     for _ in range(count):
         core, label = chance.randrange(cores), chance.choice('abcde')
-        kind = chance.choice(['take'] * 6 + ['give'] * 3 + ['giveat'] * 2 + ['round', 'move'])
+        kind = chance.choice(kinds)
         if kind == 'take':
             rows.append(f'{core},take,{label},{chance.choice([0, 0, 0, 1, 2, 3, 5, 6, 7, 8, 9, 10])}')
         elif kind == 'give':
@@ -366,12 +370,91 @@ def as_text(rows):
     return ''.join(row + '\n' for row in rows).encode()
 
 
+def long_rows(chance, cores, children, size, kinds):
+    """Rows of so many bytes at least, each with its line feed."""
+    rows, length = [], 0
+    while length < size:
+        more = some_rows(chance, cores, CHILD_FRAMES * children, 50, kinds)
+        rows += more
+        length += sum(len(row) + 1 for row in more)
+    return rows
+
+
+# the least bytes of a part, how many parts a core reads, and how far from a cut the forms reach
+PART_BYTES = 8_192
+PARTS_OF_A_CORE = 8
+CUT_BYTES = 40
+# ends of lines, with and without blank lines
+ENDS = '\n', '\r\n', '\r', '\n\n\r\n', '\r\r', '\n\n\n'
+# records that are refused, or that swallow those behind them
+FAULTS = ('0,take,"a\n', '0,take,"a\nb",0\n', '0,take,"\n0,take,b,0\n",0\n', '"\n', '"\r\n"\n', '""\n',
+          '0,take,a"b,0\n', '0,take,"a""b",0\n', '0,take,a,"0', '\ufeff0,take,a,0\n', '0,take,a,0,\n', '0,move,a,0\n',
+          ',reserve,0,1\n', ',\n')
+
+
+def in_quotes(chance, field):
+    """A field as CSV may have it: a quote at its start ends anywhere."""
+    place = chance.randrange(len(field) + 1)
+    return chance.choice([field, f'"{field}"', f'"{field[:place]}"{field[place:]}'])
+
+
+def respelled(chance, row, way):
+    """A row with its end, in another form that says the same."""
+    if way in ('quotes', 'both'):
+        row = ','.join(in_quotes(chance, field) for field in row.split(','))
+    return row + (chance.choice(ENDS) if way in ('ends', 'both') else '\n')
+
+
+def at_cut(fault, is_end, room):
+    """A fault that ends a part with so much room, or begins the next one, with blank lines before it."""
+    return '\n' * (room - (min(room, len(fault.encode())) if is_end else 0)) + fault
+
+
+def spelled_at_cuts(chance, rows, cores):
+    """The rows as a text, in which those about the places where it is cut into parts are in other forms, or one is a
+    fault."""
+    size = sum(len(row) + 1 for row in rows)
+    part = max(PART_BYTES, size // (PARTS_OF_A_CORE * cores))
+    way = chance.choice(['plain', 'ends', 'quotes', 'both', 'fault'])
+    one = chance.randrange(size // part)
+    only = one if way == 'fault' else chance.choice([None, None, one])
+    texts, since, cuts = [], 0, 0
+    for row in rows:
+        near = cuts if since > part - CUT_BYTES else cuts - 1 if since < CUT_BYTES else None
+        text = row + '\n' if near is None or only not in (None, near) else respelled(chance, row, way)
+        # a part ends behind the last line feed in it
+        if since + len(text) > part:
+            if way == 'fault' and cuts == one:
+                texts.append(at_cut(chance.choice(FAULTS), chance.random() < 0.5, part - since))
+            since, cuts = 0, cuts + 1
+        since += len(text)
+        texts.append(text)
+    return ''.join(texts).encode()
+
+
 def a_long_trace(chance):
-    """More bytes than one thread reads where there are several cores."""
-    cores, rows = chance.choice([2, 3, 4]), []
-    while len(rows) < 7_000:
-        rows += some_rows(chance, cores, 32 * CHILD_FRAMES, 50) + [',round,,']
-    return ['run', '32', str(cores)], as_text(rows)
+    """More bytes than one thread reads where there are several cores, in one round or in many."""
+    cores, size = chance.choice([2, 2, 3, 4, 17]), chance.choice([65_536, 65_600, 70_000, 100_000, 150_000])
+    kinds = chance.choice([IN_A_ROUND, IN_A_ROUND * 30 + ['round', 'move']])
+    rows = long_rows(chance, cores, 32, size, kinds)
+    return ['run', '32', str(cores)], spelled_at_cuts(chance, rows, cores)
+
+
+def faults_at_cuts():
+    """Each fault at the end of a part, and at the start of the next one."""
+    text = ''.join(row + '\n' for row in long_rows(random.Random(0), 2, 32, 8 * PART_BYTES, IN_A_ROUND))
+    place = text.rindex('\n', 0, PART_BYTES) + 1
+    for fault in FAULTS:
+        for is_end in True, False:
+            more = at_cut(fault, is_end, PART_BYTES - place)
+            yield ['run', '32', '2'], (text[:place] + more + text[place:]).encode()
+
+
+def rounds_in_parts():
+    """Blocks of two cores in one round that is read, run and answered in parts."""
+    for size in 65_536, 131_072, 262_144, 524_288, 1_048_576:
+        rows = long_rows(random.Random(size), 2, 64, size, IN_A_ROUND)
+        yield ['run', '64', '2'], as_text(rows)
 
 
 def an_image(chance):
@@ -446,7 +529,7 @@ def a_case(seed, place):
 def a_long_case(seed, place):
     chance = random.Random(seed * 1_000_003 + place)
     words, data = a_long_trace(chance)
-    if chance.random() < 0.75:
+    if chance.random() < 0.25:
         data = hurt(chance, data)
     return words, data
 
@@ -491,6 +574,10 @@ def try_case(case):
 def all_cases(arguments):
     for place, (words, data) in enumerate(great_cases()):
         yield arguments.program, f'great-{place}', words, data
+    for place, (words, data) in enumerate(faults_at_cuts()):
+        yield arguments.program, f'cut-{place}', words, data
+    for place, (words, data) in enumerate(rounds_in_parts()):
+        yield arguments.program, f'round-{place}', words, data
     for place in range(arguments.cases // 50):
         yield arguments.program, f'long-{arguments.seed}-{place}', *a_long_case(arguments.seed, place)
     for place in range(arguments.cases):
@@ -501,11 +588,15 @@ def main():
     parser = argparse.ArgumentParser(description=__doc__.split('\n', maxsplit=1)[0])
     parser.add_argument('--cases', type=int, default=100_000)
     parser.add_argument('--seed', type=int, default=1)
-    parser.add_argument('--jobs', type=int, default=os.cpu_count())
+    parser.add_argument('--jobs', type=int, default=os.cpu_count(), help='cases that are tried at once')
     parser.add_argument('--seconds', type=float, default=1.0, help='for an answer, and as many for each million bytes')
     parser.add_argument('--program', default='crates/llfree/out/llfree')
     parser.add_argument('--under', default='', help="what stands before the program, as 'chrt -f 20'")
     arguments = parser.parse_args()
+    if arguments.cases < 0 or arguments.jobs < 1 or not arguments.seconds > 0:
+        parser.error('--cases is 0 or more, --jobs is 1 or more, and --seconds more than 0')
+    if not os.access(arguments.program, os.X_OK) or os.path.isdir(arguments.program):
+        parser.error(f'{arguments.program} is no program that can be run')
     Answer.seconds, Answer.under = arguments.seconds, tuple(arguments.under.split())
     counts, failed, longest, kept = {}, 0, 0.0, tempfile.mkdtemp(prefix='hurt-texts-')
     with multiprocessing.Pool(arguments.jobs) as pool:

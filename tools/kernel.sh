@@ -3,8 +3,9 @@
 # may, and that others are refused; the programs in C over it; then the kernels of examples/kernel in QEMU, and what
 # has to fail in them. What the machine lacks is said and left out. The last line counts what was tried.
 set -u
+unset CDPATH MAKEFLAGS MFLAGS
 root=$(cd "$(dirname "$0")/.." && pwd)
-library=$root/crates/llfree_c/out/libllfree
+library=$root/build/libllfree
 folder=$(mktemp -d)
 trap 'rm -rf "$folder"' EXIT
 passed=0
@@ -18,12 +19,20 @@ passes() {
     echo "$1: ok"
     passed=$((passed + 1))
 }
-# lacks NAME COMMAND..: says which of these commands are not here
+# lacks NAME COMMAND..: says which of these commands are not here, and which package of Debian has each
 lacks() {
-    local name=$1 missing=
+    local name=$1 missing= package
     shift
-    for command in "$@"; do command -v "$command" >/dev/null || missing+=" $command"; done
-    [ -n "$missing" ] && echo "$name: not tried, for want of$missing"
+    for command in "$@"; do
+        case $command in
+            objdump | nm | readelf) package=binutils ;;
+            qemu*) package=qemu-system-x86 ;;
+            make | busybox | cpio) package=$command ;;
+            *) package=gcc ;;
+        esac
+        command -v "$command" >/dev/null || missing+=", $command ($package)"
+    done
+    [ -n "$missing" ] && echo "skipped: $name, for want of ${missing#, }"
 }
 # tries NAME COMMAND..
 tries() {
@@ -33,14 +42,11 @@ tries() {
     passes "$name"
 }
 
-if lacks 'the library for kernels' objdump nm readelf; then
+if lacks 'the library for kernels' objdump nm readelf make; then
     echo '0 passed, 0 failed'
     exit
 fi
-tries 'an archive for kernels is built' "$root/tools/kernel_library.sh"
-tries 'a kernel may link it' "$root/tools/kernel_check.sh" "${library}_kernel.a"
-tries 'one for Linux is built' "$root/tools/kernel_library.sh" linux
-tries 'Linux may link it' "$root/tools/kernel_check.sh" "${library}_linux.a" __x86_return_thunk
+tries 'archives for kernels are built, and may be linked' make -s -C "$root" library kernel
 ! "$root/tools/kernel_check.sh" "${library}_c.a" >"$folder/log" || fails 'the ordinary archive is refused'
 grep -q '^6 passed, 2 failed$' "$folder/log" || fails 'just its registers and its red zone are refused'
 passes 'the ordinary archive is refused for its registers and its red zone'
@@ -66,9 +72,9 @@ lacks 'the kernels' "${CC:-cc}" make qemu-system-x86_64 || {
     lacks 'the module of Linux' busybox cpio || {
         release=$(basename "$(dirname "$(ls -d /lib/modules/*/build 2>/dev/null | tail -n 1)")")
         if [ ! -d "/lib/modules/$release/build" ]; then
-            echo 'the module of Linux: not tried, for want of its headers'
+            echo 'skipped: the module of Linux, for want of its headers (linux-headers-amd64)'
         elif [ ! -r "/boot/vmlinuz-$release" ] && [ ! -r "$root/examples/kernel/out/vmlinuz" ]; then
-            echo 'the module of Linux: not tried, for want of a kernel to load it'
+            echo 'skipped: the module of Linux, for want of a kernel to load it (linux-image-amd64)'
         else
             tries 'a module of Linux' make -C "$root/examples/kernel" linux
         fi

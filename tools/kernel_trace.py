@@ -1,16 +1,19 @@
 #!/usr/bin/env python3
 """Makes a trace of a recording of Linux's page frames.
 
-Standard input is what `perf script` prints of the events kmem:mm_page_alloc and kmem:mm_page_free, standard
-output a trace for `llfree run CHILDREN CORES`, standard error what was counted. docs/REPLAY.md says how such a
-recording is made and read.
+A recording is what `perf script` prints of the events kmem:mm_page_alloc and kmem:mm_page_free, and is read from
+standard input where no file is named; standard output or the file of -o is a trace for `llfree run CHILDREN CORES`,
+standard error what was counted. docs/REPLAY.md says how such a recording is made and read.
 
     perf script -i perf.data | tools/kernel_trace.py [--cores N] [--slice MICROSECONDS] [--window N] > TRACE
+    tools/kernel_trace.py RECORDING -o TRACE
 """
-import argparse
 import collections
+import contextlib
 import re
 import sys
+
+import files
 
 HUGE_ORDER = 9
 MOST_ORDER = 18
@@ -19,6 +22,8 @@ MOST_CORES = 64
 MOST_BYTES = 16_777_216
 MOST_RECORDS = 1_000_000
 SLICE_RECORDS = 25_000
+# perf prints no line that is nearly as long
+MOST_LINE = 4_000
 DIGITS = '0123456789abcdefghijklmnopqrstuvwxyz'
 EVENT = re.compile(r'\[(\d+)\] +(\d+)\.(\d{6})\d*: +kmem:mm_page_(alloc|free): .*?\bpfn=(0x[0-9a-fA-F]+|\d+) '
                    r'order=(\d+)')
@@ -47,7 +52,7 @@ class Progress:
 
 def event_of(line):
     """The event of a line, or None where it tells of something else."""
-    match = EVENT.search(line)
+    match = EVENT.search(line) if len(line) <= MOST_LINE else None
     if match is None:
         return None
     cpu, seconds, micros, kind, frame, order = match.groups()
@@ -101,10 +106,10 @@ class Converter:
         self.windows += 1
         self.records = self.bytes = 0
         self.counts, self.most_held = collections.Counter(before=len(self.live)), self.held
-        if len(self.live) > MOST_RECORDS // 2:
-            raise Fault(f'{len(self.live):,} blocks are held at once, which leaves no room in a trace')
         self.rows = [f'{block.core},take,{block.label},{block.order}\n' for block in self.live.values()]
         self.end_slice()
+        if not self.has_room():
+            raise Fault(f'{len(self.live):,} blocks are held at once, which leaves no room in a trace')
 
     def end_slice(self):
         """Writes the slice: on several cores it is a round, which begins with its moves."""
@@ -136,10 +141,11 @@ class Converter:
                 if self.windows == self.wanted:
                     return False
                 self.begin_window()
-        core, end = event.cpu % self.cores, event.frame + (1 << event.order)
         if event.order > MOST_ORDER or event.kind == 'alloc' and event.frame == 0:
             self.counts['none'] += 1
-        elif event.kind == 'alloc':
+            return True
+        core, end = event.cpu % self.cores, event.frame + (1 << event.order)
+        if event.kind == 'alloc':
             self.counts['again'] += bool(self.leave(core, event.frame, event.order))
             self.counts['larger'] += event.order > HUGE_ORDER
             order = min(event.order, HUGE_ORDER)
@@ -254,7 +260,8 @@ def tell(converter, goes_on):
 
 
 def arguments():
-    parser = argparse.ArgumentParser(description=__doc__.split('\n', maxsplit=1)[0])
+    parser = files.parser(__doc__)
+    parser.add_argument('recording', metavar='RECORDING', nargs='?', help='the recording, else standard input')
     parser.add_argument('--cores', type=int, default=1, help='the events of CPU number C go to core C modulo CORES')
     parser.add_argument('--slice', type=int, default=10_000, metavar='MICROSECONDS',
                         help='the length of a round where there are several cores')
@@ -268,23 +275,33 @@ def arguments():
     return given
 
 
+def lines_of(name):
+    """The lines of a recording, to be read one by one."""
+    if not files.is_stream(name):
+        return open(name, encoding='utf-8')
+    if sys.stdin is None:
+        raise Fault('standard input is closed')
+    return contextlib.nullcontext(sys.stdin)
+
+
 def main():
     given = arguments()
+    texts = []
     try:
-        converter = Converter(given.cores, given.slice, given.window, sys.stdout.write)
-        goes_on = convert(sys.stdin, converter)
+        converter = Converter(given.cores, given.slice, given.window, texts.append)
+        with lines_of(given.recording) as lines:
+            goes_on = convert(lines, converter)
         if not converter.counts['take'] and not converter.counts['before']:
             raise Fault('no line tells of a frame that was allocated: docs/REPLAY.md says how to record')
-        sys.stdout.flush()
-    except Fault as fault:
+        files.write(given.output, ''.join(texts).encode())
+    except (Fault, files.Fault) as fault:
         print(f'kernel_trace: {fault}', file=sys.stderr)
         return 1
-    except BrokenPipeError:
-        sys.stdout = None
-        print('kernel_trace: nobody reads the trace any more', file=sys.stderr)
+    except OSError as error:
+        print(f'kernel_trace: {given.recording or "standard input"}: {error.strerror}', file=sys.stderr)
         return 1
     except UnicodeDecodeError:
-        print('kernel_trace: standard input is no text', file=sys.stderr)
+        print(f'kernel_trace: {given.recording or "standard input"} is no text', file=sys.stderr)
         return 1
     tell(converter, goes_on)
     return 0

@@ -1,28 +1,44 @@
 #!/usr/bin/env python3
-"""Draws an image of a memory: standard input is what `llfree image` writes, standard output an SVG.
+"""Draws an image of a memory, which is what `llfree image` writes, as an SVG for light and dark pages.
 
-A square is a child, darker the more of its frames are held; a child that is held as a huge frame has a colour of its
+A square is a child, stronger the more of its frames are held; a child that is held as a huge frame has a colour of its
 own. Eight children in a frame are a tree; where a core has reserved it the frame is thick and names the core.
 
     llfree image CHILDREN CORES < TRACE | tools/picture.py > PICTURE.svg
-    llfree image CHILDREN CORES < TRACE | tools/picture.py --frames > PICTURE.png
+    tools/picture.py --frames IMAGE -o PICTURE.svg
 
 With --frames a point is a frame, and a child 32 by 16 of them.
 """
-import argparse
+import base64
 import struct
 import sys
 import zlib
 
+import files
 import records
 
 WIDTH = 860
 MARGIN = 10
 TREE_ACROSS = 4
 SHADES = 8
-FREE, HUGE, CORE, LINE, TEXT = '#f3f6f9', '#e08a1e', '#b3123f', '#b9c2cc', '#24292f'
-HELD = ('#cfe0ef', '#b0cce4', '#8fb6d8', '#6d9fcb', '#4d87bb', '#336fa5', '#20568a', '#0f3c69')
+# the parts of a picture, and their colours on light and on dark paper
+COLOURS = {
+    'paper': ('#ffffff', '#0d1117'), 'text': ('#24292f', '#e6edf3'), 'line': ('#b9c2cc', '#4a525c'),
+    'core': ('#b3123f', '#ff7b9c'), 'huge': ('#e08a1e', '#f2b04c'), 'free': ('#f3f6f9', '#1c2128'),
+    'held1': ('#cfe0ef', '#1f364d'), 'held2': ('#b0cce4', '#28496a'), 'held3': ('#8fb6d8', '#325d86'),
+    'held4': ('#6d9fcb', '#3d71a2'), 'held5': ('#4d87bb', '#4a86bd'), 'held6': ('#336fa5', '#609dd6'),
+    'held7': ('#20568a', '#83b8ea'), 'held8': ('#0f3c69', '#b3d7fb'),
+}
+HELD = tuple(f'held{shade}' for shade in range(1, SHADES + 1))
 FONT = 'font-family="DejaVu Sans, Verdana, sans-serif"'
+
+
+def style():
+    """The colours, by what a browser prefers."""
+    def rules(place):
+        return ''.join(f'.{name}{{fill:{both[place]}}}.{name}-edge{{stroke:{both[place]};fill:none}}'
+                       for name, both in COLOURS.items())
+    return f'<style>{rules(0)}@media (prefers-color-scheme: dark){{{rules(1)}}}</style>'
 
 
 def frames_held(image, child):
@@ -34,8 +50,8 @@ def frames_held(image, child):
 
 def colour_of(held, huge):
     if huge:
-        return HUGE
-    return HELD[(held - 1) * SHADES // records.CHILD_FRAMES] if held else FREE
+        return 'huge'
+    return HELD[(held - 1) * SHADES // records.CHILD_FRAMES] if held else 'free'
 
 
 # The picture of children, as SVG
@@ -73,9 +89,9 @@ def cells(image, layout):
         left, top = layout.child(child)
         path = paths.setdefault(colour_of(*frames_held(image, child)), [])
         path.append(f'M{left} {top}h{side}v{side}h-{side}z')
-    for colour in (FREE, *HELD, HUGE):
+    for colour in ('free', *HELD, 'huge'):
         if colour in paths:
-            yield f'<path fill="{colour}" d="{"".join(paths[colour])}"/>'
+            yield f'<path class="{colour}" d="{"".join(paths[colour])}"/>'
 
 
 def tree_frame(image, layout, tree):
@@ -84,13 +100,13 @@ def tree_frame(image, layout, tree):
     width = min(many, TREE_ACROSS) * layout.cell + 3
     height = -(-many // TREE_ACROSS) * layout.cell + 3
     cores = [core for core, rest in enumerate(image.local) if rest is not None and rest[0] == tree]
-    colour, thick = (CORE, 2) if cores or image.tree[tree][1] else (LINE, 1)
-    yield (f'<rect x="{left}" y="{top}" width="{width}" height="{height}" fill="none" stroke="{colour}" '
+    colour, thick = ('core', 2) if cores or image.tree[tree][1] else ('line', 1)
+    yield (f'<rect class="{colour}-edge" x="{left}" y="{top}" width="{width}" height="{height}" '
            f'stroke-width="{thick}"/>')
     if cores:
         word = 'core ' if layout.cell >= 14 else ''
         name = word + ', '.join(str(core) for core in cores)
-        yield (f'<text x="{left}" y="{top - 3}" font-size="{layout.strip - 3}" fill="{CORE}">{name}</text>')
+        yield f'<text class="core" x="{left}" y="{top - 3}" font-size="{layout.strip - 3}">{name}</text>'
 
 
 def plural(count, word, words):
@@ -109,46 +125,53 @@ def title(image):
             f'held, {plural(free, "huge frame", "huge frames")} free')
 
 
-def key(top):
+def key(top, kinds):
     """What the colours mean."""
     left = MARGIN
-    for colours, text in (((FREE,), 'free'), (HELD, '1 to 512 frames held'), ((HUGE,), 'held as a huge frame')):
+    for colours, text in kinds:
         for colour in colours:
-            yield (f'<rect x="{left}" y="{top}" width="12" height="12" fill="{colour}" stroke="{LINE}" '
-                   'stroke-width="0.5"/>')
+            yield f'<rect class="{colour}" x="{left}" y="{top}" width="12" height="12"/>'
+            yield f'<rect class="line-edge" x="{left}" y="{top}" width="12" height="12" stroke-width="0.5"/>'
             left += 13
-        yield f'<text x="{left + 5}" y="{top + 10}" font-size="12" fill="{TEXT}">{text}</text>'
+        yield f'<text class="text" x="{left + 5}" y="{top + 10}" font-size="12">{text}</text>'
         left += 30 + 7 * len(text)
-    yield f'<rect x="{left + 1}" y="{top + 1}" width="18" height="10" fill="none" stroke="{CORE}" stroke-width="2"/>'
-    yield f'<text x="{left + 26}" y="{top + 10}" font-size="12" fill="{TEXT}">a tree that a core has reserved</text>'
+    yield f'<rect class="core-edge" x="{left + 1}" y="{top + 1}" width="18" height="10" stroke-width="2"/>'
+    yield f'<text class="text" x="{left + 26}" y="{top + 10}" font-size="12">a tree that a core has reserved</text>'
+
+
+def head(image, width, height):
+    yield (f'<svg xmlns="http://www.w3.org/2000/svg" width="{width}" height="{height}" '
+           f'viewBox="0 0 {width} {height}" role="img" {FONT}>')
+    yield f'<title>{title(image)}</title>'
+    yield style()
+    yield f'<rect class="paper" width="{width}" height="{height}"/>'
+    yield f'<text class="text" x="{MARGIN}" y="{MARGIN + 14}" font-size="15">{title(image)}</text>'
 
 
 def svg(image):
     layout = Layout(image)
-    yield (f'<svg xmlns="http://www.w3.org/2000/svg" width="{WIDTH}" height="{layout.height}" '
-           f'viewBox="0 0 {WIDTH} {layout.height}" {FONT}>')
-    yield f'<title>{title(image)}</title>'
-    yield f'<rect width="{WIDTH}" height="{layout.height}" fill="#ffffff"/>'
-    yield f'<text x="{MARGIN}" y="{MARGIN + 14}" font-size="15" fill="{TEXT}">{title(image)}</text>'
+    yield from head(image, WIDTH, layout.height)
     yield from cells(image, layout)
     for tree in range(image.trees):
         yield from tree_frame(image, layout, tree)
-    yield from key(layout.height - 24)
+    yield from key(layout.height - 24, ((('free',), 'free'), (HELD, '1 to 512 frames held'), (('huge',), 'held as a huge frame')))
     yield '</svg>'
 
 
-# The picture of frames, as PNG
+# The picture of frames, as a PNG in an SVG
 
 
 CHILD_WIDTH, CHILD_HEIGHT = 32, 16
-PALETTE = b''.join(bytes.fromhex(colour[1:]) for colour in ('#ffffff', '#303840', HUGE, '#c8d0d8', CORE))
-EDGE, MARK, NOTHING = 3, 4, 0
+# points of free frames show the paper below them; the others are seen on light and on dark
+FREE, HELD_FRAME, HUGE_FRAME, EDGE, MARK = range(5)
+PALETTE = bytes.fromhex('ffffff' '4d87bb' 'e08a1e' '8b949e' 'd0335f')
+ALPHA = bytes((0, 255, 255, 110, 255))
 
 
 def rows_of_child(image, child):
     """The points of a child, row by row, each a place in the palette."""
     if image.huge[child]:
-        return [b'\2' * CHILD_WIDTH] * CHILD_HEIGHT
+        return [bytes([HUGE_FRAME]) * CHILD_WIDTH] * CHILD_HEIGHT
     bits = f'{image.words[child]:0512b}'[::-1].encode().translate(bytes.maketrans(b'01', b'\0\1'))
     return [bits[at:at + CHILD_WIDTH] for at in range(0, len(bits), CHILD_WIDTH)]
 
@@ -169,36 +192,46 @@ def points(image):
         for row in range(CHILD_HEIGHT):
             rows.append(b''.join(edge + part[row] for edge, part in zip(edges, parts)) + edges[-1])
     rows.append(rows[-1 - CHILD_HEIGHT])
-    return width, [row.ljust(width, bytes([NOTHING])) for row in rows]
+    return width, [row.ljust(width, bytes([FREE])) for row in rows]
 
 
 def chunk(kind, data):
     return struct.pack('>I', len(data)) + kind + data + struct.pack('>I', zlib.crc32(kind + data))
 
 
-def png(image):
-    width, rows = points(image)
-    head = struct.pack('>IIBBBBB', width, len(rows), 8, 3, 0, 0, 0)
+def png(width, rows):
+    head_of = struct.pack('>IIBBBBB', width, len(rows), 8, 3, 0, 0, 0)
     data = zlib.compress(b''.join(b'\0' + row for row in rows), 6)
-    parts = (b'IHDR', head), (b'PLTE', PALETTE), (b'IDAT', data), (b'IEND', b'')
+    parts = (b'IHDR', head_of), (b'PLTE', PALETTE), (b'tRNS', ALPHA), (b'IDAT', data), (b'IEND', b'')
     return b'\x89PNG\r\n\x1a\n' + b''.join(chunk(*part) for part in parts)
 
 
+def frames_svg(image):
+    """A point is a frame, and is seen as so many as have room."""
+    across, rows = points(image)
+    times = max(1, (WIDTH - 2 * MARGIN) // across)
+    width, top = max(WIDTH, across * times + 2 * MARGIN), MARGIN + 28
+    height = top + len(rows) * times + 38
+    yield from head(image, width, height)
+    yield f'<rect class="free" x="{MARGIN}" y="{top}" width="{across * times}" height="{len(rows) * times}"/>'
+    yield (f'<image x="{MARGIN}" y="{top}" width="{across * times}" height="{len(rows) * times}" '
+           'style="image-rendering:pixelated" '
+           f'href="data:image/png;base64,{base64.b64encode(png(across, rows)).decode()}"/>')
+    yield from key(height - 24, ((('free',), 'a frame that is free'), (('held5',), 'held'), (('huge',), 'held in a huge frame')))
+    yield '</svg>'
+
+
 def main():
-    parser = argparse.ArgumentParser(description=__doc__.split('\n', maxsplit=1)[0])
-    parser.add_argument('--frames', action='store_true', help='a PNG in which a point is a frame')
+    parser = files.parser(__doc__)
+    parser.add_argument('image', metavar='IMAGE', nargs='?', help='the image, else standard input')
+    parser.add_argument('--frames', action='store_true', help='a point is a frame')
     given = parser.parse_args()
-    try:
-        image = records.image_of(sys.stdin.buffer.read(records.MOST_BYTES + 1))
-    except records.Refused as refused:
-        print(f'picture: {refused.sentence()}', file=sys.stderr)
-        return 1
-    picture = png(image) if given.frames else ''.join(row + '\n' for row in svg(image)).encode()
-    if given.frames and sys.stdout.isatty():
-        print('picture: a PNG is no text for a terminal: write it to a file', file=sys.stderr)
-        return 1
-    sys.stdout.buffer.write(picture)
-    return 0
+
+    def picture():
+        image = files.parsed(given.image, records.image_of)
+        return ''.join(row + '\n' for row in (frames_svg if given.frames else svg)(image))
+
+    return files.answer('picture', picture, given.output)
 
 
 if __name__ == '__main__':

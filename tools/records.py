@@ -1,5 +1,5 @@
-"""The rules of traces and images of docs/FORMATS.md, each with the sentence that says how a record breaks it: for
-why.py, fuzz.py, picture.py and buddyinfo.py."""
+"""The rules of traces, answers and images of docs/FORMATS.md, each with the sentence that says how a record breaks it:
+for the scripts beside the program."""
 CHILD_FRAMES = 512
 TREE_CHILDREN = 8
 HUGE_ORDER = 9
@@ -34,6 +34,12 @@ class Refused(Exception):
 # Texts
 
 
+class Fields(list):
+    """The fields of a record, and the line of a quote in it that is never closed, or None."""
+
+    opened = None
+
+
 def records_of(data):
     """The records of a CSV text, each with the line that it begins on and its fields."""
     if data.startswith(MARK):
@@ -48,8 +54,8 @@ def records_of(data):
 
 
 def quoted_records_of(data):
-    line, first = 1, 1
-    fields, field, before = [], bytearray(), None
+    line, first, opened = 1, 1, 1
+    fields, field, before = Fields(), bytearray(), None
     # between: at the start of a record; start: of a field; closed: behind a quote inside quotes
     state = 'between'
     for byte in data:
@@ -65,13 +71,14 @@ def quoted_records_of(data):
             state = 'quoted'
         elif byte in (0x0a, 0x0d):
             if state != 'between':
-                yield first, fields + [bytes(field)]
-            fields, field, state = [], bytearray(), 'between'
+                fields.append(bytes(field))
+                yield first, fields
+            fields, field, state = Fields(), bytearray(), 'between'
         elif byte == 0x2c:
             fields.append(bytes(field))
             field, state = bytearray(), 'start'
         elif byte == 0x22 and state in ('between', 'start'):
-            state = 'quoted'
+            opened, state = line, 'quoted'
         else:
             field.append(byte)
             state = 'field'
@@ -81,7 +88,16 @@ def quoted_records_of(data):
             first = line
         before = byte
     if state != 'between':
-        yield first, fields + [bytes(field)]
+        fields.append(bytes(field))
+        fields.opened = opened if state == 'quoted' else None
+        yield first, fields
+
+
+def refusal(fault, broken, line, fields):
+    """That a record is refused, and why; a quote that is open to the end is why it is as it is."""
+    opened = getattr(fields, 'opened', None)
+    never = '' if opened is None else f'a quote that opens on line {opened:,} is never closed; '
+    return Refused(1, fault, never + str(broken), line)
 
 
 def shown(field):
@@ -97,32 +113,33 @@ def expect(condition, sentence):
 
 def expect_fields(fields, count, word):
     many = len(fields)
-    expect(many == count, f'a record of {word} has {count} fields, and here {"is" if many == 1 else "are"} {many}')
+    if many != count:
+        raise Broken(f'a record of {word} has {count} fields, and here {"is" if many == 1 else "are"} {many}')
 
 
 def expect_empty(fields, places, kind):
     for place in places:
-        expect(not fields[place],
-               f'the {PLACES[place]} field of {kind} is empty, and here stands {shown(fields[place])}')
+        if fields[place]:
+            raise Broken(f'the {PLACES[place]} field of {kind} is empty, and here stands {shown(fields[place])}')
 
 
 def number(field, most, what):
     """The number of a field, at most so great."""
+    if field.isdigit() and len(field) <= 20 and int(field) <= most:
+        return int(field)
     expect(field, f'{what} is a number, and the field is empty')
     expect(field.strip() == field, f'{what} is a number without blanks, and here stands {shown(field)}')
     expect(all(0x30 <= byte <= 0x39 for byte in field), f'{what} is digits alone, and here stands {shown(field)}')
     expect(len(field) <= 20, f'{what} has at most 20 digits, and here are {len(field)}')
-    value = int(field)
-    expect(value <= most, f'{what} is 0 to {most}, and here stands {shown(field)}')
-    return value
+    raise Broken(f'{what} is 0 to {most}, and here stands {shown(field)}')
 
 
 def label(field):
+    if 0 < len(field) <= 16 and LABEL_BYTES.issuperset(field):
+        return field
     expect(field, 'a label has 1 to 16 bytes, and the field is empty')
     expect(len(field) <= 16, f'a label has 1 to 16 bytes, and here are {len(field)}: {shown(field)}')
-    expect(all(byte in LABEL_BYTES for byte in field),
-           f'a label has ASCII letters, digits, _ and - alone, and here stands {shown(field)}')
-    return field
+    raise Broken(f'a label has ASCII letters, digits, _ and - alone, and here stands {shown(field)}')
 
 
 # Traces
@@ -149,9 +166,10 @@ def line_of(fields, cores, before):
         count = number(fields[3], MOST_FRAME, 'a count of frames')
         expect(before in (None, 'reserve'), 'a reserve stands before every other kind of record')
         return Line('reserve', frame=start, count=count)
-    expect(kind.strip() == kind, f'the second field has no blanks, and here stands {shown(kind)}')
     makes = {b'take': take_of, b'give': give_of, b'giveat': giveat_of, b'move': move_of}.get(kind)
-    expect(makes, f'the second field is take, give, giveat, round, move or reserve, and here stands {shown(kind)}')
+    if not makes:
+        expect(kind.strip() == kind, f'the second field has no blanks, and here stands {shown(kind)}')
+        raise Broken(f'the second field is take, give, giveat, round, move or reserve, and here stands {shown(kind)}')
     core = number(fields[0], cores - 1, f'a core of a run with CORES {cores}')
     return makes(core, fields, cores, before)
 
@@ -184,7 +202,7 @@ def trace_of(data, cores):
             expect(place <= MOST_RECORDS, 'a trace has at most 1,000,000 records')
             line = line_of(fields, cores, before)
         except Broken as broken:
-            raise Refused(1, f'bad trace at record {place}', str(broken), at) from None
+            raise refusal(f'bad trace at record {place}', broken, at, fields) from None
         lines.append(line)
         before = line.kind
     return lines
@@ -230,9 +248,73 @@ def so_many(children):
     return '1 child' if children == 1 else f'{children} children'
 
 
-def expect_length(data):
-    if len(data) > MOST_BYTES:
-        raise Refused(3, 'read failed', f'a text has at most 16,777,216 bytes, and this one has {len(data):,} or more')
+def expect_length(data, most=MOST_BYTES):
+    if len(data) > most:
+        raise Refused(3, 'read failed', f'a text has at most {most:,} bytes, and this one has {len(data):,} or more')
+
+
+# Answers
+
+
+ANSWERS = {'take': ('Taken', 'BadOrder', 'NoBlock', 'Contended'), 'give': ('Given', 'NotHeld'),
+           'giveat': ('Given', 'BadOrder', 'NotHeld'), 'move': ('Moved', 'NotHeld')}
+WORDS = 'Taken', 'Given', 'Moved', 'BadOrder', 'NoBlock', 'Contended', 'NotHeld'
+
+
+class Answers:
+    """Of each record that is answered its number, its line of the trace, the word, and the block or None; and how many
+    frames are held and free at the end."""
+
+    def __init__(self, held, free):
+        self.rows, self.held, self.free = [], held, free
+
+
+def end_of(fields):
+    """The last record of answers: frames held and free."""
+    expect_fields(fields, 5, 'answers')
+    expect(fields[:3] == [b'end', b'', b'Closed'],
+           f'answers end with end,,Closed,HELD,FREE, and here stands {shown(b",".join(fields))}')
+    most = CHILD_FRAMES * MOST_CHILDREN
+    held, free = number(fields[3], most, 'HELD'), number(fields[4], most, 'FREE')
+    expect(0 < held + free <= most and (held + free) % CHILD_FRAMES == 0,
+           f'HELD and FREE are 512 frames for each of 1 to 4,096 children, and here are {held + free}')
+    return Answers(held, free)
+
+
+def answer_of(fields, place, line, frames):
+    """The word and the block of an answer to that line of a trace, the record of this number."""
+    expect_fields(fields, 5, 'answers')
+    named = number(fields[0], MOST_RECORDS, 'the number of a record')
+    expect(named == place, f'the answer to record {place} stands here, and not to record {named}')
+    core = number(fields[1], MOST_CORES - 1, 'a core')
+    expect(core == line.core, f'record {place} is of core {line.core}, and not of core {core}')
+    word, wanted = fields[2].decode('ascii', 'replace'), ANSWERS[line.kind]
+    expect(word in wanted, f'a {line.kind} is answered {" or ".join(wanted)}, and here stands {shown(fields[2])}')
+    if word not in ('Taken', 'Given', 'Moved'):
+        expect_empty(fields, (3, 4), 'a refusal')
+        return word, None
+    frame, order = number(fields[3], frames - 1, 'a frame of this memory'), number(fields[4], HUGE_ORDER, 'an order')
+    expect(frame % 2**order == 0, f'a block of order {order} begins at a multiple of {2**order}, and not at {frame}')
+    expect(line.order in (None, order), f'record {place} is of order {line.order}, and not {order}')
+    expect(line.frame in (None, frame), f'record {place} is of frame {line.frame}, and not {frame}')
+    return word, (frame, order)
+
+
+def answers_of(data, lines):
+    """The answers to the lines of a trace."""
+    rows = list(records_of(data))
+    at, fields, place = None, [], 0
+    try:
+        expect(rows, 'answers have a last record, and here is none')
+        place, (at, fields) = len(rows), rows[-1]
+        answers = end_of(fields)
+        asked = [(record, line) for record, line in enumerate(lines, 1) if line.kind not in ('round', 'reserve')]
+        expect(len(rows) == len(asked) + 1, f'this trace has {len(asked):,} answers, and here are {len(rows) - 1:,}')
+        for place, ((at, fields), (record, line)) in enumerate(zip(rows, asked), 1):
+            answers.rows.append((record, line, *answer_of(fields, record, line, answers.held + answers.free)))
+    except Broken as broken:
+        raise refusal(f'bad answers at record {place}', broken, at, fields) from None
+    return answers
 
 
 # Images
@@ -351,7 +433,7 @@ def image_of(data, make=Image):
         try:
             image = add_record(image, fields, make)
         except Broken as broken:
-            raise Refused(1, f'bad image at record {place}', str(broken), at) from None
+            raise refusal(f'bad image at record {place}', broken, at, fields) from None
     missing = missing_from(image)
     if missing is not None:
         raise Refused(1, f'bad image at record {place + 1}', f'the text ends, and {missing} is missing')

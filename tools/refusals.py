@@ -6,7 +6,8 @@ Each text is run once with nothing refused, and then once for each call that it 
 refused (tools/refusing.c stands between the program and the C library). Status, output and errors
 have to be those of docs/USAGE.md each time; a device that has failed is not asked again. Then all
 calls for memory from the Nth on are refused, and all threads, for N from 1 until a run is not refused
-any. The last line counts the runs. Where there is no C compiler nothing is tried, and that is said.
+any. How many threads work on a long text at once is counted. The last line counts the runs. Where there is no C
+compiler nothing is tried, and that is said.
 
 The driver crates/llfree_oom, where it is built, makes each call of the libraries that takes
 memory, and makes it once more where memory or a thread was refused: it has to print the same then.
@@ -26,6 +27,7 @@ HERE = os.path.dirname(os.path.abspath(__file__))
 TOP = os.path.dirname(HERE)
 DRIVER = os.path.join(TOP, 'crates/llfree_oom')
 KINDS = ('MEMORY', 'THREAD', 'READ', 'WRITE')
+COUNTED = (*KINDS, 'GOING')
 NO_MEMORY = (3, b'', b'llfree: no memory\n')
 READ_FAILED = (3, b'', b'llfree: read failed\n')
 # what the driver says where a call is refused twice, or what it makes anew for the call; a refused program only ends
@@ -62,6 +64,21 @@ def texts():
     yield 'report', example('stopped')
 
 
+def refused_text(size):
+    """So many bytes of gives, of which the last has a field too few."""
+    rows = b'0,give,a,\n' * (size // 10 - 1)
+    return rows + b'0,give,'.ljust(size - len(rows) - 1, b'a') + b'\n'
+
+
+def threads_of(cores):
+    """Words, a text, and how many threads work at once: where a long text is read, and where answers are spelled."""
+    several = cores if cores > 1 else 0
+    yield f'run 1 {cores}', refused_text(80_000), several
+    yield f'run 1 {cores}', refused_text(65_536), several
+    yield f'run 1 {cores}', refused_text(65_535), 0
+    yield f'run 1 {cores}', b'0,give,a,\n' * 4_096, several
+
+
 def is_alone(words):
     """Is there one core, so that each run does the same?"""
     return words.split()[2:3] in ([], ['1'])
@@ -83,10 +100,10 @@ class Refusals:
         except subprocess.TimeoutExpired:
             got = 'none after 60 s', b'', b''
         self.runs += 1
-        counts = dict.fromkeys(KINDS, 0)
+        counts = dict.fromkeys(COUNTED, 0)
         if os.path.exists(self.counts):  # a program that is killed leaves none
             with open(self.counts, encoding='ascii') as file:
-                counts = dict(zip(KINDS, map(int, file.read().split())))
+                counts = dict(zip(COUNTED, map(int, file.read().split())))
             os.remove(self.counts)
         return got, counts
 
@@ -153,6 +170,14 @@ class Refusals:
         for how in {}, {'REFUSE_WITH': 0}:
             self.refuse(words, text, 'WRITE', counts['WRITE'], is_prefix, MOST_WRITTEN=WRITTEN_BYTES, **how)
 
+    def try_threads(self):
+        """So many threads at once as the pages say, where text alone is worked on: no record is another core's."""
+        for cores in 1, 2, 4, 8:
+            for words, text, threads in threads_of(cores):
+                got, counts = self.run(words, text)
+                self.want(got[0] in (0, 1) and counts['GOING'] == threads, words,
+                          f'{len(text)} bytes, {threads} threads at once, {counts["GOING"]} seen', got)
+
     def try_calls(self):
         """The driver counts what was refused, and the calls are answered as if nothing had been."""
         with open(os.path.join(DRIVER, 'stdout'), 'rb') as file:
@@ -198,9 +223,14 @@ def main():
         subprocess.run([compiler, '-O2', '-Wall', '-Wextra', '-shared', '-fPIC', '-o', between,
                         os.path.join(HERE, 'refusing.c'), '-ldl'], check=True)
         for program in programs:
+            if not os.access(program, os.X_OK):
+                print(f'refusals: {program}: not built')
+                runs, failed = runs + 1, failed + 1
+                continue
             refusals = Refusals(os.path.abspath(program), between, work)
             for words, text in texts():
                 refusals.try_text(words, text)
+            refusals.try_threads()
             runs, failed = runs + refusals.runs, failed + refusals.failed
         driver = os.path.join(DRIVER, 'out/llfree_oom')
         if os.path.exists(driver):

@@ -6,7 +6,8 @@
    REFUSE_WRITE=N      the Nth write to standard output fails, or answers 0 where REFUSE_WITH=0
    REFUSE_FOR_GOOD=1   and so is each later call of that kind
    MOST_READ=N, MOST_WRITTEN=N     so many bytes a call at most
-   REFUSE_COUNTS=FILE  how many calls of each kind there were, in this order, at the end */
+   REFUSE_COUNTS=FILE  how many calls of each kind there were, in this order, at the end; and how many threads were
+                       started and not yet waited for, at most */
 #define _GNU_SOURCE
 #include <dlfcn.h>
 #include <errno.h>
@@ -19,7 +20,7 @@
 
 enum { MEMORY, THREADS, READS, WRITES, KINDS };
 
-static atomic_long counts[KINDS];
+static atomic_long counts[KINDS], going, most_going;
 static long refused[KINDS], for_good, most_read, most_written, answer_zero;
 
 static long number(const char *name)
@@ -58,7 +59,7 @@ __attribute__((destructor)) static void end(void)
     FILE *file = name ? fopen(name, "w") : NULL;
     if (!file)
         return;
-    fprintf(file, "%ld %ld %ld %ld\n", seen[MEMORY], seen[THREADS], seen[READS], seen[WRITES]);
+    fprintf(file, "%ld %ld %ld %ld %ld\n", seen[MEMORY], seen[THREADS], seen[READS], seen[WRITES], (long)most_going);
     fclose(file);
 }
 
@@ -107,7 +108,22 @@ int pthread_create(pthread_t *thread, const pthread_attr_t *attributes, void *(*
     static int (*next)(pthread_t *, const pthread_attr_t *, void *(*)(void *), void *);
     if (!next)
         next = real("pthread_create");
-    return is_refused(THREADS) ? EAGAIN : next(thread, attributes, run, with);
+    if (is_refused(THREADS))
+        return EAGAIN;
+    long now = ++going;
+    long most = most_going;
+    while (now > most && !atomic_compare_exchange_weak(&most_going, &most, now))
+        ;
+    return next(thread, attributes, run, with);
+}
+
+int pthread_join(pthread_t thread, void **result)
+{
+    static int (*next)(pthread_t, void **);
+    if (!next)
+        next = real("pthread_join");
+    going--;
+    return next(thread, result);
 }
 
 ssize_t read(int file, void *bytes, size_t size)

@@ -1,6 +1,7 @@
 """Reads the definitions of `specs/` and the contracts of `src/`, as far as the tools need them."""
 import pathlib
 import re
+import sys
 
 TOP = pathlib.Path(__file__).resolve().parent.parent
 DEFINITION = re.compile(r"^(abbrev pub|unfoldable pub|pub record|pub data) (\S+)")
@@ -259,7 +260,7 @@ def contract(name):
     item."""
     kind, _, item = name.rpartition(" ")
     of, _, item = item.rpartition("::")
-    pattern = rf"^{' +' if of else ''}pub (?:const )?{kind or 'fn'} {item}\b"
+    pattern = rf"^{' +' if of else ''}pub (?:const |extern \"C\" )?{kind or 'fn'} {item}\b"
     for crate in crates():
         for text in sources(crate):
             for match in re.finditer(pattern, text, re.M):
@@ -309,3 +310,24 @@ def said_of(crate, name):
                 said = f"{said} ({line.split('=')[1].strip(' ;')})".strip()
             return said, path.relative_to(TOP).as_posix()
     return "", ""
+
+
+def leave(texts, folder, check, wrong=0):
+    """Writes pages, or with `check` compares them with what stands there; pages of the folder that are none of these
+    fail too, and so does what the caller found wrong. Says which differ, and last how many do not; the status to
+    end with."""
+    folder.mkdir(exist_ok=True)
+    differ = [path for path, text in texts.items() if not path.exists() or path.read_text() != text]
+    others = [path for path in sorted(folder.glob("*.md")) if path not in texts]
+    if not check:
+        for path in others:
+            path.unlink()
+        for path in differ:
+            path.write_text(texts[path])
+        print(f"{len(texts)} pages, {len(differ)} written anew")
+        return 1 if wrong else 0
+    for path in [*differ, *others]:
+        print(f"not what the script writes: {path.relative_to(TOP)}", file=sys.stderr)
+    failed = len(differ) + len(others) + wrong
+    print(f"{len(texts) - len(differ)} passed, {failed} failed")
+    return 1 if failed else 0

@@ -3,11 +3,12 @@
 # of some children (64; 2 MiB each). Ends with 0 where no frame was in two hands and what is held at
 # the end is just what is stamped.
 set -eu
-cd "$(dirname "$0")/../crates/llfree_stress"
+unset CDPATH MAKEFLAGS MFLAGS
+cd "$(dirname "$0")/.."
 seconds=${1:-60}
 children=${2:-64}
 threads=${3:-$(nproc)}
-rt run >/dev/null 2>&1
-said=$(out/llfree_stress "$seconds" "$children" "$threads")
+make -s llfree_stress
+said=$(build/llfree_stress "$seconds" "$children" "$threads")
 printf '%s\n' "$said"
 [ "$said" = $'0 frames in two hands\n0 frames held by nobody' ]

@@ -4,6 +4,7 @@ none where it answers.
 
     tools/why_agrees.py PROGRAM CASES
 """
+import argparse
 import multiprocessing
 import subprocess
 import sys
@@ -70,7 +71,11 @@ def difference(program, words, data, name):
 
 
 def main():
-    program, cases = sys.argv[1], int(sys.argv[2])
+    parser = argparse.ArgumentParser(description=__doc__.split('\n', maxsplit=1)[0])
+    parser.add_argument('program', metavar='PROGRAM')
+    parser.add_argument('cases', metavar='CASES', type=int)
+    given = parser.parse_args()
+    program, cases = given.program, given.cases
     with multiprocessing.Pool() as pool:
         found = pool.map(disagreement, [(program, place) for place in [*edges(), *range(cases)]], chunksize=50)
     wrong = [text for text in found if text not in (None, 'left out')]

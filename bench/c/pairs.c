@@ -1,6 +1,7 @@
 /* How long a take and a give take from C: the library with a core for each thread, the same with blocks
- * in structs, the library for one thread, a bitmap and a buddy allocator, each under a mutex, and the C
- * library's own aligned_alloc and free of as much memory, which nobody touches.
+ * in structs, the library for one thread, a buddy allocator with lists for each processor as Linux has it, a bitmap
+ * and a buddy allocator, each under a mutex, and the C library's own aligned_alloc and free of as much memory, which
+ * nobody touches.
  *
  *     pairs COUNT ROUNDS [zones]
  *
@@ -31,6 +32,7 @@ struct worker {
 
 static struct worker workers[MOST_THREADS];
 static llfree_plain plain = LLFREE_CLOSED;
+static struct peer *buddy, *lists;
 static pthread_barrier_t start;
 static int threads;
 static uint8_t order;
@@ -73,8 +75,10 @@ PAIRS(plain_pairs, uint32_t, llfree_plain_take(&plain, order, &block) == LLFREE_
       llfree_plain_give(&plain, block, order) == LLFREE_OK)
 PAIRS(bitmap_pairs, uint32_t, (block = bitmap_take(order)) != NONE,
       (bitmap_give(block, order), true))
-PAIRS(buddy_pairs, uint32_t, (block = buddy_take(order)) != NONE,
-      (buddy_give(block, order), true))
+PAIRS(buddy_pairs, uint32_t, (block = peer_take(buddy, 0, order)) != NONE,
+      (peer_give(buddy, 0, block, order), true))
+PAIRS(lists_pairs, uint32_t, (block = peer_take(lists, (uint32_t)(me - workers), order)) != NONE,
+      (peer_give(lists, (uint32_t)(me - workers), block, order), true))
 
 static void release(void *memory)
 {
@@ -154,6 +158,26 @@ static void close_plain(void)
     llfree_plain_close(&plain);
 }
 
+static void open_buddy(void)
+{
+    want((buddy = peer_open(FRAMES, 0)) != NULL, "no memory");
+}
+
+static void close_buddy(void)
+{
+    peer_close(buddy);
+}
+
+static void open_lists(void)
+{
+    want((lists = peer_open(FRAMES, MOST_THREADS)) != NULL, "no memory");
+}
+
+static void close_lists(void)
+{
+    peer_close(lists);
+}
+
 static void nothing(void)
 {
 }
@@ -169,7 +193,8 @@ static const struct allocator {
     { "unchecked", MOST_THREADS, open_unchecked, unchecked_pairs, close_cores },
     { "plain", 1, open_plain, plain_pairs, close_plain },
     { "bitmap", MOST_THREADS, nothing, bitmap_pairs, nothing },
-    { "buddy", MOST_THREADS, buddy_open, buddy_pairs, nothing },
+    { "lists", MOST_THREADS, open_lists, lists_pairs, close_lists },
+    { "buddy", MOST_THREADS, open_buddy, buddy_pairs, close_buddy },
     { "malloc", MOST_THREADS, nothing, malloc_pairs, nothing },
 };
 

@@ -1,16 +1,19 @@
-/* Threads write the memory of the frames that they take, plainly: told ROUNDS [late]. Built with -DUNTOLD nobody
- * tells ThreadSanitizer or valgrind who has which frame; with `late` a frame is written behind its give. */
+/* Threads write the memory of the frames that they take, plainly, of a memory without holes and of two zones with a
+ * hole between them: told ROUNDS [late]. Built with -DUNTOLD nobody tells ThreadSanitizer or valgrind who has which
+ * frame; with `late` a frame is written behind its give. */
 #include "check.h"
 #include "llfree_tsan.h"
 #include <pthread.h>
 #include <sched.h>
 
-enum { CORES = 2, FRAMES = 64, ORDERS = 4 };
+/* HOLE frames of the second zone's number lie in no zone. */
+enum { CORES = 2, FRAMES = 64, ORDERS = 4, SECOND = 512, HOLE = SECOND - FRAMES / 2 };
 
 static llfree_core cores[CORES];
-static _Alignas(LLFREE_FRAME_BYTES) unsigned char memory[FRAMES * LLFREE_FRAME_BYTES];
+static _Alignas(LLFREE_FRAME_BYTES) unsigned char memory[(FRAMES + HOLE) * LLFREE_FRAME_BYTES];
+static const llfree_range zones[] = { { 0, FRAMES / 2 }, { SECOND, FRAMES / 2 } };
 static uint64_t rounds = 20000, written[CORES];
-static bool is_late;
+static bool is_late, has_hole;
 
 static enum llfree_status take(llfree_core *core, uint8_t order, uint32_t *frame)
 {
@@ -26,7 +29,8 @@ static enum llfree_status give(llfree_core *core, uint32_t frame, uint8_t order)
 #ifdef UNTOLD
     return llfree_give(core, frame, order);
 #else
-    return llfree_give_told(core, memory, frame, order);
+    return has_hole ? llfree_give_told_in(core, memory, zones, 2, frame, order) :
+                      llfree_give_told(core, memory, frame, order);
 #endif
 }
 
@@ -76,32 +80,66 @@ static void others(void)
     CHECK(llfree_give_told(&cores[0], memory, FRAMES - 1, 1) == LLFREE_NOT_HELD);
 }
 
-int main(int argc, char **argv)
+/* Of zones numbers of the hole, of both sides of a border and past the end are told of no tool. */
+static void in_holes(void)
+{
+    /* memcheck would find the first byte of each where it had been told */
+    unsigned char *between = memory + (size_t)LLFREE_FRAME_BYTES * (FRAMES / 2);
+
+    CHECK(llfree_give_told_in(&cores[0], memory, zones, 2, FRAMES / 2, 0) == LLFREE_NOT_HELD);
+    CHECK(llfree_give_told_in(&cores[0], memory, zones, 2, SECOND - 1, 0) == LLFREE_NOT_HELD);
+    CHECK(llfree_give_told_in(&cores[0], memory, zones, 2, FRAMES / 2 - 1, 1) == LLFREE_NOT_HELD);
+    CHECK(llfree_give_told_in(&cores[0], memory, zones, 2, SECOND + FRAMES / 2, 0) == LLFREE_NOT_HELD);
+    CHECK(llfree_give_told_in(&cores[0], memory, zones, 2, UINT32_MAX, 9) == LLFREE_NOT_HELD);
+    CHECK(llfree_give_told_in(&cores[0], memory, zones, 2, 0, 255) == LLFREE_NOT_HELD);
+    CHECK(*between == 0 && memory[(size_t)LLFREE_FRAME_BYTES * (SECOND - 1)] == 0);
+}
+
+/* Both threads work, and each frame has counted who had it. */
+static void work_on_all(void)
 {
     pthread_t threads[CORES];
+    uint32_t taken[FRAMES];
     uint64_t sum = 0;
-    uint32_t frame;
 
-    if (argc > 1)
-        rounds = strtoull(argv[1], NULL, 10);
-    is_late = argc > 2;
-    CHECK(llfree_open(cores, CORES, FRAMES, NULL, 0) == LLFREE_OK);
     for (int i = 0; i < CORES; i++)
         CHECK(pthread_create(&threads[i], NULL, work, &cores[i]) == 0);
     for (int i = 0; i < CORES; i++)
         CHECK(pthread_join(threads[i], NULL) == 0);
     for (int i = 0; i < FRAMES; i++) {
-        CHECK(take(&cores[0], 0, &frame) == LLFREE_OK);
-        sum += *number_in(frame);
+        CHECK(take(&cores[0], 0, &taken[i]) == LLFREE_OK);
+        sum += *number_in(taken[i]);
     }
 #ifdef LLFREE_TELLS_VALGRIND
     /* what a frame had before it was taken is undefined for memcheck */
     (void)VALGRIND_MAKE_MEM_DEFINED(&sum, sizeof sum);
 #endif
     CHECK(is_late || sum == written[0] + written[1]);
-    for (frame = 0; frame < FRAMES; frame++)
-        CHECK(give(&cores[frame % 2], frame, 0) == LLFREE_OK);
+    for (int i = 0; i < FRAMES; i++)
+        CHECK(give(&cores[i % 2], taken[i], 0) == LLFREE_OK);
+}
+
+int main(int argc, char **argv)
+{
+    if (argc > 1)
+        rounds = strtoull(argv[1], NULL, 10);
+    is_late = argc > 2;
+    CHECK(llfree_open(cores, CORES, FRAMES, NULL, 0) == LLFREE_OK);
+    work_on_all();
     others();
+    for (int i = 0; i < CORES; i++)
+        llfree_close(&cores[i]);
+
+    has_hole = true;
+    /* from now on the frames are another memory's, and begin as they were */
+#ifdef LLFREE_TELLS_VALGRIND
+    (void)VALGRIND_MAKE_MEM_UNDEFINED(memory, sizeof memory);
+#endif
+    memset(memory, 0, sizeof memory);
+    memset(written, 0, sizeof written);
+    CHECK(llfree_open_zones(cores, CORES, zones, 2, NULL, 0) == LLFREE_OK);
+    work_on_all();
+    in_holes();
     for (int i = 0; i < CORES; i++)
         llfree_close(&cores[i]);
     return 0;

@@ -267,6 +267,60 @@ static bool is_held(const uint64_t *words, uint32_t frame)
 
 /* The same zones at their image, where just these blocks of it are claimed: each is given once, by any core, and
  * what else is held, the frames of the ranges among it, stays so. */
+/* The first takes of so many cores of four zones: each comes from the core's home. */
+static void take_at_home(llfree_core *handles, uint32_t count)
+{
+    uint32_t f = 0;
+
+    for (uint32_t i = 0; i < count; i++) {
+        CHECK(llfree_take(&handles[i], 0, &f) == LLFREE_OK && f / 4096 == i * 4 / count);
+        CHECK(llfree_give(&handles[i], f, 0) == LLFREE_OK);
+    }
+}
+
+/* Homes lie evenly, and are the same after an opening at an image. */
+static void homes(void)
+{
+    enum { WORDS = 4 * 9 * 8 };
+    static const llfree_range zones[4] = { { 0, 4096 }, { 4096, 4096 }, { 8192, 4096 }, { 12288, 4096 } };
+    static uint64_t words[WORDS];
+
+    for (uint32_t count = 1; count <= 6; count++) {
+        llfree_core h[6] = { LLFREE_CLOSED };
+
+        CHECK(llfree_open_zones(h, count, zones, 4, NULL, 0) == LLFREE_OK);
+        take_at_home(h, count);
+        close_all(h, count - 1);
+        CHECK(llfree_close_image(&h[count - 1], words, WORDS) == LLFREE_OK);
+        CHECK(llfree_reopen_zones(h, count, zones, 4, words, WORDS, NULL, 0) == LLFREE_OK);
+        take_at_home(h, count);
+        close_all(h, count);
+    }
+}
+
+/* Where the home is full takes of an order stay for 1024 takes in the zone that served one, and look at home then. */
+static void stays(void)
+{
+    static const llfree_range zones[2] = { { 0, 4096 }, { 4096, 4096 } };
+    llfree_core h = LLFREE_CLOSED;
+    uint32_t f = 0;
+
+    CHECK(llfree_open_zones(&h, 1, zones, 2, NULL, 0) == LLFREE_OK);
+    for (int i = 0; i < 4096; i++)
+        CHECK(llfree_take(&h, 0, &f) == LLFREE_OK && f < 4096);
+    CHECK(llfree_take(&h, 0, &f) == LLFREE_OK && f >= 4096);
+    CHECK(llfree_give(&h, 2, 0) == LLFREE_OK && llfree_give(&h, 3, 0) == LLFREE_OK);
+    /* another order has its own */
+    CHECK(llfree_take(&h, 1, &f) == LLFREE_OK && f == 2);
+    CHECK(llfree_give(&h, 2, 1) == LLFREE_OK);
+    for (int i = 0; i < 1024; i++)
+        CHECK(llfree_take(&h, 0, &f) == LLFREE_OK && f >= 4096);
+    for (int i = 0; i < 2; i++)
+        CHECK(llfree_take(&h, 0, &f) == LLFREE_OK && f < 4096);
+    CHECK(llfree_take(&h, 0, &f) == LLFREE_OK && f >= 4096);
+    llfree_close(&h);
+}
+
 static void opened_at(const uint64_t *words, size_t count, const llfree_claim *claims, size_t claimed)
 {
     static const llfree_range other[3] = { { 0, 1024 }, { 2048, 512 }, { 4096, 512 } };
@@ -514,6 +568,8 @@ int main(void)
     }
     holes();
     falls_over();
+    homes();
+    stays();
     image_of_holes();
     reopened();
     large();

@@ -9,7 +9,7 @@
 
 enum { CHILD = 512, TREE_CHILDREN = 8, FLAG = 32768, HUGE_ORDER = 9, LINE = 64 };
 
-/* Where each word stands (docs/DESIGN.md, "The layout of the words"). A word is a plain 64-bit number
+/* Where each word stands (crates/frame_core/src/layout.rt). A word is a plain 64-bit number
  * of the processor, one behind the other: word i is at byte 8 * i. */
 typedef struct layout {
     uint32_t frames, cores, children, trees;

@@ -1,7 +1,7 @@
 -- What the search finds and leaves where nobody else steps, from what its parts do.
 use Rattle.std.proofs.Common.{◌≡◌, ◌≢◌, ◌⊎◌, inl, inr, ⊎_elim, ℕ, ◌+◌, ◌-◌, ◌%◌, ◌^◌, ◌<◌, ◌≤◌, List, length, get_or, set, Option, None}
 use Rattle.std.proofs.Common.{Some, refl, ap, sym, subst, ◌∙◌, arith}
-use Rattle.std.specs.Prelude.{IfSome, Bool, true, false, not, slice_index}
+use Rattle.std.specs.Prelude.{IfSome, Bool, true, false, not, ◌||◌, slice_index}
 use Rattle.std.specs.Option.{is_some}
 use Rattle.std.proofs.lemmas.Bool.{cases_lt, cases_eq}
 use Rattle.std.proofs.Math.ListN.{length-set}
@@ -236,6 +236,26 @@ drained_all key cores None new h a = tt
 drained_all key cores (Some ws) new h a =
     (a.0, (a.1.0, record { frames = a.1.1.frames; nothing_rests = λ k l. a.1.1.below k (omega arith) l }))
 
+-- a load leaves the words
+pub seen_leaves : (place seen : ℕ) (old new : Option (List ℕ)) → IsSeen place seen old new → IfSome old (λ ws. new ≡ Some ws)
+seen_leaves place seen None new load = tt
+seen_leaves place seen (Some ws) new load = load.1
+
+-- twice nothing was written
+pub leaves_twice : (old mid new : Option (List ℕ)) → IfSome old (λ ws. mid ≡ Some ws) → IfSome mid (λ ws. new ≡ Some ws)
+    → IfSome old (λ ws. new ≡ Some ws)
+leaves_twice None mid new a b = tt
+leaves_twice (Some ws) mid new a b = at_known mid (λ us. new ≡ Some us) ws a b
+
+-- both of two are false where one of them or the other is not true
+pub or_left : (x y : Bool) → (x || y) ≡ false → x ≡ false
+or_left false y e = refl
+or_left true y e = absurd (cc)
+
+pub or_right : (x y : Bool) → (x || y) ≡ false → y ≡ false
+or_right false y e = e
+or_right true y e = absurd (cc)
+
 -- what is none
 pub is_nothing : (o : Option (ℕ × ℕ)) (b : Bool) → is_some o ≡ not b → b ≡ true → o ≡ None
 is_nothing None b e t = refl
@@ -342,6 +362,30 @@ none_left A E key v order (Some ws) one two new fits alone idle e keeps drained 
         record {
           frames = frames_then key ws us vs keeps.1.1 d.1.1.frames;
           none = exhausted A key vs v (fits vs d.1.0) alone idle d.1.1.nothing_rests order (t.1 e);
+        },
+      ),
+    )
+
+-- nothing rested: the pass before the drain tried the words that stand there
+pub none_left_before : (A E : Type 0) (key : Key) (v : View) (order : ℕ) (old mid one new : Option (List ℕ))
+    → ((ws : List ℕ) → new ≡ Some ws → FitsAlone A key ws v) → A → IsIdle v → E → KeepsFrames key old mid
+    → FindsOf (λ ws. E → WereTried key order 0 (tree_count key) ws) mid one
+    → Turns (IsDrained key) one new → IfSome one (λ ws. new ≡ Some ws) → Turns (FindsNoBlock key order) old new
+none_left_before A E key v order None mid one new fits alone idle e keeps tried drained same = tt
+none_left_before A E key v order (Some ws) mid one new fits alone idle e keeps tried drained same =
+    let us : List ℕ = keeps.0 in
+    let t = at_known mid (λ us. (one ≡ Some us) × (E → WereTried key order 0 (tree_count key) us)) us keeps.1.0 tried in
+    let there : new ≡ Some us = at_known one (λ us. new ≡ Some us) us t.0 same in
+    let d = at_known one (λ us. (vs : List ℕ) × ((new ≡ Some vs) × IsDrained key us vs)) us t.0 drained in
+    let vs : List ℕ = d.0 in
+    let is : us ≡ vs = (cc) in (
+      vs,
+      (
+        d.1.0,
+        record {
+          frames = frames_then key ws us vs keeps.1.1 d.1.1.frames;
+          none = exhausted A key vs v (fits vs d.1.0) alone idle d.1.1.nothing_rests order
+              (subst (WereTried key order 0 (tree_count key)) is (t.1 e));
         },
       ),
     )

@@ -1,5 +1,5 @@
 -- Cores, by what holds of their seats.
-use Rattle.std.proofs.Common.{◌≡◌, ◌<◌, List, length, get_or, map, ap, sym, subst, arith}
+use Rattle.std.proofs.Common.{◌≡◌, ◌<◌, List, length, get_or, map, ap, sym, subst, arith, ◌∙◌}
 use Rattle.std.specs.List.{All}
 use Rattle.std.proofs.lemmas.List.{get_or-map, length-map}
 use Rattle.frame_model.specs.declared.key.Key.{Key}
@@ -15,7 +15,7 @@ use Rattle.core_frames.specs.Cores.{memory_of, seat_of, IsNewCore, AreNumbered, 
 
 idle_new : (t : FrameTable) (s : CoreSeat) → IsNew t s → IsIdle (view_of s)
 idle_new t s n = record {
-  share = omega (arith, n.sits.one);
+  share = n.sits.some;
   paid = ap (λ (v : View). v.paid) n.view;
   charged = ap (λ (v : View). v.charged) n.view;
   reserving = ap (λ (v : View). v.reserving) n.view;
@@ -31,6 +31,7 @@ new_core a c n inside = record {
   };
   lent = ap (λ (v : View). v.lent) n.view;
   kept = ap (λ (v : View). v.kept) n.view;
+  sure = λ one. (ap (λ (v : View). v.share) n.view ∙ sym one, n.knows one);
 }
 
 -- what holds of all seats holds of the seat of each core

@@ -1,21 +1,24 @@
 -- What was read of the entries of the children, word by word, and what it counts where nobody else steps.
-use Rattle.std.proofs.Common.{◌≡◌, ⊎_elim, ℕ, zero, suc, ◌+◌, ◌-◌, ◌*◌, ◌/◌, ◌^◌, ◌<◌, ◌≤◌, min, List, Option, None, Some}
+use Rattle.std.proofs.Common.{◌≡◌, ⊎_elim, ℕ, zero, suc, ◌+◌, ◌-◌, ◌*◌, ◌/◌, ◌^◌, ◌<◌, ◌≤◌, min, List, ◌∷◌, Option, Some}
 use Rattle.std.proofs.Common.{refl, ap, sym, subst, ◌∙◌, arith}
 use Rattle.std.specs.Prelude.{IfSome, slice_index, nat_eq, if◌then◌else◌}
 use Rattle.std.specs.List.{sum_by, range_with_len}
+use Rattle.std.proofs.Math.Logic.{∥∥₁_elim}
+use Rattle.std.proofs.Math.Nat.{ℕ_set}
 use Rattle.std.proofs.lemmas.Bool.{cases_lt}
 use Rattle.std.proofs.lemmas.Bool.Decides.{nat_tests}
 use Rattle.frame_model.specs.declared.key.Key.{Key}
 use Rattle.frame_model.specs.declared.place.Place.TheVariants.{Entry}
 use Rattle.frame_model.specs.declared.view.View.{View}
 use Rattle.frame_core.specs.Mover.{Mover, Keeps, Loads}
-use Rattle.frame_model.specs.Report.{held_within, clear_at, clear_within, free_frames, clear_blocks}
+use Rattle.frame_model.specs.Key.{frame_count}
+use Rattle.frame_model.specs.Report.{held_at, held_within, clear_at, clear_within, free_frames, clear_blocks}
 use Rattle.frame_model.specs.Steps.{next}
 use Rattle.frame_model.specs.View.{charged_in, count_in, IsIdle}
-use Rattle.frame_model.specs.Words.{entry_place, entry_word_count, entry_of, free_of, huge_of, held_of}
+use Rattle.frame_model.specs.Words.{bit_of, entry_place, entry_word_count, entry_of, free_of, huge_of, held_of}
 use Rattle.frame_model.proofs.Amounts.{count_none}
-use Rattle.frame_model.proofs.ReportLemmas.{held_within-child, held_frames-all}
-use Rattle.frame_model.proofs.Steps.Shared.{free_is, flag_is}
+use Rattle.frame_model.proofs.ReportLemmas.{held_within-child, held_frames-all, range_le, range_ones}
+use Rattle.frame_model.proofs.Steps.Shared.{free_is, flag_is, past_set}
 use Rattle.frame_model.proofs.Words.{held_is}
 use Rattle.low_frames.specs.Takes.{IsAsBefore}
 use Rattle.low_frames.proofs.AloneLemmas.{if_known, at_known}
@@ -178,6 +181,18 @@ range_full f g a (suc n) all =
       range_full f g (a + 1) n (λ d l h. all d (omega arith) (omega arith)),
     )
 
+range_times : (f g : ℕ → ℕ) (a n : ℕ) → ((d : ℕ) → a ≤ d → d < a + n → 512 * f d ≤ g d)
+    → 512 * sum_by f (range_with_len a n) ≤ sum_by g (range_with_len a n)
+range_times f g a zero all = omega arith
+range_times f g a (suc n) all =
+    omega (
+      arith,
+      range_cons f a n,
+      range_cons g a n,
+      all a (omega arith) (omega arith),
+      range_times f g (a + 1) n (λ d l h. all d (omega arith) (omega arith)),
+    )
+
 module _ (A : Type 0) (key : Key) (ws : List ℕ) (v : View) (fits : FitsAlone A key ws v) (alone : A) (idle : IsIdle v) where
   entry_sum : (c : ℕ) → c < key.children → free_of ws c + held_of key ws c ≡ 512
   entry_sum c h =
@@ -213,20 +228,66 @@ module _ (A : Type 0) (key : Key) (ws : List ℕ) (v : View) (fits : FitsAlone A
       whole_exact c (omega (arith, h)) ∙ ap (λ x. if nat_eq (held_within key ws x 512) 0 then 1 else 0) begins)
       ∙ ap (λ n. sum_by (λ i. if nat_eq (held_within key ws (0 + 2 ^ 9 * i) (2 ^ 9)) 0 then 1 else 0) (range_with_len 0 n)) (sym children)
 
+  -- past the end each frame is held
+  past_held : (x : ℕ) → key.frames ≤ x → x < frame_count key → 1 ≤ held_at key ws x
+  unfolding held_at
+  past_held x p h =
+      let is_set : bit_of key ws x ≡ 1 = ∥∥₁_elim fits (ℕ_set _ _) (λ f. past_set key f.0 ws (v ∷ f.1.0) f.1.1.0 x p h) in
+      omega (arith, is_set)
+
+  -- so no more frames are free than there are
+  free_inside : free_frames key ws ≤ key.frames
+  unfolding held_within
+  free_inside =
+      ⊎_elim
+      (λ (h : frame_count key < key.frames). omega (arith, h))
+      (λ (h : key.frames ≤ frame_count key).
+      let past : ℕ = frame_count key - key.frames in
+      let whole : key.frames + past ≡ frame_count key = omega (arith, h) in
+      let start : 0 + key.frames ≡ key.frames = omega arith in
+      omega (
+        arith,
+        whole,
+        ap (λ n. sum_by (held_at key ws) (range_with_len 0 n)) whole,
+        range_parts (held_at key ws) 0 key.frames past,
+        ap (λ n. sum_by (held_at key ws) (range_with_len n past)) start,
+        range_le (λ _. 1) (held_at key ws) key.frames past (λ x l r. past_held x l (omega (arith, r, whole))),
+        range_ones key.frames past,
+      ))
+      (cases_lt (frame_count key) key.frames)
+
+  -- a child that is free as a whole counts 512 free frames
+  whole_counts : (c : ℕ) → 512 * shows_whole (slice_index ws (entry_place c)) c ≤ free_of ws c
+  unfolding is_whole entry_of free_of
+  whole_counts c = grind (arith, nat_tests, free_is (entry_of ws c))
+
+  fewer_huge : 512 * clear_blocks key ws 9 ≤ free_frames key ws
+  fewer_huge = omega (
+    arith,
+    huge_exact,
+    frames_exact,
+    range_times (λ c. shows_whole (slice_index ws (entry_place c)) c) (free_of ws) 0 key.children (λ c l h. whole_counts c),
+  )
+
   -- what was read as it stands is exact
   pub exact_of : (counts : FreeCounts) (read : ℕ → Option ℕ) → AreRead key.children read ws
       → counts.frames ≡ frames_read read key.children → counts.huge ≡ huge_read read key.children → AreExact key counts ws
   unfolding word_read free_of entry_of
-  exact_of counts read are frames huge = record {
-    frames = frames
-        ∙ range_same (free_of ws) (λ c. free_at (entry_read read c) c) 0 key.children
-        (λ c l h. ap (λ o. free_at (word_read o) c) (are c (omega (arith, h))))
-        ∙ frames_exact;
-    huge = huge
-        ∙ range_same (λ c. shows_whole (slice_index ws (entry_place c)) c) (λ c. shows_whole (entry_read read c) c) 0 key.children
-        (λ c l h. ap (λ o. shows_whole (word_read o) c) (are c (omega (arith, h))))
-        ∙ huge_exact;
-  }
+  exact_of counts read are frames huge =
+      let free : counts.frames ≡ free_frames key ws = frames
+      ∙ range_same (free_of ws) (λ c. free_at (entry_read read c) c) 0 key.children
+      (λ c l h. ap (λ o. free_at (word_read o) c) (are c (omega (arith, h))))
+      ∙ frames_exact in
+      let whole : counts.huge ≡ clear_blocks key ws 9 = huge
+      ∙ range_same (λ c. shows_whole (slice_index ws (entry_place c)) c) (λ c. shows_whole (entry_read read c) c) 0 key.children
+      (λ c l h. ap (λ o. shows_whole (word_read o) c) (are c (omega (arith, h))))
+      ∙ huge_exact in
+      record {
+        frames = free;
+        huge = whole;
+        inside = omega (arith, free, free_inside);
+        fewer = omega (arith, free, whole, fewer_huge);
+      }
 
 -- all words were loaded
 pub looks_all : {T H : Type 0} (t : ℕ → ℕ) (m u : Mover T H) (i : ℕ) (counts : FreeCounts) → i ≡ entry_word_count m.key

@@ -46,7 +46,7 @@ range_few f a (suc n) few =
       range_few f (a + 1) n (λ d l h. few d (omega arith) (omega arith)),
     )
 
-range_room : (f : ℕ → ℕ) (a n c m : ℕ) → ((d : ℕ) → a ≤ d → d < a + n → f d ≤ 512) → a ≤ c → c < a + n → f c + m ≤ 512
+pub range_room : (f : ℕ → ℕ) (a n c m : ℕ) → ((d : ℕ) → a ≤ d → d < a + n → f d ≤ 512) → a ≤ c → c < a + n → f c + m ≤ 512
     → sum_by f (range_with_len a n) + m ≤ 512 * n
 range_room f a zero c m few l h room = absurd (omega arith)
 range_room f a (suc n) c m few l h room =
@@ -63,25 +63,25 @@ range_room f a (suc n) c m few l h room =
 
 -- Views at rest pay and reserve nothing.
 
-is_at_none : (t : ℕ) → is_at t None ≡ 0
+pub is_at_none : (t : ℕ) → is_at t None ≡ 0
 unfolding is_at
 is_at_none t = refl
 
-paid_at_rest : (t : ℕ) (key : Key) (v : View) → IsViewOf key v → IsAtRest v → paid_on t v ≡ 0
+pub paid_at_rest : (t : ℕ) (key : Key) (v : View) → IsViewOf key v → IsAtRest v → paid_on t v ≡ 0
 paid_at_rest t key v is rest =
     ⊎_elim
     (λ (none : v.share < 1). ap (count_in t) (is.no_part (omega arith)).paid ∙ count_none t)
     (λ (some : 1 ≤ v.share). ap (count_in t) (rest (omega arith)).paid ∙ count_none t)
     (cases_lt v.share 1)
 
-reserving_at_rest : (t : ℕ) (key : Key) (v : View) → IsViewOf key v → IsAtRest v → reserves t v ≡ 0
+pub reserving_at_rest : (t : ℕ) (key : Key) (v : View) → IsViewOf key v → IsAtRest v → reserves t v ≡ 0
 reserving_at_rest t key v is rest =
     ⊎_elim
     (λ (none : v.share < 1). ap (is_at t) (is.no_part (omega arith)).reserving ∙ is_at_none t)
     (λ (some : 1 ≤ v.share). ap (is_at t) (rest (omega arith)).reserving ∙ is_at_none t)
     (cases_lt v.share 1)
 
-all_at_rest : (f : View → ℕ) (key : Key) (vs : List View) → ((v : View) → IsViewOf key v → IsAtRest v → f v ≡ 0) → All (IsViewOf key) vs
+pub all_at_rest : (f : View → ℕ) (key : Key) (vs : List View) → ((v : View) → IsViewOf key v → IsAtRest v → f v ≡ 0) → All (IsViewOf key) vs
     → All IsAtRest vs → sum_by f vs ≡ 0
 all_at_rest f key [] none are rest = refl
 all_at_rest f key (v ∷ vs) none are rest =
@@ -96,7 +96,7 @@ ground_by : (b : Bool) (f : View → ℕ) (u w : View) → f u ≡ 0 → f w ≡
 ground_by true f u w e h = e
 ground_by false f u w e h = h
 
-ground_none : (key : Key) (f : View → ℕ) → f (ground_with key (boot_blocks key)) ≡ 0 → f spent ≡ 0 → f (fixed_ground key) ≡ 0
+pub ground_none : (key : Key) (f : View → ℕ) → f (ground_with key (boot_blocks key)) ≡ 0 → f spent ≡ 0 → f (fixed_ground key) ≡ 0
 unfolding fixed_ground
 ground_none key f e h = ground_by key.sealed f (ground_with key (boot_blocks key)) spent e h
 
@@ -116,12 +116,12 @@ total_none key f v others e h own none are rest =
 
 -- Where nothing rests.
 
-resting_none : (key : Key) (ws : List ℕ) (t : ℕ) → NothingRests key ws → resting_on key ws t ≡ 0
+pub resting_none : (key : Key) (ws : List ℕ) (t : ℕ) → NothingRests key ws → resting_on key ws t ≡ 0
 unfolding resting_on
 resting_none key ws t none =
     range_zero (λ k. count_on t (rest_of key ws k)) 0 key.cores (λ k l h. ap (count_on t) (none k (omega arith)) ∙ count_on_none t)
 
-cores_none : (key : Key) (ws : List ℕ) (t : ℕ) → NothingRests key ws → cores_on key ws t ≡ 0
+pub cores_none : (key : Key) (ws : List ℕ) (t : ℕ) → NothingRests key ws → cores_on key ws t ≡ 0
 unfolding cores_on
 cores_none key ws t none =
     range_zero (λ k. is_on t (rest_of key ws k)) 0 key.cores (λ k l h. ap (is_on t) (none k (omega arith)) ∙ is_on_none t)

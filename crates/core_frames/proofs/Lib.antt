@@ -7,6 +7,7 @@ pub mod PlainSums
 pub mod Carried
 pub mod KeptFrames
 pub mod Exhausted
+mod Missed
 pub mod AloneSearch
 pub mod SureSteps
 pub mod SearchSteps
@@ -18,5 +19,7 @@ mod EntriesRead
 mod FreePlain
 mod CoreLemmas
 mod LeftLemmas
+mod Adopting
 mod DeskLemmas
 mod FoundLemmas
+pub mod FillLemmas

@@ -476,13 +476,13 @@ module _ (key : Key) (m n : Mover Company FrameBlock) (ws us bytes : List ℕ) (
   -- A give.
 
   module _ (b : FrameBlock) (has : Contains (out_of bytes) b) (exact : ℕ → Type 0) (most : ℕ)
-      (gave : GivesBy (λ (x : FrameBlock). x) exact most HasTakenOne b m n) where
+      (gave : GivesBy (λ (x : FrameBlock). x) exact most HasTakenOne b m n) (so : m.remembers) where
     abbrev given_bytes : List ℕ
     given_bytes = set bytes b.frame 0
 
     less : HoldsMore key us ws b
     less = more_over key us ws b (subst (λ (k : Key). HoldsMore k us ws b) agree.same_key
-        (both_known (λ xs ys. HoldsMore m.key ys xs b) m.words n.words ws us agree.known known (gave.alone_given agree.alone)))
+        (both_known (λ xs ys. HoldsMore m.key ys xs b) m.words n.words ws us agree.known known (gave.alone_given so agree.alone)))
 
     held_less : IsPermutation (held_with key bytes) (b ∷ held_with key given_bytes)
     held_less = IsPermutation-sym (b ∷ held_with key given_bytes) (held_with key bytes)
@@ -513,7 +513,7 @@ module _ (key : Key) (m n : Mover Company FrameBlock) (ws us bytes : List ℕ) (
   -- A split.
 
   module _ (b first second : FrameBlock) (has : Contains (out_of bytes) b) (keeps : KeepsOthers (λ (x : FrameBlock). x) b m n)
-      (out : HandsOutHalves (λ (x : FrameBlock). x) b first second m n) where
+      (out : HandsOutHalves (λ (x : FrameBlock). x) b first second m n) (so : m.remembers) where
     next : b.order ≡ suc (b.order - 1)
     next = omega (arith, out.are_halves.some)
 
@@ -542,7 +542,7 @@ module _ (key : Key) (m n : Mover Company FrameBlock) (ws us bytes : List ℕ) (
 
     halves : HoldsHalves key b first second ws us
     halves = halves_over key b first second ws us (subst (λ (k : Key). HoldsHalves k b first second ws us) agree.same_key
-        (both_known (HoldsHalves m.key b first second) m.words n.words ws us agree.known known (out.alone agree.alone)))
+        (both_known (HoldsHalves m.key b first second) m.words n.words ws us agree.known known (out.alone so agree.alone)))
 
     two : IsBlock key first × IsBlock key second
     two = halves_are key b first second block_here out.are_halves

@@ -16,6 +16,7 @@ use Rattle.frame_core.specs.Moves.{place_of, Changes}
 use Rattle.frame_core.specs.Mover.{Mover, LiesInside, Keeps, Ticks, Loads, Tries, Makes, Swaps}
 use Rattle.low_frames.specs.Bounds.{attempt}
 use Rattle.low_frames.specs.Takes.{Counts, IsAsBefore, IsSure, StaysSure}
+use Rattle.low_frames.proofs.AloneLemmas.{at_known}
 use Rattle.low_frames.specs.Alone.{FindsOf, WordsTake, NoneIsFree}
 use Rattle.low_frames.specs.Gives.{Gives}
 use Rattle.low_frames.specs.Outcomes.{TakesOut, TakesNothing, MayTakeOf, HasNoBootFrame}
@@ -345,7 +346,7 @@ may_search {T} {H} {a} {b} {core} {order} may keeps before = record {
 pub given_low : {T H : Type 0} {exact : ℕ → Type 0} {n : ℕ} {a b : Mover T H}
     {block_of : H → FrameBlock} {held : H} {U : View → View → Type 0}
     → Gives block_of exact n U held a b → GivesBy block_of exact n U held a b
-given_low g = record { keeps = g.keeps; counts = g.counts; back = g.back; alone_given = g.alone_given }
+given_low g = record { keeps = g.keeps; counts = g.counts; back = g.back; knows = λ a. g.knows; alone_given = g.alone_given }
 
 pub given_then : {T H : Type 0} {t : ℕ → ℕ} {exact : ℕ → Type 0}
     (ticks : Ticks t exact) {a b c : Mover T H} {block_of : H → FrameBlock} {held : H}
@@ -355,7 +356,11 @@ given_then {T} {H} {t} {exact} ticks {a} {b} {c} {block_of} {held} V n m k h is 
   keeps = others_both give.keeps f.keeps;
   counts = then_counts t exact ticks n m k h give.counts f.counts;
   back = v;
-  alone_given = λ alone.
-      given_then_keeps a.key a.words b.words c.words (block_of held) is (give.alone_given alone)
+  knows = λ alone.
+      let t = give.knows alone in
+      let u = at_known b.words (λ ws. (us : List ℕ) × ((c.words ≡ Some us) × SameFrames b.key ws us)) t.0 t.1
+      (f.alone (give.keeps.stays_alone alone)) in (u.0, u.1.0);
+  alone_given = λ so alone.
+      given_then_keeps a.key a.words b.words c.words (block_of held) is (give.alone_given so alone)
       (subst (λ i. KeepsFrames i b.words c.words) give.keeps.same_key (f.alone (give.keeps.stays_alone alone)));
 }

@@ -3,7 +3,7 @@ use Rattle.std.specs.Prelude.{ℕ, ◌+◌, ◌*◌}
 use Rattle.frame_words.specs.Runs.{child_words}
 use Rattle.frame_model.specs.declared.key.Key.{Key}
 use Rattle.frame_model.specs.Key.{tree_count}
-use Rattle.low_frames.specs.Bounds.{attempt, most_in_tree, most_to_give_back}
+use Rattle.low_frames.specs.Bounds.{attempt, most_in_tree, most_in_tree_singles, most_to_give_back}
 
 -- a tree becomes the core's: the local word is swapped, and the tree that it had is unreserved
 abbrev pub most_to_install : ℕ
@@ -80,3 +80,7 @@ most_in_join = 2 + 1
 -- two blocks are told apart: both are kept, one load is made, and both are recalled
 abbrev pub to_tell_apart : ℕ
 to_tell_apart = 2 + 1 + 2
+
+-- k single frames of the own tree: they are paid, taken, and the rest is refunded
+abbrev pub most_in_fill : ℕ → ℕ
+most_in_fill k = attempt + most_in_tree_singles k + most_to_refund

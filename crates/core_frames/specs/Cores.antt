@@ -1,13 +1,15 @@
 -- What contracts see of a shared allocator and of its cores.
-use Rattle.std.specs.Prelude.{◌≡◌, ℕ, ℤ, pos, ◌<◌, List, [], length, slice_index_or}
+use Rattle.std.specs.Prelude.{◌≡◌, ℕ, ℤ, pos, ◌<◌, List, [], Option, Some, length, slice_index_or}
 use Rattle.std.specs.List.{All}
 use Rattle.frame_model.specs.declared.block.FrameBlock.{FrameBlock}
 use Rattle.frame_model.specs.declared.key.Key.{Key}
 use Rattle.frame_model.specs.declared.view.View.{View}
-use Rattle.frame_model.specs.Key.{IsKey}
-use Rattle.frame_table.specs.Seats.{key_at, view_of, IsIdleSeat, IsOut}
+use Rattle.frame_model.specs.Key.{IsKey, tree_of}
+use Rattle.frame_table.specs.Mover.{HasAllShares}
+use Rattle.frame_table.specs.Seats.{key_at, view_of, known_of, IsIdleSeat, IsOut}
 use Rattle.frame_table.specs.declared.block.Block.{Block}
 use Rattle.frame_table.specs.declared.seats.CoreSeat.{CoreSeat}
+use Rattle.core_frames.specs.Habits.{RecordsGive}
 use Rattle.core_frames.specs.declared.shared.allocator.Allocator.{Allocator}
 use Rattle.core_frames.specs.declared.shared.allocator.Core.{Core}
 
@@ -43,6 +45,18 @@ moves_by c = (view_in c).moves
 abbrev pub losses_by : Core → ℕ
 losses_by c = (view_in c).lost
 
+-- all words of the memory, where the core knows them
+abbrev pub known_by : Core → Option (List ℕ)
+known_by c = known_of c.seat
+
+-- the core has all shares of the memory, so nobody else steps
+abbrev pub StepsAlone : Allocator → Core → Type 0
+StepsAlone a c = HasAllShares a.table c.seat
+
+-- and knows the words
+abbrev pub IsSureOf : Allocator → Core → Type 0
+IsSureOf a c = StepsAlone a c × ((words : List ℕ) × (known_by c ≡ Some words))
+
 -- the block was handed out by this allocator
 abbrev pub IsOutOf : Allocator → Block → Type 0
 IsOutOf a b = IsOut a.table b
@@ -52,16 +66,27 @@ pub record IsCoreOf (a : Allocator) (c : Core) : Type 0 where
   pub seat : IsIdleSeat a.table c.seat
   pub number : number_of c < (memory_of a).cores
 
--- it still does, as the same one of its cores
+-- it still does, as the same one of its cores; and who had all shares has them
 pub record StaysCoreOf (a : Allocator) (c d : Core) : Type 0 where
   pub is_core : IsCoreOf a d
   pub same_number : number_of d ≡ number_of c
+  pub stays_alone : StepsAlone a c → StepsAlone a d
 
--- a core as an opening gives it: idle, with nothing lent and nothing kept
+-- what the core remembers of its takes and gives is as before
+abbrev pub KeepsHabit : Core → Core → Type 0
+KeepsHabit c d = d.habit ≡ c.habit
+
+-- it recorded a give into the tree of the frame
+abbrev pub RecordsGiveAt : ℕ → Core → Core → Type 0
+RecordsGiveAt frame c d = RecordsGive (tree_of frame) c.habit.gives d.habit.gives
+
+-- a core as an opening gives it: idle, with nothing lent and nothing kept; where it is the only one, it
+-- is sure of the words
 pub record IsNewCore (a : Allocator) (c : Core) : Type 0 where
   pub is_core : IsCoreOf a c
   pub lent : lent_by c ≡ pos 0
   pub kept : kept_by c ≡ []
+  pub sure : (memory_of a).cores ≡ 1 → IsSureOf a c
 
 -- each core has its place as its number
 abbrev pub AreNumbered : List Core → Type 0

@@ -1,5 +1,5 @@
 -- How much is free: what was read of the entries of the children, and what the words say of frames.
-use Rattle.std.specs.Prelude.{◌≡◌, ℕ, zero, suc, ◌*◌, ◌/◌, ◌^◌, ◌<◌, List, Option, None, Some, nat_eq, min, if◌then◌else◌}
+use Rattle.std.specs.Prelude.{◌≡◌, ℕ, zero, suc, ◌*◌, ◌/◌, ◌^◌, ◌<◌, ◌≤◌, List, Option, None, Some, nat_eq, min, if◌then◌else◌}
 use Rattle.std.specs.List.{sum_by, range_with_len}
 use Rattle.frame_words.specs.Geometry.{child_frames, huge_order}
 use Rattle.frame_words.specs.Words.{free_in, lane_in}
@@ -56,10 +56,13 @@ pub record AreAsRead (key : Key) (read : ℕ → Option ℕ) (counts : FreeCount
   pub frames : counts.frames ≡ frames_read read key.children
   pub huge : counts.huge ≡ huge_read read key.children
 
--- the counts are those of the frames, and of the children, of which nothing is held
+-- the counts are those of the frames, and of the children, of which nothing is held: no frame that is
+-- counted lies past the end, nor outside those that are
 pub record AreExact (key : Key) (counts : FreeCounts) (words : List ℕ) : Type 0 where
   pub frames : counts.frames ≡ free_frames key words
   pub huge : counts.huge ≡ clear_blocks key words huge_order
+  pub inside : counts.frames ≤ key.frames
+  pub fewer : child_frames * counts.huge ≤ counts.frames
 
 -- the view after so many loads
 abbrev pub after_loads : (ℕ → ℕ) → ℕ → View → View

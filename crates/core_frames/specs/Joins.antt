@@ -40,7 +40,7 @@ pub record HandsOutWhole {T H : Type 0} (block_of : H → FrameBlock) (lower upp
   pub are_halves : AreHalves (block_of b) (block_of lower) (block_of upper)
   pub is_out : new.is_out b
   pub view : HasTakenOne old.view new.view
-  pub alone : old.is_alone → Turns SameWords old.words new.words
+  pub alone : old.remembers → old.is_alone → Turns SameWords old.words new.words
 
 -- a join: the block of both is out; or they are no buddies, and were handed back
 pub record JoinsBy {T H : Type 0} (block_of : H → FrameBlock) (exact : ℕ → Type 0) (lower upper : H)

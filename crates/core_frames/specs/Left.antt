@@ -1,9 +1,12 @@
 -- What is left of a memory that was in use before its opening.
-use Rattle.std.specs.Prelude.{◌≡◌, ◌⊎◌, ◌<◌, ◌≤◌, List, Result, IfOk, IfErr}
+use Rattle.std.specs.Prelude.{◌≡◌, ◌⊎◌, ◌<◌, ◌≤◌, List, ◌∷◌, Result, IfOk, IfErr}
+use Rattle.std.specs.List.{All}
 use Rattle.frame_words.specs.Geometry.{huge_order}
 use Rattle.frame_words.specs.declared.fault.Fault.{Fault}
 use Rattle.frame_words.specs.declared.fault.Fault.TheVariants.{BadOrder, NotHeld}
 use Rattle.frame_model.specs.declared.block.FrameBlock.{FrameBlock}
+use Rattle.frame_model.specs.declared.key.Key.{Key}
+use Rattle.frame_model.specs.Holding.{IsHolding}
 use Rattle.frame_core.specs.Moves.{HasSizes}
 use Rattle.frame_model.specs.Without.{without}
 use Rattle.frame_table.specs.Openings.{ground_view, IsGround, IsLeft}
@@ -37,8 +40,15 @@ IsUnadoptedFor a b left fault =
     ((fault ≡ BadOrder) × (huge_order < b.order))
     ⊎ ((fault ≡ NotHeld) × (b.order ≤ huge_order) × ¬ IsLeft (memory_of a) left b)
 
--- the block is adopted and leaves what is left; or it is refused, and nothing leaves
+-- of blocks that are apart from one another, those behind the first are apart and left
+abbrev pub StayLeft : Key → FrameBlock → (old new : List FrameBlock) → Type 0
+StayLeft key b old new = (others : List FrameBlock) → IsHolding key (b ∷ others) → All (IsLeft key old) others
+    → IsHolding key others × All (IsLeft key new) others
+
+-- the block is adopted and leaves what is left, but for all that is apart from it; or it is refused, and
+-- nothing leaves
 pub record Adopts (a : Allocator) (b : FrameBlock) (answer : Result Block Fault)
     (old new : List FrameBlock) : Type 0 where
   pub ok : IfOk answer (λ held. IsAdopted a b held old × (new ≡ without b old))
+  pub others : IfOk answer (λ _. StayLeft (memory_of a) b old new)
   pub err : IfErr answer (λ fault. IsUnadoptedFor a b old fault × (new ≡ old))

@@ -4,12 +4,14 @@ pub mod PlainAgree
 pub mod PlainState
 pub mod Search
 pub mod Alone
+pub mod Missed
 pub mod Searches
 pub mod Splits
 pub mod Joins
 pub mod Ranges
 pub mod Cores
 pub mod Uses
+pub mod BoundNumbers
 pub mod Found
 pub mod Desks
 pub mod LeftFrames
@@ -18,3 +20,4 @@ pub mod Left
 pub mod Refusals
 pub mod WrongAnswers
 pub mod FreeCounts
+pub mod Fills

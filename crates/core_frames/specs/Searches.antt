@@ -10,7 +10,7 @@ use Rattle.frame_model.specs.declared.view.View.{View}
 use Rattle.frame_model.specs.Key.{tree_count}
 use Rattle.frame_model.specs.Words.{local_place, IsRest}
 use Rattle.frame_model.specs.View.{counted, IsIdle}
-use Rattle.frame_core.specs.Mover.{Mover, Keeps, KeepsOthers}
+use Rattle.frame_core.specs.Mover.{Mover, Keeps, KeepsOthers, KnowsWords}
 use Rattle.low_frames.specs.Bounds.{attempt}
 use Rattle.low_frames.specs.Takes.{Counts, IsAsBefore, IsSure, StaysSure}
 use Rattle.low_frames.specs.Alone.{Turns, WordsGive}
@@ -94,6 +94,10 @@ pub record Brings {T H : Type 0} (exact : ℕ → Type 0) (most : ℕ) (V : View
   pub sure : StaysSure old new
   pub view : V old.view new.view
   pub alone : old.is_alone → Turns W old.words new.words
+
+-- where nobody else steps, words that were known are known, and as before
+abbrev pub LeavesWords : {T H : Type 0} → Mover T H → Mover T H → Type 0
+LeavesWords old new = old.is_alone → IfSome old.words (λ ws. new.words ≡ Some ws)
 
 -- the words are known, and this one of them is so
 abbrev pub IsKnown : {T H : Type 0} → ℕ → ℕ → Mover T H → Type 0
@@ -180,4 +184,5 @@ pub record GivesBy {T H : Type 0} (block_of : H → FrameBlock) (exact : ℕ →
   pub keeps : KeepsOthers block_of (block_of given) old new
   pub counts : Counts exact most old new
   pub back : V old.view new.view
-  pub alone_given : old.is_alone → WordsGive old.key old.words new.words (block_of given)
+  pub knows : old.is_alone → KnowsWords new
+  pub alone_given : old.remembers → old.is_alone → WordsGive old.key old.words new.words (block_of given)

@@ -50,7 +50,7 @@ pub record HandsOutHalves {T H : Type 0} (block_of : H → FrameBlock) (b first 
   pub first_out : new.is_out first
   pub second_out : new.is_out second
   pub view : HasLentOne old.view new.view
-  pub alone : old.is_alone
+  pub alone : old.remembers → old.is_alone
       → Turns (HoldsHalves old.key (block_of b) (block_of first) (block_of second)) old.words new.words
 
 -- a split: the halves are out; or the block, which has none, was handed back
@@ -102,7 +102,7 @@ pub record BringsIn {T H : Type 0} (block_of : H → FrameBlock) (exact : ℕ �
   pub counts : Counts exact most_to_bring_in old new
   pub view : Bears old.view new.view.own old.view.filled (old.view.lent -ℤ pos 1) new.view
   pub two : MakeTwo old.key (block_of b).frame ((block_of b).order - 1) new.view.own
-  pub alone : old.is_alone → Turns (LosesFlag old.key (block_of b)) old.words new.words
+  pub alone : old.remembers → old.is_alone → Turns (LosesFlag old.key (block_of b)) old.words new.words
 
 -- the child as a whole is all that is in flight
 pub record MayBreakUp {T H : Type 0} (c : ℕ) (m : Mover T H) : Type 0 where

@@ -15,12 +15,14 @@ use Rattle.frame_table.specs.declared.block.Block.{Block}
 use Rattle.core_frames.specs.declared.shared.allocator.Allocator.{Allocator}
 use Rattle.core_frames.specs.declared.shared.allocator.Core.{Core}
 use Rattle.core_frames.specs.Bounds.{most_in_give}
-use Rattle.core_frames.specs.Cores.{memory_of, view_in, kept_by, lent_by, moves_by, losses_by, IsOutOf, StaysCoreOf}
+use Rattle.core_frames.specs.Cores.{memory_of, view_in, kept_by, lent_by, moves_by, losses_by, known_by, StepsAlone, IsSureOf, IsOutOf, StaysCoreOf}
+use Rattle.core_frames.specs.Alone.{FindsNoBlock}
+use Rattle.low_frames.specs.Alone.{Turns, WordsTake}
 use Rattle.core_frames.specs.Splits.{AreHalves}
 use Rattle.core_frames.specs.Joins.{AreBuddies}
 
 -- a block of the order is out, none of whose frames the core keeps, the opening held back or is past
--- the end, and one block more is lent
+-- the end, and one block more is lent; where nobody else steps it was free
 pub record HasTaken (a : Allocator) (n : ℕ) (b : Block) (c d : Core) : Type 0 where
   pub is_out : IsOutOf a b
   pub order : (block_in b).order ≡ n
@@ -28,6 +30,7 @@ pub record HasTaken (a : Allocator) (n : ℕ) (b : Block) (c d : Core) : Type 0 
   pub no_boot_frame : HasNoBootFrame (memory_of a) (block_in b)
   pub inside : LiesInside (memory_of a) (block_in b)
   pub lent : lent_by d ≡ lent_by c +ℤ pos 1
+  pub alone : StepsAlone a c → WordsTake (memory_of a) (known_by c) (known_by d) (block_in b)
 
 -- at least as many moves were made as the memory has trees, for an order of blocks
 pub record HasMovedForEach (a : Allocator) (n : ℕ) (c d : Core) : Type 0 where
@@ -35,18 +38,25 @@ pub record HasMovedForEach (a : Allocator) (n : ℕ) (c d : Core) : Type 0 where
   pub moved : moves_by c + tree_count (memory_of a) ≤ moves_by d
 
 -- why a take of an order was refused: there is none of that order, and no move was made; or a move
--- was made for each tree, and no exchange was lost in this call, or one was
+-- was made for each tree, and no exchange was lost in this call, or one was. Where nobody else steps
+-- no block of the order is free, and who knows the words too loses no exchange.
 abbrev pub IsRefusedFor : Allocator → ℕ → Core → Core → TakeFault → Type 0
 IsRefusedFor a n c d BadOrder = (huge_order < n) × (view_in d ≡ view_in c)
-IsRefusedFor a n c d NoBlock = HasMovedForEach a n c d × (losses_by d ≡ losses_by c)
-IsRefusedFor a n c d Contended = HasMovedForEach a n c d × (losses_by c < losses_by d)
+IsRefusedFor a n c d NoBlock =
+    HasMovedForEach a n c d × (losses_by d ≡ losses_by c)
+    × (StepsAlone a c → Turns (FindsNoBlock (memory_of a) n) (known_by c) (known_by d))
+IsRefusedFor a n c d Contended =
+    HasMovedForEach a n c d × (losses_by c < losses_by d) × (¬ IsSureOf a c)
 
 -- why a take at a desk was refused: as the allocator's is; lack of memory comes before any step
 abbrev pub IsRefusedAtDesk : Allocator → ℕ → Core → Core → Fault → Type 0
 IsRefusedAtDesk a n c d fault.BadOrder = (huge_order < n) × (d ≡ c)
 IsRefusedAtDesk a n c d fault.NoMemory = (n ≤ huge_order) × (d ≡ c)
-IsRefusedAtDesk a n c d fault.NoBlock = HasMovedForEach a n c d × (losses_by d ≡ losses_by c)
-IsRefusedAtDesk a n c d fault.Contended = HasMovedForEach a n c d × (losses_by c < losses_by d)
+IsRefusedAtDesk a n c d fault.NoBlock =
+    HasMovedForEach a n c d × (losses_by d ≡ losses_by c)
+    × (StepsAlone a c → Turns (FindsNoBlock (memory_of a) n) (known_by c) (known_by d))
+IsRefusedAtDesk a n c d fault.Contended =
+    HasMovedForEach a n c d × (losses_by c < losses_by d) × (¬ IsSureOf a c)
 IsRefusedAtDesk a n c d _ = ⊥
 
 -- the core lends as many blocks as before, and made at most so many moves
@@ -59,7 +69,7 @@ pub record LendsAsMany (most : ℕ) (c d : Core) : Type 0 where
 pub record TakesThrough (a : Allocator) (n : ℕ) (answer : Result Block TakeFault) (c d : Core)
     : Type 0 where
   pub kept : kept_by d ≡ kept_by c
-  pub same_habit : d.habit ≡ c.habit
+  pub same_gives : d.habit.gives ≡ c.habit.gives
   pub ok : IfOk answer (λ b. HasTaken a n b c d)
   pub err : IfErr answer (λ fault. IsRefusedFor a n c d fault × (lent_by d ≡ lent_by c))
 
@@ -68,10 +78,12 @@ pub record HasGiven (c d : Core) : Type 0 where
   pub kept : kept_by d ≡ kept_by c
   pub lent : lent_by d ≡ lent_by c -ℤ pos 1
 
--- such a give by a core, which stays the allocator's, in the moves that one may make
+-- such a give by a core, which stays the allocator's, in the moves that one may make; where nobody else
+-- steps it is sure of the words then
 pub record Gives (a : Allocator) (c d : Core) : Type 0 where
   pub stays : StaysCoreOf a c d
   pub gives : HasGiven c d
+  pub sure : StepsAlone a c → IsSureOf a d
   pub few : moves_by d ≤ moves_by c + most_in_give
 
 -- by so many moves the view is as before, but for their count

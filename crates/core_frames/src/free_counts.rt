@@ -2,13 +2,16 @@
 
 ghost use Rattle.std.specs.Prelude.{◌≡◌, ◌+◌, ◌-◌, ◌*◌, ◌/◌, ◌^◌, ◌≤◌, min};
 ghost use Rattle.std.specs.List.{sum_by, range_with_len};
-ghost use Rattle.frame_words.specs.Geometry.{child_frames, most_children};
+ghost use Rattle.frame_words.specs.Geometry.{child_frames, huge_order, most_children};
+ghost use Rattle.frame_model.specs.Report.{free_frames, clear_blocks};
 ghost use Rattle.frame_model.specs.View.{IsIdle};
 ghost use Rattle.frame_model.specs.Words.{entry_word_count};
 ghost use Rattle.frame_table.specs.Seats.{reads_of};
-ghost use Rattle.core_frames.specs.Cores.{memory_of, seat_of, view_in, IsCoreOf, StaysCoreOf};
+ghost use Rattle.low_frames.specs.Alone.{FindsOf};
+ghost use Rattle.core_frames.specs.Cores.{memory_of, seat_of, view_in, known_by};
+ghost use Rattle.core_frames.specs.Cores.{StepsAlone, IsCoreOf, StaysCoreOf, KeepsHabit};
 ghost use Rattle.core_frames.specs.FreeCounts.{free_at, is_whole, shows_whole, frames_read, huge_read};
-ghost use Rattle.core_frames.specs.FreeCounts.{LooksOver, AreCountsOf};
+ghost use Rattle.core_frames.specs.FreeCounts.{AreExact, LooksOver, AreCountsOf};
 ghost use Rattle.core_frames.specs.Uses.{IsSameAfter};
 
 use crate::shared::allocator::{Allocator, Core};
@@ -29,15 +32,19 @@ pub struct FreeCounts {
 impl Allocator {
     /// How many frames are free: the sum over the entries of the children, four of them in a load.
     /// Beside others they are entries of different times, and frames that a core is about to take
-    /// or to give count as held; where nobody else steps the sum is exact (`free_counts_by`).
+    /// or to give count as held; where nobody else steps the sum is exact.
     pub fn free_frames(&self, core: &mut Core) -> u32
         requires { IsCoreOf self.now core.old }
         ensures core { StaysCoreOf self.now core.old core.new }
+        ensures habit { KeepsHabit core.old core.new }
         ensures view { IsSameAfter (entry_word_count (memory_of self.now)) (view_in core.old)
             (view_in core.new) }
         ensures sum { result ≡ min (frames_read (reads_of (seat_of core.new))
             (memory_of self.now).children) (memory_of self.now).frames }
         ensures few { result ≤ (memory_of self.now).frames }
+        ensures alone { StepsAlone self.now core.old → FindsOf
+            (λ words. result ≡ free_frames (memory_of self.now) words)
+            (known_by core.old) (known_by core.new) }
     {
         self.look_over(core).frames
     }
@@ -47,11 +54,15 @@ impl Allocator {
     pub fn free_huge(&self, core: &mut Core) -> u32
         requires { IsCoreOf self.now core.old }
         ensures core { StaysCoreOf self.now core.old core.new }
+        ensures habit { KeepsHabit core.old core.new }
         ensures view { IsSameAfter (entry_word_count (memory_of self.now)) (view_in core.old)
             (view_in core.new) }
         ensures sum { result ≡ min (huge_read (reads_of (seat_of core.new))
             (memory_of self.now).children) ((memory_of self.now).frames / child_frames) }
         ensures few { child_frames * result ≤ (memory_of self.now).frames }
+        ensures alone { StepsAlone self.now core.old → FindsOf
+            (λ words. result ≡ clear_blocks (memory_of self.now) words huge_order)
+            (known_by core.old) (known_by core.new) }
     {
         self.look_over(core).huge
     }
@@ -60,9 +71,12 @@ impl Allocator {
     fn look_over(&self, core: &mut Core) -> FreeCounts
         requires { IsCoreOf self.now core.old }
         ensures core { StaysCoreOf self.now core.old core.new }
+        ensures habit { KeepsHabit core.old core.new }
         ensures view { IsSameAfter (entry_word_count (memory_of self.now)) (view_in core.old)
             (view_in core.new) }
         ensures counts { AreCountsOf self.now result core.new }
+        ensures alone { StepsAlone self.now core.old → FindsOf
+            (AreExact (memory_of self.now) result) (known_by core.old) (known_by core.new) }
     {
         let mut m = SharedMoves::new(&self.table, &mut core.seat);
         let most = m.geometry().frames();

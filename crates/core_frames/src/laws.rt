@@ -1,11 +1,39 @@
-//! What would be wrong, and is told: laws, proved as contracts of functions that do nothing.
+//! What bounds come to, and what would be wrong, and is told: laws, proved as contracts of functions
+//! that do nothing.
 
+ghost use Rattle.core_frames.specs.BoundNumbers.{TakeInNumbers, GiveInNumbers, SplitInNumbers};
+ghost use Rattle.core_frames.specs.BoundNumbers.{JoinInNumbers, TellingInNumbers, TreeInNumbers};
+ghost use Rattle.core_frames.specs.BoundNumbers.{DeskMovesTooMuch};
+ghost use Rattle.core_frames.specs.Missed.{MissesTheWithheld, NobodyWithholds};
 ghost use Rattle.core_frames.specs.Refusals.{OrderIsLawful, OrderIsUnlawful, MovesTooLittle};
 ghost use Rattle.core_frames.specs.Refusals.{LossIsUntold, DeskIsRefused, LeftIsRefused};
 ghost use Rattle.core_frames.specs.Refusals.{RangesAreRefused, ClosingIsRefused, NumberIsAnother};
 ghost use Rattle.core_frames.specs.WrongAnswers.{TakenPastTheEnd, KeptIsClearAtClosing};
-ghost use Rattle.core_frames.specs.WrongAnswers.{KeptOverlapAtClosing, KeptIsClearAtStop};
-ghost use Rattle.core_frames.specs.WrongAnswers.{SeatIsElsewhere};
+ghost use Rattle.core_frames.specs.WrongAnswers.{KeptOverlapAtClosing, KeptIsLostAtClosing};
+ghost use Rattle.core_frames.specs.WrongAnswers.{KeptIsClearAtStop, KeptOverlapAtStop};
+ghost use Rattle.core_frames.specs.WrongAnswers.{KeptIsLostAtStop, SeatIsElsewhere};
+ghost use Rattle.core_frames.specs.WrongAnswers.{SplitIsWrong, JoinIsWrong, CountIsWrong, DeskLends};
+
+/// The bounds on moves are these numbers, so that no part of their formulas can grow unseen; and no call
+/// at a desk makes more than its own.
+pub fn bounds_are_these()
+    ensures take { TakeInNumbers }
+    ensures give { GiveInNumbers }
+    ensures split { SplitInNumbers }
+    ensures join { JoinInNumbers }
+    ensures telling { TellingInNumbers }
+    ensures tree { TreeInNumbers }
+    ensures desk { DeskMovesTooMuch }
+{}
+
+/// What a search of all trees may miss, at any moment and wherever others stopped in their calls: where
+/// nothing rests with a core, each free block of the order that it did not find lies in a tree that
+/// somebody is reserving or has paid frames of, or in a child that somebody has charged. So it misses
+/// nothing where all are at rest.
+pub fn searches_miss_what_is_withheld()
+    ensures withheld { MissesTheWithheld }
+    ensures at_rest { NobodyWithholds }
+{}
 
 /// No take that is refused says what is wrong: none that the order is bad but one above 9, and each of
 /// those; none that it found no block, without as many moves as there are trees, or that it was
@@ -29,12 +57,26 @@ pub fn wrong_refusals_are_not_told()
 {}
 
 /// No call answers what is wrong: no take a block that ends past the memory; no closing an image in
-/// which a kept block is not held, or shares a frame with another; no stop one in which a block is not
-/// held that the last core keeps, or one whose words fit nothing that this core has.
+/// which a kept block is not held, shares a frame with another, or is lost once the image is rebuilt; no
+/// stop one in which this is so of a block that the last core keeps, or one whose words fit nothing that
+/// this core has.
 pub fn wrong_answers_are_not_told()
     ensures past_the_end { TakenPastTheEnd }
     ensures clear { KeptIsClearAtClosing }
     ensures overlap { KeptOverlapAtClosing }
+    ensures lost { KeptIsLostAtClosing }
     ensures clear_at_stop { KeptIsClearAtStop }
+    ensures overlap_at_stop { KeptOverlapAtStop }
+    ensures lost_at_stop { KeptIsLostAtStop }
     ensures elsewhere { SeatIsElsewhere }
+{}
+
+/// No split, no join and no count answers what is wrong: no blocks that are not the two halves of the
+/// block, not the block of both, or not out, and no number that was not read, or of more than there is;
+/// and no call at a desk lends.
+pub fn wrong_halves_and_counts_are_not_told()
+    ensures split { SplitIsWrong }
+    ensures join { JoinIsWrong }
+    ensures counts { CountIsWrong }
+    ensures desk { DeskLends }
 {}

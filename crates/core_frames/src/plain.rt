@@ -123,7 +123,7 @@ impl PlainAllocator {
         ensures lawful { OnOk result (IsHolding (memory_by self.new) (held_by self.new)) }
     {
         if order >= self.refused && order <= HUGE_ORDER {
-            drain(&mut self.moves);
+            drain(&mut self.moves, true);
             return Err(TakeFault::NoBlock);
         }
         let mut habit = self.habits[core as usize];

@@ -35,6 +35,8 @@ pub record Mover (T H : Type 0) : Type 1 where
   pub is_alone : Type 0
   -- the next exchange is lost although its word is as it was seen
   pub loses_at_will : Type 0
+  -- a block that is taken in leaves the words known
+  pub remembers : Type 0
   -- the block was handed out and can be taken in here
   pub is_out : H → Type 0
 
@@ -120,6 +122,10 @@ pub record Tries {T H : Type 0} (t : ℕ → ℕ) (kind : Kind) (seen : ℕ) (ma
 
 -- A change that is always made.
 
+-- the words are known
+abbrev pub KnowsWords : {T H : Type 0} → Mover T H → Type 0
+KnowsWords m = (ws : List ℕ) × (m.words ≡ Some ws)
+
 -- it asks for a share, and what its kind asks of the view
 pub record MayMake {T H : Type 0} (kind : Kind) (m : Mover T H) : Type 0 where
   pub share : 0 < m.view.share
@@ -132,6 +138,7 @@ pub record Makes {T H : Type 0} (t : ℕ → ℕ) (kind : Kind) (old new : Mover
   pub view : new.view ≡ after t kind old.view
   pub reads : ReadsBut (place old.key kind) old.read new.read
   pub words : old.is_undisturbed → Changes old.key kind old.words new.words
+  pub knows : KnowsWords new
   pub apart : IsApart old.key new.view
 
 -- it was made where this word was found
@@ -187,7 +194,8 @@ pub record HandsIn {T H : Type 0} (t : ℕ → ℕ) (block_of : H → FrameBlock
   pub missed : new.missed ≡ old.missed
   pub view : new.view ≡ joined_by t hand_in old.view (holder (Some old.key) (block_of held))
   pub reads : new.read ≡ old.read
-  pub words : old.is_undisturbed → new.words ≡ old.words
+  pub stays_so : old.remembers → new.remembers
+  pub words : old.remembers → old.is_undisturbed → new.words ≡ old.words
 
 -- The laws of movers.
 

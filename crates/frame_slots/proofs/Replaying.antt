@@ -23,7 +23,7 @@ use Rattle.core_frames.specs.Uses.{HasGiven}
 use Rattle.core_frames.specs.declared.shared.allocator.Allocator.{Allocator}
 use Rattle.core_frames.specs.declared.shared.allocator.Core.{Core}
 use Rattle.frame_slots.specs.Slots.{laid_down}
-use Rattle.frame_slots.specs.Numbers.{IsFreeIn, AreAllHeld}
+use Rattle.frame_slots.specs.Numbers.{IsFreeInImage, AreAllHeld}
 use Rattle.frame_slots.specs.Reopenings.{IsFollowing, KeepsRest, MakeUp, LendsJust, HasLaid, HasHalved, among, waiting_blocks}
 use Rattle.frame_slots.specs.declared.receipt.Receipt.{Receipt}
 use Rattle.frame_slots.proofs.Overlaps.{covered, uncovered, holders_cons, holders_none}
@@ -207,7 +207,7 @@ module _ (frames : ℕ) (numbers : List ℕ) where
         (subst (λ (rs : List Receipt). IsFollowing frames numbers ws rs c) (sym laid.receipts) at)
 
     -- a free block is given back
-    pub given_following : (d : Core) → HasGiven c d → IsFreeIn numbers (block_in b) → IsFollowing frames numbers ws ls d
+    pub given_following : (d : Core) → HasGiven c d → IsFreeInImage numbers (block_in b) → IsFollowing frames numbers ws ls d
     given_following d given free =
         let kept : (x : ℕ) → holders x (kept_by d) ≡ holders x (kept_by c) = λ x. ap (holders x) given.kept in
         let parted : (x : ℕ) → among x (b ∷ ws) ls c ≡ covers (block_in b) x + among x ws ls d = λ x.

@@ -5,7 +5,7 @@ use Rattle.std.proofs.lemmas.Bool.{cases_lt}
 use Rattle.std.proofs.lemmas.List.{get_or_append_left, get_or_push, length_push}
 use Rattle.std.proofs.lemmas.Nat.{mod-pow-add, pow_pos}
 use Rattle.core_frames.specs.declared.shared.allocator.Allocator.{Allocator}
-use Rattle.frame_slots.specs.SlotLists.{place_for, IsBetween, IsGap, AreSlotsOf}
+use Rattle.frame_slots.specs.SlotLists.{place_for, IsBetweenChildren, IsGap, AreSlotsOf}
 use Rattle.frame_slots.specs.Slots.{IsSlotFor}
 use Rattle.frame_slots.specs.declared.slot.Slot.{Slot}
 
@@ -39,7 +39,7 @@ no_whole (suc o) (suc n) f k less fits e =
     no_whole o n (f / 2) k (omega (arith, less)) a.1
     (omega (arith, e, a.0, pow-suc 2 o, ap (λ m. m * k) (pow-suc 2 n)))
 
-between : (frame order : ℕ) → order ≤ 9 → frame % 2 ^ order ≡ 0 → IsBetween (place_for frame order) → ⊥
+between : (frame order : ℕ) → order ≤ 9 → frame % 2 ^ order ≡ 0 → IsBetweenChildren (place_for frame order) → ⊥
 between frame order few fits e =
     no_whole order 10 frame ((2 * frame + 2 ^ order) / 1024) (omega (arith, few)) fits
     (omega (arith, e, pow_pos order))
@@ -77,6 +77,6 @@ module _ (a : Allocator) (old : List Slot) (slot : Slot) (gaps : List ℕ) (f o 
 
 module _ (a : Allocator) (old : List Slot) (slot : Slot) (gaps : List ℕ) where
   -- by a place between children, whatever stands there
-  pub spared : AreSlotsOf a old gaps → IsBetween (length old) → AreSlotsOf a (old ++ slot ∷ []) gaps
+  pub spared : AreSlotsOf a old gaps → IsBetweenChildren (length old) → AreSlotsOf a (old ++ slot ∷ []) gaps
   spared before at = grown a old slot gaps gaps before (λ _ gap. gap) (λ frame order few fits here _.
-      absurd (between frame order few fits (subst (λ (n : ℕ). IsBetween n) (sym here) at)))
+      absurd (between frame order few fits (subst (λ (n : ℕ). IsBetweenChildren n) (sym here) at)))

@@ -28,7 +28,7 @@ abbrev pub IsHeldBy : List ℕ → ℕ → Type 0
 IsHeldBy numbers x = IsHugeIn numbers (x / 512) ⊎ (image_bit numbers x ≡ 1)
 
 -- there is such a block, whose frames are numbers of 32 bits, and none of them is held
-pub record IsFreeIn (numbers : List ℕ) (b : FrameBlock) : Type 0 where
+pub record IsFreeInImage (numbers : List ℕ) (b : FrameBlock) : Type 0 where
   pub order : b.order ≤ 9
   pub numbered : b.frame + 2 ^ b.order < 2 ^ 32
   pub free : (x : ℕ) → b.frame ≤ x → x < b.frame + 2 ^ b.order → ¬ IsHeldBy numbers x

@@ -14,8 +14,8 @@ abbrev pub place_for : (frame order : ℕ) → ℕ
 place_for frame order = 2 * frame + 2 ^ order - 1
 
 -- the place is one behind those of a child's blocks, and no block's
-abbrev pub IsBetween : ℕ → Type 0
-IsBetween place = place % (2 * child_frames) ≡ 2 * child_frames - 1
+abbrev pub IsBetweenChildren : ℕ → Type 0
+IsBetweenChildren place = place % (2 * child_frames) ≡ 2 * child_frames - 1
 
 -- how many places have their bits in one word
 abbrev pub gap_bits : ℕ
@@ -42,7 +42,7 @@ HasListAndCore a s c = IsListOf a s × IsCoreOf a c
 -- the place is the next one of the list, and no block's
 pub record IsNextBetween (place : ℕ) (s : SlotList) : Type 0 where
   pub next : place ≡ vec_len s.list
-  pub between : IsBetween place
+  pub between : IsBetweenChildren place
 
 -- there is room for the slots of all blocks of so many frames
 abbrev pub HasRoomFor : ℕ → SlotList → Type 0

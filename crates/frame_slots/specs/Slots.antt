@@ -1,8 +1,8 @@
 -- What clauses say of slots, and of the cores that blocks at them are taken by.
-use Rattle.std.specs.Prelude.{◌≡◌, ℕ, pos, ◌+ℤ◌, ◌-ℤ◌, Some, []}
+use Rattle.std.specs.Prelude.{◌≡◌, ℕ, pos, ◌+ℤ◌, ◌-ℤ◌, Some, None, []}
 use Rattle.frame_model.specs.declared.block.FrameBlock.{FrameBlock}
 use Rattle.frame_model.specs.Block.{block, IsBlock}
-use Rattle.frame_model.specs.Events.{eye}
+use Rattle.frame_table.specs.Rule.{watch}
 use Rattle.frame_model.specs.View.{holder}
 use Rattle.frame_table.specs.Seats.{block_in, id_of}
 use Rattle.frame_table.specs.declared.block.Block.{Block}
@@ -17,7 +17,7 @@ use Rattle.frame_slots.specs.declared.slot.Slot.{Slot}
 pub record IsSlotFor (a : Allocator) (frame order : ℕ) (p : Slot) : Type 0 where
   pub table : p.perch.table_id ≡ id_of a.table
   pub about : p.perch.view.view.about ≡ Some (memory_of a)
-  pub rests : p.perch.view ≡ eye (holder p.perch.view.view.about (block frame order)) []
+  pub rests : p.perch.view ≡ watch (holder p.perch.view.view.about (block frame order)) [] None
   pub is_block : IsBlock (memory_of a) (block frame order)
 
 -- the block that a receipt says was laid down

@@ -2,7 +2,7 @@
 
 ghost use Rattle.std.specs.Prelude.{◌≡◌, ℕ, ◌+◌, ◌*◌, ◌/◌, ◌^◌, ◌<◌, ◌≤◌, ◌↔◌, MatchBool, IsTrue, slice_index};
 ghost use Rattle.frame_model.specs.Block.{block as block_at};
-ghost use Rattle.frame_slots.specs.Numbers.{image_bit, most_frames, IsEntry, IsChildOf, IsFreeIn, IsHeldBy, AreAllHeld, IsHugeIn, IsImageOf};
+ghost use Rattle.frame_slots.specs.Numbers.{image_bit, most_frames, IsEntry, IsChildOf, IsFreeInImage, IsHeldBy, AreAllHeld, IsHugeIn, IsImageOf};
 
 use frame_words::{CHILD_FRAMES, CHILD_WORDS, FLAG, HUGE_ORDER, WORD_FRAMES, child_of, frames_of};
 
@@ -91,8 +91,8 @@ pub(crate) fn are_set(numbers: &[u64], from: u32, end: u32) -> bool
 
 /// Is there such a block, whose frames are numbers of 32 bits, and is none of them held?
 pub fn is_free(numbers: &[u64], frame: u32, order: u8) -> bool
-    ensures { MatchBool result (IsFreeIn numbers.now (block_at frame order))
-        (¬ IsFreeIn numbers.now (block_at frame order)) }
+    ensures { MatchBool result (IsFreeInImage numbers.now (block_at frame order))
+        (¬ IsFreeInImage numbers.now (block_at frame order)) }
 {
     if order > HUGE_ORDER {
         return false;

@@ -5,7 +5,7 @@ ghost use Rattle.std.specs.Prelude.{◌≡◌, [], ◌∷◌, ◌++◌, map, vec
 ghost use Rattle.std.specs.List.{All};
 ghost use Rattle.core_frames.specs.Cores.{memory_of, IsCoreOf, IsOutOf};
 ghost use Rattle.frame_model.specs.Block.{block as block_at};
-ghost use Rattle.frame_slots.specs.Numbers.{IsFreeIn, AreAllHeld};
+ghost use Rattle.frame_slots.specs.Numbers.{IsFreeInImage, AreAllHeld};
 ghost use Rattle.frame_slots.specs.Reopenings.{IsNoReplay, IsFollowing, KeepsRest, MakeUp};
 ghost use Rattle.frame_slots.specs.SlotLists.{HasListAndCore, IsListOf};
 ghost use Rattle.frame_slots.specs.Slots.{IsUnused, IsUnusedCoreOf, laid_down};
@@ -205,7 +205,7 @@ fn settle(
 }
 
 fn use_of(numbers: &[u64], claimed: &[FrameBlock], frame: u32, order: u8) -> BlockUse
-    ensures free { result ≡ BlockUse.Free → IsFreeIn numbers.now (block_at frame order) }
+    ensures free { result ≡ BlockUse.Free → IsFreeInImage numbers.now (block_at frame order) }
     ensures held { result ≡ BlockUse.Held → AreAllHeld numbers.now (block_at frame order) }
 {
     if is_claimed(claimed, frame, order) {

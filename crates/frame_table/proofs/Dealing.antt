@@ -1,10 +1,10 @@
 -- The first seat of a table, and the seats that are cut off it.
-use Rattle.std.proofs.Common.{◌≡◌, ℕ, ◌+◌, ◌-◌, ◌<◌, Bool, true, false, List, [], ◌∷◌, Some, refl, ap, arith, sym, ◌∙◌, subst}
+use Rattle.std.proofs.Common.{◌≡◌, ℕ, ◌+◌, ◌-◌, ◌<◌, Bool, true, false, List, [], ◌∷◌, Option, Some, None, refl, ap, arith, sym, ◌∙◌, subst}
 use Rattle.std.specs.Prelude.{if◌then◌else◌}
 use Rattle.atomic_table.specs.Table.{Me}
 use Rattle.atomic_table.specs.Seated.{TableId}
 use Rattle.frame_model.specs.declared.key.Key.{Key}
-use Rattle.frame_model.specs.declared.view.Eye.{Eye}
+use Rattle.frame_table.specs.declared.rule.Watch.{Watch}
 use Rattle.frame_model.specs.declared.view.View.{View}
 use Rattle.frame_words.specs.declared.geometry.Geometry.{Geometry}
 use Rattle.frame_model.specs.Key.{key_of, AreRanges, IsKey}
@@ -14,12 +14,12 @@ use Rattle.frame_model.specs.View.{idle, IsViewOf}
 use Rattle.frame_model.specs.Fit.{Fit}
 use Rattle.frame_model.specs.Steps.{next}
 use Rattle.frame_model.specs.Seats.{part_share, left_by}
-use Rattle.frame_model.specs.Events.{eye, last_seen}
+use Rattle.frame_model.specs.Events.{last_seen}
 use Rattle.frame_model.specs.Rebuilt.{IsRebuilt}
 use Rattle.frame_model.specs.Openings.{reopener, IsSealedOpening}
 use Rattle.frame_model.proofs.Opening.{sealed_fits, reopening_fits}
 use Rattle.frame_table.specs.declared.rule.Origin.{Origin}
-use Rattle.frame_table.specs.Rule.{key_from, first_view}
+use Rattle.frame_table.specs.Rule.{key_from, first_view, watch, FitsAmong}
 use Rattle.frame_table.specs.Seats.{AreLaid, IsSeat}
 use Rattle.frame_table.specs.Openings.{unsealed_key, moved}
 
@@ -52,10 +52,16 @@ laid_none key = record {
 }
 
 -- a seat that has read nothing
-pub fresh_seat : (id : TableId) (key : Key) (seat : TableId) (me : Me (Unit {0}) Eye) (v : View) → seat ≡ id → me ≡ (eye v [], [])
-    → v.about ≡ Some key → ∥ IsViewOf key v ∥₁ → IsSeat id key seat me
-fresh_seat id key seat me v at is about view = subst (IsSeat id key seat) (sym is)
-    (record { table = at; bare = refl; about = about; is_view = view; laid = laid_none key })
+pub fresh_seat : (id : TableId) (key : Key) (seat : TableId) (me : Me (Unit {0}) Watch) (v : View) (known : Option (List ℕ))
+    → seat ≡ id → me ≡ (watch v [] known, []) → v.about ≡ Some key → ∥ IsViewOf key v ∥₁
+    → ((words : List ℕ) → known ≡ Some words → ∥ FitsAmong key words v ∥₁) → IsSeat id key seat me
+fresh_seat id key seat me v known at is about view fits = subst (IsSeat id key seat) (sym is)
+    (record { table = at; bare = refl; about = about; is_view = view; laid = laid_none key; fits = fits })
+
+-- who knows no words
+pub knows_none : (key : Key) (v : View) (known : Option (List ℕ)) → known ≡ None
+    → (words : List ℕ) → known ≡ Some words → ∥ FitsAmong key words v ∥₁
+knows_none key v known none words some = absurd (cc)
 
 -- the first seat, from which a share was cut off
 pub dealt : (key : Key) (m s r : ℕ) (v w : View) → v ≡ moved m (idle key s) → w ≡ left_by next (part_share 1) v → s - 1 ≡ r

@@ -1,7 +1,10 @@
 -- Seats come out of a list from its end, and their views become one.
 use Rattle.std.proofs.Common.{◌≡◌, ℕ, zero, suc, ◌+◌, ◌<◌, ◌≤◌, pos, ◌+ℤ◌, List, [], ◌∷◌, ◌++◌, length, map, flat_map, get_or, take, sym}
 use Rattle.std.proofs.Common.{refl, ap, ◌∙◌, arith, subst, length-append, add-one}
+use Rattle.std.specs.Prelude.{false, ◌||◌}
 use Rattle.std.specs.List.{All}
+use Rattle.std.proofs.lemmas.List.Sums.{sum_by-cons, sum_by-append}
+use Rattle.std.proofs.lemmas.List.Elements.{All-head, All-tail}
 use Rattle.std.proofs.lemmas.Int.{ints}
 use Rattle.std.proofs.lemmas.List.{map-append, append-nil}
 use Rattle.std.proofs.lemmas.Grind.{flat_map-append}
@@ -10,7 +13,7 @@ use lib.ListN.{get_elem?}
 use Rattle.atomic_table.specs.Table.{Final, Seen}
 use Rattle.atomic_table.proofs.Lists.{at_map}
 use Rattle.frame_model.specs.declared.key.Key.{Key}
-use Rattle.frame_model.specs.declared.view.Eye.{Eye}
+use Rattle.frame_table.specs.declared.rule.Watch.{Watch}
 use Rattle.frame_model.specs.declared.view.View.{View}
 use Rattle.frame_model.specs.Block.{smalls, wholes}
 use Rattle.frame_model.specs.View.{IsIdle}
@@ -21,9 +24,10 @@ use Rattle.frame_model.proofs.Blocks.{smalls_none, wholes_none, smalls_both, who
 use Rattle.frame_model.proofs.Steps.Shared.{at-le-total}
 use Rattle.frame_table.specs.declared.rule.Origin.{Origin}
 use Rattle.frame_table.specs.declared.seats.CoreSeat.{CoreSeat}
-use Rattle.frame_table.specs.Rule.{key_from, eye_view, Holds}
+use Rattle.frame_model.specs.declared.view.Eye.{Eye}
+use Rattle.frame_table.specs.Rule.{key_from, eye_view, eye_in, Holds}
 use Rattle.frame_table.specs.Seats.{view_of}
-use Rattle.frame_table.specs.Closing.{lent_through, kept_through, IsGathered, IsClosed}
+use Rattle.frame_table.specs.Closing.{lent_through, share_through, kept_through, IsGathered, IsClosed}
 
 module _ {A : Type 0} where
   get_front : (xs : List A) (x : A) (k : ℕ) (d : A) → k < length xs → get_or (xs ++ x ∷ []) k d ≡ get_or xs k d
@@ -58,21 +62,46 @@ pub last_of : {A B : Type 0} (f : A → B) (xs ys : List A) (x : A) → xs ≡ y
     → map f xs ≡ map f ys ++ f x ∷ []
 last_of f xs ys x e = ap (map f) e ∙ map-append f ys (x ∷ [])
 
-lent_none : lent_through [] ≡ pos 0
+pub lent_none : lent_through [] ≡ pos 0
 unfolding lent_through
 lent_none = refl
 
-lent-last : (ys : List CoreSeat) (x : CoreSeat)
+pub lent-last : (ys : List CoreSeat) (x : CoreSeat)
     → lent_through (ys ++ x ∷ []) ≡ lent_through ys +ℤ (view_of x).lent
 unfolding lent_through
 lent-last [] x = omega (arith, ints)
 lent-last (y ∷ ys) x = omega (arith, ints, lent-last ys x)
 
-kept_none : kept_through [] ≡ []
+share_none : share_through [] ≡ 0
+unfolding share_through
+share_none = refl
+
+share-last : (ys : List CoreSeat) (x : CoreSeat) → share_through (ys ++ x ∷ []) ≡ share_through ys + (view_of x).share
+unfolding share_through
+share-last ys x =
+    omega (
+      arith,
+      sum_by-append (λ (s : CoreSeat). (view_of s).share) ys (x ∷ []),
+      sum_by-cons (λ (s : CoreSeat). (view_of s).share) x [],
+    )
+
+-- each seat has a share
+pub some_each : (seats : List CoreSeat) → All (λ s. 0 < (view_of s).share) seats → length seats ≤ share_through seats
+unfolding share_through
+some_each [] all = omega arith
+some_each (s ∷ seats) all =
+    omega (
+      arith,
+      sum_by-cons (λ (s : CoreSeat). (view_of s).share) s seats,
+      All-head (λ (s : CoreSeat). 0 < (view_of s).share) s seats all,
+      some_each seats (All-tail (λ (s : CoreSeat). 0 < (view_of s).share) s seats all),
+    )
+
+pub kept_none : kept_through [] ≡ []
 unfolding kept_through
 kept_none = refl
 
-kept-last : (ys : List CoreSeat) (x : CoreSeat)
+pub kept-last : (ys : List CoreSeat) (x : CoreSeat)
     → kept_through (ys ++ x ∷ []) ≡ kept_through ys ++ (view_of x).kept
 unfolding kept_through
 kept-last ys x =
@@ -90,7 +119,8 @@ wholes-last c ys x = ap (wholes c) (kept-last ys x) ∙ wholes_both c (kept_thro
 -- So much of the seats is in the view, while the others are still in a list.
 pub record IsGathering (all others : List CoreSeat) (v : View) : Type 0 where
   pub idle : IsIdle v
-  pub share : v.share + length others ≡ length all
+  pub not_ground : v.is_ground ≡ false
+  pub share : v.share + share_through others ≡ share_through all
   pub lent : v.lent +ℤ lent_through others ≡ lent_through all
   pub smalls : (x : ℕ) → smalls x v.kept + smalls x (kept_through others) ≡ smalls x (kept_through all)
   pub wholes : (c : ℕ) → wholes c v.kept + wholes c (kept_through others) ≡ wholes c (kept_through all)
@@ -104,11 +134,12 @@ joined_idle v u i = record {
   own = i.own;
 }
 
-module _ (all xs ys : List CoreSeat) (x : CoreSeat) (one : (view_of x).share ≡ 1) where
+module _ (all xs ys : List CoreSeat) (x : CoreSeat) (seated : (view_of x).is_ground ≡ false) where
   pub gather_first : all ≡ ys ++ x ∷ [] → IsIdle (view_of x) → IsGathering all ys (view_of x)
   gather_first e idle = record {
     idle = idle;
-    share = omega (arith, one, ap length e, length-append ys (x ∷ []));
+    not_ground = seated;
+    share = omega (arith, ap share_through e, share-last ys x);
     lent = omega (arith, ints, ap lent_through e, lent-last ys x);
     smalls = λ k. omega (arith, ap (λ l. smalls k (kept_through l)) e, smalls-last k ys x);
     wholes = λ c. omega (arith, ap (λ l. wholes c (kept_through l)) e, wholes-last c ys x);
@@ -118,7 +149,8 @@ module _ (all xs ys : List CoreSeat) (x : CoreSeat) (one : (view_of x).share ≡
       → IsGathering all ys (joined_by next join_idle v (view_of x))
   gather_more v g e = record {
     idle = joined_idle v (view_of x) g.idle;
-    share = omega (arith, g.share, one, ap length e, length-append ys (x ∷ []));
+    not_ground = ap (λ b. b || (view_of x).is_ground) g.not_ground ∙ seated;
+    share = omega (arith, g.share, ap share_through e, share-last ys x);
     lent = omega (arith, ints, g.lent, ap lent_through e, lent-last ys x);
     smalls = λ k. omega (
       arith,
@@ -140,29 +172,35 @@ pub gathered_all : (all others : List CoreSeat) (v : View) → IsGathering all o
     → IsGathered all v
 gathered_all all others v g e = record {
   idle = g.idle;
-  share = omega (arith, g.share, ap length e);
+  not_ground = g.not_ground;
+  share = omega (arith, g.share, ap share_through e, share_none);
   lent = omega (arith, ints, g.lent, ap lent_through e, lent_none);
   smalls = λ x. omega (arith, g.smalls x, ap (λ l. smalls x (kept_through l)) e, ap (smalls x) kept_none, smalls_none x);
   wholes = λ c. omega (arith, g.wholes c, ap (λ l. wholes c (kept_through l)) e, ap (wholes c) kept_none, wholes_none c);
 }
 
+-- the views of seats are those of their eyes
+pub views_same : (es : List Watch) → map (λ (e : Eye). e.view) (map eye_in es) ≡ map eye_view es
+views_same [] = refl
+views_same (e ∷ es) = ap (λ l. e.view ∷ l) (views_same es)
+
 -- what a closed table was
-pub closed_as : (o : Origin) (id : ℕ) (e : Eye) (words : List ℕ) (slots : List (Unit {0})) (seats : List CoreSeat)
-    → Final (Seen (Holds o) id e) words slots → IsGathered seats e.view → (key_from o).cores ≤ length seats
+pub closed_as : (o : Origin) (id : ℕ) (e : Watch) (words : List ℕ) (slots : List (Unit {0})) (seats : List CoreSeat)
+    → Final (Seen (Holds o) id e) words slots → IsGathered seats e.view → (key_from o).cores ≤ share_through seats
     → IsClosed (key_from o) seats words
 closed_as o id e words slots seats final g enough =
     let key : Key = key_from o in
     let s = final.0 in
     let vs : List View = map eye_view s.views in
     let at : get_elem? vs id ≡ some e.view = at_map eye_view s.views id e final.1.1 in
-    let fit : Fit key key.cores s.words vs = final.1.0 in
+    let fit : Fit key key.cores s.words vs = final.1.0.fits in
     record {
-      state = record { words = s.words; eyes = s.views };
+      state = record { words = s.words; eyes = map eye_in s.views };
       id = id;
-      eye = e;
+      eye = eye_in e;
       words = final.2;
-      at = final.1.1;
-      fits = fit;
+      at = at_map eye_in s.views id e final.1.1;
+      fits = subst (Fit key key.cores s.words) (sym (views_same s.views)) fit;
       gathered = g;
       share = omega (arith, fit.shares_add_up, at-le-total key key.cores s.words vs id e.view fit at (λ v. v.share), g.share, enough);
     }

@@ -22,10 +22,11 @@ use Rattle.frame_core.proofs.Apart.{apart_of}
 use Rattle.frame_model.proofs.Safe.{covers_is, holders_are}
 use Rattle.frame_model.proofs.Steps.Shared.{at-le-total, bit-le, view_of as view_at}
 use Rattle.frame_model.proofs.Steps.SeatViews.{blocks_are}
+use Rattle.frame_model.proofs.Stopping.Known.{holders_both}
 use Rattle.atomic_table.proofs.Lists.{at_map}
 use Rattle.frame_table.specs.declared.seats.CoreSeat.{CoreSeat}
 use Rattle.frame_table.specs.declared.table.FrameTable.{FrameTable}
-use Rattle.frame_table.specs.Rule.{eye_view}
+use Rattle.frame_model.specs.declared.view.Eye.{Eye}
 use Rattle.frame_table.specs.Seats.{key_at, view_of, IsIdleSeat}
 use Rattle.frame_table.specs.Closing.{kept_through, IsClosed, IsHeldIn}
 
@@ -48,12 +49,12 @@ kept_blocks t (s ∷ seats) all =
     (blocks_are (key_at t) (view_of s) is.sits.at.is_view).1
     (kept_blocks t seats (All-tail (IsIdleSeat t) s seats all)))
 
-smalls_at : (x : ℕ) (bs : List FrameBlock) (k : ℕ) (d : FrameBlock) → k < length bs
+pub smalls_at : (x : ℕ) (bs : List FrameBlock) (k : ℕ) (d : FrameBlock) → k < length bs
     → small_at x (get_or bs k d) ≤ smalls x bs
 unfolding smalls
 smalls_at x bs k d h = get_or-le-sum_by (small_at x) bs k d h
 
-wholes_at : (c : ℕ) (bs : List FrameBlock) (k : ℕ) (d : FrameBlock) → k < length bs
+pub wholes_at : (c : ℕ) (bs : List FrameBlock) (k : ℕ) (d : FrameBlock) → k < length bs
     → whole_at c (get_or bs k d) ≤ wholes c bs
 unfolding wholes
 wholes_at c bs k d h = get_or-le-sum_by (whole_at c) bs k d h
@@ -63,7 +64,7 @@ held_max : (key : Key) (ws : List ℕ) (x : ℕ)
 unfolding held_at
 held_max key ws x = refl
 
-covered_below : (b : FrameBlock) (x : ℕ) → covers b x ≡ 1 → x < b.frame + 2 ^ b.order
+pub covered_below : (b : FrameBlock) (x : ℕ) → covers b x ≡ 1 → x < b.frame + 2 ^ b.order
 unfolding covers
 covered_below b x h = grind (arith, nat_tests)
 
@@ -94,12 +95,20 @@ module _ (key : Key) (ws : List ℕ) (vs : List View) (id : ℕ) (v : View) (fit
         fit.words_in_range.huge (child_of x) (omega (arith, inside)),
       )
 
+-- no two blocks that a view keeps share a frame
+pub apart_kept : (key : Key) (shares : ℕ) (ws : List ℕ) (vs : List View) (id : ℕ) (v : View) → Fit key shares ws vs
+    → get_elem? vs id ≡ some v → IsHolding key v.kept
+apart_kept key shares ws vs id v fit at = record {
+  blocks = (view_at key shares ws vs id v fit at).kept;
+  disjoint = λ x. omega (arith, (apart_of key shares ws vs id v fit at).disjoint x, holders_both x v.own v.kept);
+}
+
 module _ (key : Key) (seats : List CoreSeat) (ws : List ℕ) (closed : IsClosed key seats ws) where
   pub kept_held : All (IsBlock key) (kept_through seats) → All (IsHeldIn key ws) (kept_through seats)
   kept_held all =
       let vs : List View = views_of closed.state in
       let v : View = closed.eye.view in
-      let at : get_elem? vs closed.id ≡ some v = at_map eye_view closed.state.eyes closed.id closed.eye closed.at in
+      let at : get_elem? vs closed.id ≡ some v = at_map (λ (e : Eye). e.view) closed.state.eyes closed.id closed.eye closed.at in
       let fit : Fit key key.cores ws vs = subst (λ us. Fit key key.cores us vs) closed.words closed.fits in
       held_with key ws vs closed.id v fit at (kept_through seats) closed.gathered.smalls closed.gathered.wholes all
 
@@ -108,7 +117,7 @@ module _ (key : Key) (seats : List CoreSeat) (ws : List ℕ) (closed : IsClosed 
   kept_apart all =
       let vs : List View = views_of closed.state in
       let v : View = closed.eye.view in
-      let at : get_elem? vs closed.id ≡ some v = at_map eye_view closed.state.eyes closed.id closed.eye closed.at in
+      let at : get_elem? vs closed.id ≡ some v = at_map (λ (e : Eye). e.view) closed.state.eyes closed.id closed.eye closed.at in
       let is = view_at key key.cores closed.state.words vs closed.id v closed.fits at in
       record {
         blocks = all;

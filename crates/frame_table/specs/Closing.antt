@@ -1,6 +1,6 @@
 -- What a closing gives.
-use Rattle.std.specs.Prelude.{◌≡◌, ℕ, ℤ, pos, ◌+ℤ◌, ◌<◌, ◌≤◌, List, [], ◌∷◌, length, true, flat_map}
-use Rattle.std.specs.List.{All}
+use Rattle.std.specs.Prelude.{◌≡◌, ℕ, ℤ, pos, ◌+ℤ◌, ◌<◌, ◌≤◌, List, [], ◌∷◌, length, false, true, flat_map}
+use Rattle.std.specs.List.{All, sum_by}
 use Rattle.frame_words.specs.declared.fault.Fault.{Fault}
 use Rattle.frame_words.specs.declared.fault.Fault.TheVariants.{MissingCores, NoMemory}
 use Rattle.frame_model.specs.declared.block.FrameBlock.{FrameBlock}
@@ -15,6 +15,7 @@ use Rattle.frame_core.specs.Image.{Contents, key_in, IsImage}
 use Rattle.frame_model.specs.Laws.{AddsUp, HoldsJust}
 use Rattle.frame_core.specs.Moves.{HasSizes}
 use Rattle.frame_model.specs.Report.{held_at}
+use Rattle.frame_table.specs.Openings.{LeavesOnceRebuilt}
 use Rattle.frame_table.specs.Seats.{view_of}
 use Rattle.frame_table.specs.declared.seats.CoreSeat.{CoreSeat}
 
@@ -23,14 +24,20 @@ unfoldable pub lent_through : List CoreSeat → ℤ
 lent_through [] = pos 0
 lent_through (s ∷ seats) = (view_of s).lent +ℤ lent_through seats
 
+-- how many shares these seats have
+unfoldable pub share_through : List CoreSeat → ℕ
+share_through seats = sum_by (λ s. (view_of s).share) seats
+
 -- all blocks that these seats keep
 unfoldable pub kept_through : List CoreSeat → List FrameBlock
 kept_through seats = flat_map (λ s. (view_of s).kept) seats
 
--- the view has the shares of all these seats, what they lent, and what they keep
+-- the view has the shares of all these seats, what they lent, and what they keep; what was held before the
+-- opening is not with it
 pub record IsGathered (seats : List CoreSeat) (v : View) : Type 0 where
   pub idle : IsIdle v
-  pub share : v.share ≡ length seats
+  pub not_ground : v.is_ground ≡ false
+  pub share : v.share ≡ share_through seats
   pub lent : v.lent ≡ lent_through seats
   pub smalls : (x : ℕ) → smalls x v.kept ≡ smalls x (kept_through seats)
   pub wholes : (c : ℕ) → wholes c v.kept ≡ wholes c (kept_through seats)
@@ -59,13 +66,15 @@ pub record TellsAll (key : Key) (seats : List CoreSeat) (words : List ℕ) : Typ
   pub just_kept : key.sealed ≡ true → lent_through seats ≡ pos 0
       → HoldsJust key words (kept_through seats)
 
--- the image of a table that was closed with the seats of all its cores
+-- the image of a table that was closed with the seats of all its cores; what they keep may be adopted once it
+-- is rebuilt
 pub record IsClosingOf (key : Key) (seats : List CoreSeat) (image : Contents) : Type 0 where
   pub sizes : HasSizes key image.geometry
   pub is_image : IsImage (key_in image) image.words
   pub enough : key.cores ≤ length seats
   pub closed : IsClosed key seats image.words
   pub tells : TellsAll key seats image.words
+  pub kept_left : LeavesOnceRebuilt image (kept_through seats)
 
 -- why a table was not closed: a seat is missing, or none is and there is not enough memory
 abbrev pub IsUnclosedFor : (cores seats : ℕ) → Fault → Type 0

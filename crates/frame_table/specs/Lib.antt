@@ -6,4 +6,5 @@ pub mod Openings
 pub mod Closing
 pub mod Stopping
 pub mod Mover
+pub mod Knowing
 pub mod Keeping

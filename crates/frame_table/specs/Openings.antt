@@ -8,10 +8,13 @@ use Rattle.frame_model.specs.declared.key.Key.{Key}
 use Rattle.frame_model.specs.declared.view.View.{View}
 use Rattle.frame_model.specs.Block.{IsBlock}
 use Rattle.frame_model.specs.Key.{key_of, IsKey}
+use Rattle.frame_model.specs.Openings.{held_blocks}
+use Rattle.frame_model.specs.Rebuilt.{IsRebuilt}
 use Rattle.frame_model.specs.View.{idle}
 use Rattle.frame_model.specs.Seats.{Cut, adopt}
 use Rattle.frame_model.specs.Without.{without, HasFrames}
-use Rattle.frame_table.specs.Seats.{key_at, id_of, view_of, Sits, IsSeat}
+use Rattle.frame_core.specs.Image.{Contents, key_in}
+use Rattle.frame_table.specs.Seats.{key_at, id_of, view_of, known_of, KnowsAll, Sits, IsSeat}
 use Rattle.frame_table.specs.declared.ground_seat.GroundSeat.{GroundSeat}
 use Rattle.frame_table.specs.declared.seats.CoreSeat.{CoreSeat}
 use Rattle.frame_table.specs.declared.table.FrameTable.{FrameTable}
@@ -24,11 +27,13 @@ unsealed_key geometry = record (key_of geometry) { sealed = false }
 abbrev pub moved : ℕ → View → View
 moved n v = record v { moves = n }
 
--- a seat as an opening gives it: idle, with one share, nothing lent and nothing kept
+-- a seat as an opening gives it: idle, with one share, nothing lent and nothing kept; where there is
+-- one core, it has all shares and knows the words
 pub record IsNew (t : FrameTable) (s : CoreSeat) : Type 0 where
   pub sits : Sits t s
   pub moves : (view_of s).moves ≤ most_cores
   pub view : view_of s ≡ moved (view_of s).moves (idle (key_at t) 1)
+  pub knows : (key_at t).cores ≡ 1 → KnowsAll (known_of s)
 
 -- the table is of this memory, and each of its cores has a seat there, in order and as an opening gives it
 pub record IsOpenedAt (key : Key) (t : FrameTable) (seats : List CoreSeat) : Type 0 where
@@ -53,6 +58,11 @@ pub record IsLeft (key : Key) (left : List FrameBlock) (b : FrameBlock) : Type 0
   pub is_block : IsBlock key b
   pub exists : b.frame + 2 ^ b.order ≤ key.frames
   pub held : HasFrames left b
+
+-- whoever rebuilds the image finds each of these blocks left, in its own form
+abbrev pub LeavesOnceRebuilt : Contents → List FrameBlock → Type 0
+LeavesOnceRebuilt image blocks = (words : List ℕ) → IsRebuilt (key_in image) image.words words
+    → All (IsLeft (unsealed_key image.geometry) (held_blocks (unsealed_key image.geometry) words)) blocks
 
 -- a block that was held before the opening is handed out
 abbrev pub adopt_block : FrameBlock → Cut

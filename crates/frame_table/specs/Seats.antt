@@ -5,7 +5,7 @@ use Rattle.atomic_table.specs.Table.{Me}
 use Rattle.atomic_table.specs.Seated.{TableId}
 use Rattle.frame_words.specs.Geometry.{child_frames, tree_frames}
 use Rattle.frame_model.specs.declared.key.Key.{Key}
-use Rattle.frame_model.specs.declared.view.Eye.{Eye}
+use Rattle.frame_table.specs.declared.rule.Watch.{Watch}
 use Rattle.frame_model.specs.declared.view.Sighting.{Sighting}
 use Rattle.frame_model.specs.declared.view.View.{View}
 use Rattle.frame_model.specs.Block.{block, IsBlock}
@@ -17,7 +17,7 @@ use Rattle.frame_model.specs.Events.{last_seen}
 use Rattle.frame_model.specs.Key.{tree_count}
 use Rattle.frame_model.specs.Words.{entry_place, tree_place, local_place}
 use Rattle.frame_words.specs.Words.{free_in, flag_in, lane_in, rest_in}
-use Rattle.frame_table.specs.Rule.{key_from}
+use Rattle.frame_table.specs.Rule.{key_from, FitsAmong}
 use Rattle.frame_table.specs.declared.block.Block.{Block}
 use Rattle.frame_table.specs.declared.seats.CoreSeat.{CoreSeat}
 use Rattle.frame_table.specs.declared.table.FrameTable.{FrameTable}
@@ -38,6 +38,18 @@ view_of s = s.seat.me.0.view
 abbrev pub reads_of : CoreSeat → ℕ → Option ℕ
 reads_of s = last_seen s.seat.me.0.read
 
+-- what the seat is known by
+abbrev pub watch_of : CoreSeat → Watch
+watch_of s = s.seat.me.0
+
+-- all words, where the seat knows them
+abbrev pub known_of : CoreSeat → Option (List ℕ)
+known_of s = s.seat.me.0.known
+
+-- the words are known
+abbrev pub KnowsAll : Option (List ℕ) → Type 0
+KnowsAll known = (words : List ℕ) × (known ≡ Some words)
+
 -- what was read of a word counts no more than its place can have
 pub record AreLaid (key : Key) (read : List Sighting) : Type 0 where
   pub entries : (c seen : ℕ) → c < key.children → last_seen read (entry_place c) ≡ Some seen
@@ -52,17 +64,18 @@ abbrev pub HasBlocksOf : Key → View → Type 0
 HasBlocksOf key v = All (IsBlock key) v.own × All (IsBlock key) v.kept
 
 -- a seat of a table, whose view is one of the memory
-pub record IsSeat (id : TableId) (key : Key) (seat : TableId) (me : Me (Unit {0}) Eye) : Type 0 where
+pub record IsSeat (id : TableId) (key : Key) (seat : TableId) (me : Me (Unit {0}) Watch) : Type 0 where
   pub table : seat ≡ id
   pub bare : me.1 ≡ []
   pub about : me.0.view.about ≡ Some key
   pub is_view : ∥ IsViewOf key me.0.view ∥₁
   pub laid : AreLaid key me.0.read
+  pub fits : (words : List ℕ) → me.0.known ≡ Some words → ∥ FitsAmong key words me.0.view ∥₁
 
 -- the seat of a core at this table; what was held before the opening is not with it
 pub record Sits (t : FrameTable) (s : CoreSeat) : Type 0 where
   pub at : IsSeat (id_of t) (key_at t) s.seat.table_id s.seat.me
-  pub one : (view_of s).share ≡ 1
+  pub some : 0 < (view_of s).share
   pub not_ground : (view_of s).is_ground ≡ false
 
 -- the seat of a core at this table, with nothing in flight

@@ -6,7 +6,7 @@ use Rattle.frame_model.specs.declared.block.FrameBlock.{FrameBlock}
 use Rattle.frame_model.specs.declared.key.Key.{Key}
 use Rattle.frame_model.specs.declared.view.Eye.{Eye}
 use Rattle.frame_model.specs.Events.{State, views_of, Has, Fits}
-use Rattle.frame_model.specs.Holding.{holders}
+use Rattle.frame_model.specs.Holding.{holders, IsHolding}
 use Rattle.frame_core.specs.Image.{Contents, key_in, IsImage}
 use Rattle.frame_model.specs.Key.{frame_count, is_boot_frame}
 use Rattle.frame_model.specs.Laws.{holding_of}
@@ -14,6 +14,7 @@ use Rattle.frame_core.specs.Moves.{HasSizes}
 use Rattle.frame_model.specs.Report.{held_at}
 use Rattle.frame_model.specs.Words.{word_count}
 use Rattle.frame_table.specs.Closing.{IsHeldIn}
+use Rattle.frame_table.specs.Openings.{LeavesOnceRebuilt}
 use Rattle.frame_table.specs.Seats.{view_of}
 use Rattle.frame_table.specs.declared.seats.CoreSeat.{CoreSeat}
 
@@ -44,5 +45,7 @@ pub record IsImageAtStop (key : Key) (last : CoreSeat) (image : Contents) : Type
   pub at : Has state id eye
   pub seat : eye.view ≡ view_of last
   pub kept_held : All (IsHeldIn key image.words) (view_of last).kept
+  pub kept_apart : IsHolding key (view_of last).kept
+  pub kept_left : LeavesOnceRebuilt image (view_of last).kept
   pub held : HoldsFramesOf key image.words (holding_of key (views_of state))
   pub boot : key.sealed ≡ true → HoldsBootFrames key image.words

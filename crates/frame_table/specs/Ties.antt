@@ -1,6 +1,5 @@
 -- What ties a mover to its seat and its table, and its laws.
-use Rattle.std.proofs.Common.{◌≡◌, ℕ, List, [], arith, refl}
-use Rattle.std.specs.Prelude.{Option, None, Some}
+use Rattle.std.proofs.Common.{◌≡◌, ℕ, [], arith, refl}
 use Rattle.atomic_table.specs.Seated.{TableId}
 use Rattle.frame_model.specs.Key.{AreSizes}
 use Rattle.frame_model.specs.Steps.{next}
@@ -13,10 +12,6 @@ use Rattle.frame_table.specs.declared.table.FrameTable.{FrameTable}
 -- the name of the seat that steps, and the table
 abbrev pub Tied : Type 0
 Tied = ℕ × TableId
-
--- nobody knows the words of a table that others step on
-pub no_words : {P : Type 0} (words : List ℕ) → ◌≡◌ {A = Option (List ℕ)} None (Some words) → P
-no_words words e = absurd (cc)
 
 -- no count stops
 abbrev pub is_exact : ℕ → Type 0

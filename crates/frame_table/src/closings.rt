@@ -6,24 +6,36 @@ ghost use Rattle.std.specs.Slots.{slots_items, slots_len, IsFull};
 ghost use Rattle.frame_table.specs.Seats.{key_at, id_of, IsSeat, IsIdleSeat};
 ghost use Rattle.frame_table.specs.Closing.{IsGathered, IsClosingOf, IsUnclosedFor};
 
+use crate::rule::Watch;
 use crate::seated::Seated;
 use crate::seats::CoreSeat;
 use crate::steps::join_seat;
 use crate::table::FrameTable;
 use atomic_table::{Closed, Seat};
 use frame_core::Image;
-use frame_model::{Eye, every_closing_adds_up};
+use frame_model::every_closing_adds_up;
 use frame_words::Fault;
 use std::alloc::Global;
+use std::fmt::{self, Debug, Formatter, Write};
 use std::marker::Brand;
+use thiserror::Error;
 
 /// A table that was not closed. It and what holds its seats are as they were.
-#[derive(Drop)]
+#[derive(Drop, Error)]
+#[error("the table was not closed: {fault}")]
 pub struct TableFault<S> {
     /// `MissingCores` or `NoMemory`.
     pub fault: Fault,
     pub table: FrameTable,
     pub seats: Vec<S>,
+}
+
+impl<S> Debug for TableFault<S> {
+    fn fmt<W: Write>(&self, f: &mut Formatter<W>) -> fmt::Result {
+        f.debug_struct("TableFault")
+            .field("fault", &self.fault)
+            .finish_non_exhaustive()
+    }
 }
 
 /// The words of a table, once the seat of every core is handed in, idle. All that the seats keep is
@@ -62,7 +74,7 @@ pub fn close_table<S: Seated + Drop>(
 }
 
 // All seats in one.
-fn gather<S: Seated + Drop>(table: &FrameTable, mut seats: Vec<S>) -> Seat<(), Eye>
+fn gather<S: Seated + Drop>(table: &FrameTable, mut seats: Vec<S>) -> Seat<(), Watch>
     requires some { 0 < vec_len seats }
     requires idle { All (λ s. IsIdleSeat table.now (S.seat_of s)) seats.items }
     ensures seat { IsSeat (id_of table.now) (key_at table.now) result.table_id result.me }

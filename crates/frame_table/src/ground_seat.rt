@@ -8,16 +8,17 @@ ghost use Rattle.frame_table.specs.Openings.{ground_view, adopt_block, IsGround,
 ghost use Rattle.frame_table.specs.Seats.{key_at, block_in, IsOut};
 
 use crate::block::Block;
+use crate::rule::Watch;
 use crate::steps::cut_seat;
 use crate::table::FrameTable;
 use atomic_table::Seat;
-use frame_core::{Eye, FrameBlock};
+use frame_core::FrameBlock;
 use std::marker::Brand;
 
 /// What was held before the opening. It has no bytes.
 #[derive(Drop)]
 pub struct GroundSeat {
-    pub(crate) seat: Seat<(), Eye>,
+    pub(crate) seat: Seat<(), Watch>,
 }
 
 impl GroundSeat {

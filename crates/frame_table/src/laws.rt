@@ -2,7 +2,7 @@
 
 ghost use Rattle.std.specs.Prelude.{◌≡◌, ◌≢◌, ℕ, Some, false, map};
 ghost use Rattle.atomic_table.specs.Table.{State};
-ghost use Rattle.frame_model.specs.declared.view.Eye.{Eye};
+ghost use Rattle.frame_table.specs.declared.rule.Watch.{Watch};
 ghost use Rattle.frame_model.specs.Laws.{IsSafe};
 ghost use Rattle.frame_core.specs.Mover.{Tries};
 ghost use Rattle.frame_model.specs.Steps.{Kind, place, next};
@@ -14,12 +14,13 @@ use crate::shared::SharedMoves;
 use frame_core::Moves;
 use frame_model::every_fit_is_safe;
 
-/// Over shared words no exchange is lost at will, nobody ever knows that they step alone, and every
-/// count is exact. One that was lost found another word than
+/// Over shared words no exchange is lost at will, who steps alone has all shares, and every count is
+/// exact. One that was lost found another word than
 /// was seen, which is known then.
 pub fn shared_words_are_honest<'a>()
     ensures never_at_will { (m : SharedMoves) → ¬ (⟦<SharedMoves<'a> as Moves>⟧.at m).loses_at_will }
-    ensures never_alone { (m : SharedMoves) → ¬ (⟦<SharedMoves<'a> as Moves>⟧.at m).is_alone }
+    ensures alone { (m : SharedMoves) → (⟦<SharedMoves<'a> as Moves>⟧.at m).is_alone
+        → (⟦<SharedMoves<'a> as Moves>⟧.at m).view.share ≡ (⟦<SharedMoves<'a> as Moves>⟧.at m).key.cores }
     ensures exact { (n : ℕ) → ⟦<SharedMoves<'a> as Moves>⟧.is_exact n }
     ensures lost { (m n : SharedMoves) (kind : Kind) (seen : ℕ)
         → Tries next kind seen false (⟦<SharedMoves<'a> as Moves>⟧.at m) (⟦<SharedMoves<'a> as Moves>⟧.at n)
@@ -31,7 +32,7 @@ pub fn shared_words_are_honest<'a>()
 /// flight, kept or handed out, is aligned, lies inside memory and never overlaps, and no counter
 /// promises more frames than are free.
 pub fn shared_words_are_safe()
-    ensures { (o : Origin) (s : State (Unit {0}) Eye) → Holds o s
+    ensures { (o : Origin) (s : State (Unit {0}) Watch) → Holds o s
         → IsSafe (key_from o) s.words (map eye_view s.views) }
 {
     every_fit_is_safe();

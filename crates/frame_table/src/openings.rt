@@ -11,17 +11,17 @@ ghost use Rattle.frame_model.specs.Seats.{left_by, part_share, part_ground};
 ghost use Rattle.frame_model.specs.Rebuilt.{IsRebuilt};
 ghost use Rattle.frame_model.specs.Openings.{held_blocks, IsSealedOpening};
 ghost use Rattle.frame_table.specs.Rule.{key_from, first_view};
-ghost use Rattle.frame_table.specs.Seats.{key_at, id_of, view_of, Sits, IsSeat};
+ghost use Rattle.frame_table.specs.Seats.{key_at, id_of, view_of, KnowsAll, Sits, IsSeat};
 ghost use Rattle.frame_table.specs.Openings.{unsealed_key, moved, ground_view};
 ghost use Rattle.frame_table.specs.Openings.{IsNew, IsOpenedAt, IsGround};
 
 use crate::ground_seat::GroundSeat;
-use crate::rule::Origin;
+use crate::rule::{Origin, Watch};
 use crate::seats::CoreSeat;
 use crate::steps::cut_seat;
 use crate::table::FrameTable;
 use atomic_table::{Seat, Table};
-use frame_core::{Eye, FrameBlock, Image};
+use frame_core::{FrameBlock, Image};
 use frame_words::{Fault, Geometry};
 use std::alloc::Global;
 use std::marker::Brand;
@@ -117,7 +117,7 @@ fn open_words(
     alloc: Global,
     image: &Image,
     origin: Origin,
-) -> Result<(FrameTable, Seat<(), Eye>), Fault>
+) -> Result<(FrameTable, Seat<(), Watch>), Fault>
     requires origin { origin.image.value ≡ image.now }
     requires fits { Fit (key_from origin) (key_from origin).cores image.now.words
         (first_view origin ∷ []) }
@@ -125,6 +125,7 @@ fn open_words(
     ensures key { IfOk result (λ r. key_at r.0 ≡ key_from origin) }
     ensures seat { IfOk result (λ r. IsSeat (id_of r.0) (key_at r.0) r.1.table_id r.1.me) }
     ensures view { IfOk result (λ r. r.1.me.0.view ≡ first_view origin) }
+    ensures knows { IfOk result (λ r. KnowsAll r.1.me.0.known) }
     ensures err { IfErr result (λ e. e ≡ Fault.NoMemory) }
 {
     let Ok((grid, seat)) = Table::of_words(alloc, image.words(), &origin) else {
@@ -134,10 +135,11 @@ fn open_words(
 }
 
 // A seat for each core, from the one seat.
-fn deal(table: &FrameTable, mut seat: Seat<(), Eye>, mut seats: Vec<CoreSeat>) -> Vec<CoreSeat>
+fn deal(table: &FrameTable, mut seat: Seat<(), Watch>, mut seats: Vec<CoreSeat>) -> Vec<CoreSeat>
     requires seat { IsSeat (id_of table.now) (key_at table.now) seat.table_id seat.me }
     requires view { (first : ℕ) × ((first ≤ 1)
         × (seat.me.0.view ≡ moved first (idle (key_at table.now) (key_at table.now).cores))) }
+    requires knows { KnowsAll seat.me.0.known }
     requires room { (seats.items ≡ []) × ((key_at table.now).cores ≤ vec_capacity seats) }
     ensures count { vec_len result ≡ (key_at table.now).cores }
     ensures new { All (IsNew table.now) result.items }
@@ -149,7 +151,7 @@ fn deal(table: &FrameTable, mut seat: Seat<(), Eye>, mut seats: Vec<CoreSeat>) -
     seats
 }
 
-fn part_share_off(table: &FrameTable, seat: &mut Seat<(), Eye>) -> CoreSeat
+pub(crate) fn part_share_off(table: &FrameTable, seat: &mut Seat<(), Watch>) -> CoreSeat
     requires seat { IsSeat (id_of table.now) (key_at table.now) seat.old.table_id seat.old.me }
     requires many { 1 < seat.old.me.0.view.share }
     ensures seat { IsSeat (id_of table.now) (key_at table.now) seat.new.table_id seat.new.me }
@@ -161,12 +163,13 @@ fn part_share_off(table: &FrameTable, seat: &mut Seat<(), Eye>) -> CoreSeat
     CoreSeat { seat }
 }
 
-fn part_ground_off(table: &FrameTable, seat: &mut Seat<(), Eye>) -> GroundSeat
+fn part_ground_off(table: &FrameTable, seat: &mut Seat<(), Watch>) -> GroundSeat
     requires seat { IsSeat (id_of table.now) (key_at table.now) seat.old.table_id seat.old.me }
     requires share { 0 < seat.old.me.0.view.share }
     requires holds { seat.old.me.0.view.is_ground ≡ true }
     ensures seat { IsSeat (id_of table.now) (key_at table.now) seat.new.table_id seat.new.me }
     ensures view { seat.new.me.0.view ≡ left_by next part_ground seat.old.me.0.view }
+    ensures knows { seat.new.me.0.known ≡ seat.old.me.0.known }
     ensures held { IsGround table.now result
         × (ground_view result ≡ ground_with (key_at table.now) seat.old.me.0.view.kept) }
 {

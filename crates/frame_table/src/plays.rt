@@ -1,7 +1,7 @@
 //! What each atomic operation on the table tells of the seat that steps.
 
+use crate::rule::Watch;
 use atomic_table::{Join, Play, Split};
-use frame_core::Eye;
 use std::marker::{Brand, PhantomData};
 
 /// Which kind of step on a word it is. Each call picks it.
@@ -45,7 +45,7 @@ impl Joining for Brand {
 
 pub struct Look;
 
-impl Play<(), Eye> for Look {
+impl Play<(), Watch> for Look {
     ghost use Rattle.frame_table.specs.Rule.{Looks};
 
     ghost then = { Looks };
@@ -56,7 +56,7 @@ pub struct Exchange<P> {
     of: PhantomData<P>,
 }
 
-impl<P: Stepping> Play<(), Eye> for Exchange<P> {
+impl<P: Stepping> Play<(), Watch> for Exchange<P> {
     ghost use Rattle.frame_table.specs.Rule.{IsExchangedAs};
 
     ghost then = { IsExchangedAs P.kind };
@@ -67,7 +67,7 @@ pub struct Change<P> {
     of: PhantomData<P>,
 }
 
-impl<P: Stepping> Play<(), Eye> for Change<P> {
+impl<P: Stepping> Play<(), Watch> for Change<P> {
     ghost use Rattle.frame_table.specs.Rule.{IsChangedAs};
 
     ghost then = { IsChangedAs P.kind };
@@ -77,7 +77,7 @@ pub struct CutIn<P> {
     of: PhantomData<P>,
 }
 
-impl<P: Cutting> Split<Eye> for CutIn<P> {
+impl<P: Cutting> Split<Watch> for CutIn<P> {
     ghost use Rattle.frame_table.specs.Rule.{left_eye, right_eye};
 
     ghost left = { left_eye P.cut };
@@ -89,7 +89,7 @@ pub struct TakeIn<P> {
     of: PhantomData<P>,
 }
 
-impl<P: Joining> Join<Eye> for TakeIn<P> {
+impl<P: Joining> Join<Watch> for TakeIn<P> {
     ghost use Rattle.frame_table.specs.Rule.{both_eyes, nobody};
 
     ghost both = { both_eyes P.join };

@@ -1,7 +1,8 @@
 //! The rule of the shared table: between any two steps, its words and the views of all seats fit.
 
 use atomic_table::TableRule;
-use frame_core::{Eye, Image};
+use frame_core::{Image, Sighting, View};
+use std::collections::LinkedList;
 use std::snapshot::Snapshot;
 
 /// What a table was opened with.
@@ -13,10 +14,20 @@ pub struct Origin {
     pub(crate) sealed: bool,
 }
 
-/// The words and the views fit.
+/// What a seat is known by: its view, what it has read, and all words as its last own step left them.
+// No value of it is made: it stands in contracts alone.
+pub struct Watch {
+    pub view: View,
+    /// The latest first.
+    pub read: LinkedList<Sighting>,
+    /// None where it took in another seat since, or parted a share off.
+    pub known: Option<LinkedList<u64>>,
+}
+
+/// The words and the views fit, and who has all shares and knows words knows the right ones.
 pub struct FitRule;
 
-impl TableRule<(), Eye, Origin> for FitRule {
+impl TableRule<(), Watch, Origin> for FitRule {
     ghost use Rattle.frame_table.specs.Rule.{Holds, first_eye};
 
     ghost holds = { Holds };

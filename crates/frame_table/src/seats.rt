@@ -1,10 +1,10 @@
 //! The seat of a core.
 
+use crate::rule::Watch;
 use atomic_table::Seat;
-use frame_core::Eye;
 
 /// What a core steps through. It has no bytes.
 #[derive(Drop)]
 pub struct CoreSeat {
-    pub(crate) seat: Seat<(), Eye>,
+    pub(crate) seat: Seat<(), Watch>,
 }

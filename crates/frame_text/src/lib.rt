@@ -15,6 +15,7 @@ mod record_writer;
 mod watched;
 
 pub use devices::{MOST_BYTES, read_all, write_out};
+pub use fields::field;
 pub use image_reader::{image_of, read_image};
 pub use image_writer::{every_image_reads_back, image_text, write_image};
 pub use numbers::number_below;

@@ -5,8 +5,8 @@ use Rattle.std.proofs.lemmas.Nat.{pow-add}
 use Rattle.std.proofs.Math.Nat.{one-le-pow, mul_assoc, add_comm, add-mul-mod_self_right}
 use Rattle.core_frames.specs.declared.shared.allocator.Allocator.{Allocator}
 use Rattle.frame_zones.specs.Spans.{most_zone_frames}
-use Rattle.frame_zones.specs.Zones.{first_frame_of, IsOutIn}
-use Rattle.frame_zones.specs.Laws.{LiesInZone, AreApart}
+use Rattle.frame_zones.specs.Zones.{first_frame_of, IsOutOfItsZone}
+use Rattle.frame_zones.specs.Laws.{LiesInZone, AreFramesApart}
 use Rattle.frame_zones.specs.declared.zones.Zones.{Zones}
 use Rattle.frame_zones.specs.declared.block.ZoneBlock.{ZoneBlock}
 
@@ -33,7 +33,7 @@ stays_aligned first frame order few from at =
     ∙ add-mul-mod_self_right frame (q * 2 ^ (9 - order)) (2 ^ order)
     ∙ at
 
-pub lies_inside : (zs : Zones) (b : ZoneBlock) → IsOutIn zs b → LiesInZone zs b
+pub lies_inside : (zs : Zones) (b : ZoneBlock) → IsOutOfItsZone zs b → LiesInZone zs b
 lies_inside zs b out =
     let a : Allocator = some_item zs.zones.items (omega (arith, out.zone)) in
     record {
@@ -44,7 +44,7 @@ lies_inside zs b out =
     }
 
 -- blocks of different zones
-pub are_apart : (zs : Zones) (b c : ZoneBlock) → IsOutIn zs b → IsOutIn zs c → b.zone ≢ c.zone → AreApart zs b c
+pub are_apart : (zs : Zones) (b c : ZoneBlock) → IsOutOfItsZone zs b → IsOutOfItsZone zs c → b.zone ≢ c.zone → AreFramesApart zs b c
 are_apart zs b c one two other x both =
     let a : Allocator = some_item zs.zones.items (omega (arith, one.zone)) in
     elim (cases_order b.zone c.zone) as (λ _. ⊥) [
@@ -56,7 +56,7 @@ are_apart zs b c one two other x both =
     ]
 
 -- the number of a block's first frame is one of all frames
-pub fits_frame : (zs : Zones) (b : ZoneBlock) → IsOutIn zs b → first_frame_of zs b.zone + b.block.frame < most_zone_frames
+pub fits_frame : (zs : Zones) (b : ZoneBlock) → IsOutOfItsZone zs b → first_frame_of zs b.zone + b.block.frame < most_zone_frames
 fits_frame zs b out =
     let a : Allocator = some_item zs.zones.items (omega (arith, out.zone)) in
     let some : 1 ≤ 2 ^ b.block.order = one-le-pow b.block.order 2 (omega arith) in

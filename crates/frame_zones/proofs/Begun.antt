@@ -9,7 +9,7 @@ use Rattle.core_frames.specs.Cores.{memory_of, IsNewCore, IsOpened}
 use Rattle.frame_zones.specs.Sizes.{AreLaidOut, AreSized, HaveCores}
 use Rattle.frame_zones.specs.Spans.{Place, MayComeAfter, MayBeZones, HoldsLawful}
 use Rattle.frame_zones.specs.declared.spans.Span.{Span}
-use Rattle.frame_zones.specs.Openings.{AreNewCoresIn, IsLonger, IsAt, AreAt, AreDealt, AreOpened}
+use Rattle.frame_zones.specs.Openings.{AreNewCoresIn, HaveHomes, IsLonger, IsAt, AreAt, AreDealt, AreOpened}
 use Rattle.frame_zones.specs.Zones.{zone_count}
 use Rattle.frame_zones.specs.declared.zones.Zones.{Zones}
 use Rattle.frame_zones.specs.declared.zones.ZoneCore.{ZoneCore}
@@ -26,6 +26,7 @@ pub record IsOpening (total cores : ℕ) (places : List Place) (zones : List All
   pub count : length firsts ≡ length zones
   pub as_many : length all ≡ cores
   pub homes : (k : ℕ) (c : ZoneCore) → k < length all → (slice_index_or all k c).home < total
+  pub even : HaveHomes cores total all
   pub each : (k : ℕ) (c : ZoneCore) → k < length all → AreNewCoresIn zones (slice_index_or all k c)
 
 -- an item of a list with one more at its end
@@ -74,6 +75,9 @@ opening_one total cores places zones firsts all new p a parts was opened is fewe
   homes = λ k c within.
       let here = subst (λ n. k < n) dealt.count within in
       subst (λ h. h < total) (sym (dealt.each k c (some_of parts (omega (arith, here, same))) here).home) (was.homes k c here);
+  even = λ k c within.
+      let here = subst (λ n. k < n) dealt.count within in
+      (dealt.each k c (some_of parts (omega (arith, here, same))) here).home ∙ was.even k c here;
   each = λ k c within.
       let here = subst (λ n. k < n) dealt.count within in
       let old : ZoneCore = slice_index_or all k c in
@@ -136,6 +140,7 @@ opening_all zs total cores places all may was whole count many = record {
   as_many = many;
   are_at = was.are_at;
   count = was.as_many;
+  homes = subst (λ n. HaveHomes cores n all) (sym whole) was.even;
   each = λ k c within.
       let new : AreNewCoresIn zs.zones.items (slice_index_or all k c) = was.each k c within in
       record {

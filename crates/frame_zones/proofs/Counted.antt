@@ -33,9 +33,9 @@ pub record Counted (count : Allocator → Core → ℕ) (zs : Zones) (z n : ℕ)
 -- what is counted of a zone's core once it was read and written is counted in that zone
 pub counted_here : (count : Allocator → Core → ℕ) (zs : Zones) (c : ZoneCore) (z n : ℕ) (b : Allocator) (x y : Core)
     → AreCoresOf zs c → z < zone_count zs → b ≡ zone_at zs z b → x ≡ core_at c z x → n ≡ count b y
-    → IsCountIn count zs z (record { cores = with_item c.cores z y; home = c.home }) n
+    → IsCountIn count zs z (record c { cores = with_item c.cores z y }) n
 counted_here count zs c z n b x y are within b-is x-is counted = λ a other.
-    at_any_zone (λ e _ w. n ≡ count e w) zs c (record { cores = with_item c.cores z y; home = c.home }) z b a x y other
+    at_any_zone (λ e _ w. n ≡ count e w) zs c (record c { cores = with_item c.cores z y }) z b a x y other
     within are.parts.count b-is x-is refl counted
 
 -- a sum with its last term

@@ -59,7 +59,7 @@ stay_cores zs c d z a x y are within a-is x-is is home stays =
           (at_any_zone (λ f g h. StaysCoreOf f g h) zs c d z a b x y e within are.parts.count a-is x-is is stays)
       | inr other ↦ subst (λ (g : Core). StaysCoreOf (zone_at zs k b) (core_at c k e) g)
           (sym (others_stay zs c d z y is k e k-within other))
-          (record { is_core = are.parts.each k b e k-within; same_number = refl })
+          (record { is_core = are.parts.each k b e k-within; same_number = refl; stays_alone = λ alone. alone })
     ] in
     record {
       are_cores = record {

@@ -5,7 +5,7 @@ use Rattle.std.proofs.lemmas.List.{get_or_append_left, get_or_push, length_push,
 use Rattle.core_frames.specs.declared.shared.allocator.Allocator.{Allocator}
 use Rattle.core_frames.specs.declared.shared.survivors.Survivors.{Survivors}
 use Rattle.core_frames.specs.Left.{left_blocks, IsSurvivorsOf}
-use Rattle.frame_zones.specs.Reopening.{held_at, AreLeftOf, AreSurvivorsOf, AreHeldAt}
+use Rattle.frame_zones.specs.Reopening.{held_in_image, AreLeftOf, AreSurvivorsOf, AreHeldAt}
 use Rattle.frame_zones.specs.Zones.{zone_count, zone_at}
 use Rattle.frame_zones.specs.declared.image.ZoneImage.{ZoneImage}
 use Rattle.frame_zones.specs.declared.zones.Zones.{Zones}
@@ -23,9 +23,9 @@ left_one zones left a s was here = record {
 
 pub held_one : (n : ℕ) (images : List ZoneImage) (left : List Survivors) (i : ZoneImage) (s : Survivors)
     → length left ≡ n → n < length images → i ≡ slice_index_or images n i → AreHeldAt n images left
-    → left_blocks s ≡ held_at i → AreHeldAt (n + 1) images (left ++ s ∷ [])
+    → left_blocks s ≡ held_in_image i → AreHeldAt (n + 1) images (left ++ s ∷ [])
 held_one n images left i s count within is was here z j t below =
-    elim (cases_lt z n) as (λ _. left_blocks (slice_index_or (left ++ s ∷ []) z t) ≡ held_at (slice_index_or images z j)) [
+    elim (cases_lt z n) as (λ _. left_blocks (slice_index_or (left ++ s ∷ []) z t) ≡ held_in_image (slice_index_or images z j)) [
       | inl less ↦
           ap (λ (e : Survivors). left_blocks e) (get_or_append_left left (s ∷ []) t z (subst (λ m. z < m) (sym count) less))
           ∙ was z j t less
@@ -33,7 +33,7 @@ held_one n images left i s count within is was here z j t below =
           let at : n ≡ z = omega (arith, past, below) in
           ap (λ (e : Survivors). left_blocks e) (get_or_push left s t z (count ∙ at))
           ∙ here
-          ∙ ap (λ (e : ZoneImage). held_at e)
+          ∙ ap (λ (e : ZoneImage). held_in_image e)
           (is ∙ get_or_default images n i j within ∙ ap (λ m. slice_index_or images m j) at)
     ]
 

@@ -9,9 +9,10 @@ use Rattle.core_frames.specs.Cores.{lent_by, losses_by, IsOutOf}
 use Rattle.core_frames.specs.Uses.{HasTaken, HasMovedForEach, IsRefusedFor}
 use Rattle.frame_zones.specs.Faults.{is_contended}
 use Rattle.frame_zones.specs.Zones.{zone_count, zone_at, core_at, InEach, AreCoresOf, StayCoresOf}
-use Rattle.frame_zones.specs.Uses.{OthersStay, KeepsAll, LendsAsMany, MovesWithin, LosesNone, LosesIn, TakesIn, AreRefusedFor, TakesAmong, HadNone}
+use Rattle.frame_zones.specs.Uses.{OthersStay, KeepsAll, LendsSame, MovesWithin, LosesNothing, LosesIn, TakesIn, AreRefusedFor, TakesAmong, HadNone}
 use Rattle.frame_zones.specs.declared.zones.Zones.{Zones}
 use Rattle.frame_zones.specs.declared.zones.ZoneCore.{ZoneCore}
+use Rattle.frame_zones.specs.declared.zones.Stay.{Stay}
 use Rattle.frame_zones.specs.declared.block.ZoneBlock.{ZoneBlock}
 
 pub stay_on : (zs : Zones) (c d e : ZoneCore) → StayCoresOf zs c d → StayCoresOf zs d e → StayCoresOf zs c e
@@ -21,11 +22,43 @@ stay_on zs c d e one two = record {
   same_numbers = λ z a x within. two.same_numbers z a x within ∙ one.same_numbers z a x within;
 }
 
+-- a core whose takes begin elsewhere stays one of all zones
+pub stay_there : (zs : Zones) (c d : ZoneCore) (stays : List Stay) → StayCoresOf zs c d
+    → StayCoresOf zs c (record d { stays = stays })
+stay_there zs c d stays stay = record {
+  are_cores = record {
+    parts = record { count = stay.are_cores.parts.count; each = stay.are_cores.parts.each };
+    home = stay.are_cores.home;
+  };
+  same_home = stay.same_home;
+  same_numbers = stay.same_numbers;
+}
+
 pub stay_at_all : (zs : Zones) (c : ZoneCore) → AreCoresOf zs c → StayCoresOf zs c c
 stay_at_all zs c are = record {
   are_cores = are;
   same_home = refl;
   same_numbers = λ z a x within. refl;
+}
+
+-- wherever takes begin, it is a core of all zones, and nothing was done yet
+pub are_there : (zs : Zones) (c : ZoneCore) (stays : List Stay) → AreCoresOf zs c → AreCoresOf zs (record c { stays = stays })
+are_there zs c stays are = record {
+  parts = record { count = are.parts.count; each = are.parts.each };
+  home = are.home;
+}
+
+pub none_there : (zs : Zones) (Seen : ℕ → Type 0) (n : ℕ) (c : ZoneCore) (stays : List Stay) → AreCoresOf zs c
+    → ((z : ℕ) → ¬ Seen z) → HadNone zs Seen n false c (record c { stays = stays })
+none_there zs Seen n c stays are none = record {
+  stay = stay_there zs c c stays (stay_at_all zs c are);
+  kept = λ z a x within. refl;
+  lent = λ z a x within. refl;
+  moves = λ z a x within. omega arith;
+  seen = λ z a x is within. absurd (none z is);
+  calm = λ e z a x within. refl;
+  missed = λ e. absurd (false≢true e);
+  unseen = λ z x within not. refl;
 }
 
 pub none_yet : (zs : Zones) (Seen : ℕ → Type 0) (n : ℕ) (c : ZoneCore) → AreCoresOf zs c
@@ -118,7 +151,7 @@ one_more_none zs Seen Now n contended fault z c d e few within was stays step fr
       stay = stay_on zs c d e was.stay stays;
       kept = λ k a x k-within. one_step KeepsAll zs z c d e alone step.others (λ b y. step.kept y) k a x k-within
           (λ _. was.kept k a x k-within);
-      lent = λ k a x k-within. one_step LendsAsMany zs z c d e alone step.others (λ b y. (step.err b y).1) k a x k-within
+      lent = λ k a x k-within. one_step LendsSame zs z c d e alone step.others (λ b y. (step.err b y).1) k a x k-within
           (λ _. was.lent k a x k-within);
       moves = round_moves zs Seen n contended (Err fault) z c d e within was step fresh;
       seen = λ k a x is k-within. one_step (λ b. HasMovedForEach b n) zs z c d e alone step.others
@@ -127,7 +160,7 @@ one_more_none zs Seen Now n contended fault z c d e few within was stays step fr
             | inl before ↦ was.seen k a x before k-within
             | inr same ↦ absurd (other same)
           ]);
-      calm = λ is k a x k-within. one_step LosesNone zs z c d e alone step.others
+      calm = λ is k a x k-within. one_step LosesNothing zs z c d e alone step.others
           (λ b y. lost_none _ n _ _ fault few (step.err b y).0 (or_right contended (is_contended fault) is)) k a x k-within
           (λ _. was.calm (or_left contended (is_contended fault) is) k a x k-within);
       missed = λ is. elim (or_cases contended (is_contended fault) is) as (λ _. (k : ℕ) × (k < zone_count zs) × LosesIn c e k) [
@@ -197,6 +230,16 @@ round_taken zs Seen n contended b z c d e within was step fresh =
       };
       err = tt;
     }
+
+-- and what was taken is taken wherever takes begin from then on
+pub taken_there : (zs : Zones) (n : ℕ) (b : ZoneBlock) (c d : ZoneCore) (stays : List Stay)
+    → TakesAmong zs n (Ok b) c d → TakesAmong zs n (Ok b) c (record d { stays = stays })
+taken_there zs n b c d stays took = record {
+  kept = took.kept;
+  moves = took.moves;
+  ok = record { is_out = took.ok.is_out; here = took.ok.here; others = took.ok.others };
+  err = tt;
+}
 
 -- each zone was seen, and none had a block
 pub round_ends : (zs : Zones) (Seen : ℕ → Type 0) (n : ℕ) (contended : Bool) (fault : TakeFault) (c d : ZoneCore)

@@ -1,7 +1,7 @@
 -- Which frames blocks of all zones have.
-use Rattle.std.specs.Prelude.{◌≡◌, ℕ, ◌+◌, ◌%◌, ◌^◌, ◌<◌, ◌≤◌, [], Some}
+use Rattle.std.specs.Prelude.{◌≡◌, ℕ, ◌+◌, ◌%◌, ◌^◌, ◌<◌, ◌≤◌, [], Some, None}
 use Rattle.frame_model.specs.View.{holder}
-use Rattle.frame_model.specs.Events.{eye}
+use Rattle.frame_table.specs.Rule.{watch}
 use Rattle.frame_table.specs.Seats.{block_in}
 use Rattle.core_frames.specs.declared.shared.allocator.Allocator.{Allocator}
 use Rattle.core_frames.specs.Cores.{memory_of, IsOutOf}
@@ -18,7 +18,7 @@ HasFrame zs b x = (first_frame_in zs b ≤ x) × (x < first_frame_in zs b + 2 ^ 
 pub record OwnsInZone (zs : Zones) (b : ZoneBlock) : Type 0 where
   pub is_out : (a : Allocator) → IsOutOf (zone_at zs b.zone a) b.block
   pub owns : (a : Allocator) → b.block.seat.me
-      ≡ (eye (holder (Some (memory_of (zone_at zs b.zone a))) (block_in b.block)) [], [])
+      ≡ (watch (holder (Some (memory_of (zone_at zs b.zone a))) (block_in b.block)) [] None, [])
 
 -- the block lies within the frames of the zone that it names
 pub record LiesInZone (zs : Zones) (b : ZoneBlock) : Type 0 where
@@ -28,5 +28,5 @@ pub record LiesInZone (zs : Zones) (b : ZoneBlock) : Type 0 where
   pub aligned : first_frame_in zs b % 2 ^ (block_in b.block).order ≡ 0
 
 -- no frame lies in both
-abbrev pub AreApart : Zones → ZoneBlock → ZoneBlock → Type 0
-AreApart zs b c = (x : ℕ) → ¬ (HasFrame zs b x × HasFrame zs c x)
+abbrev pub AreFramesApart : Zones → ZoneBlock → ZoneBlock → Type 0
+AreFramesApart zs b c = (x : ℕ) → ¬ (HasFrame zs b x × HasFrame zs c x)

@@ -14,3 +14,4 @@ pub mod Closing
 pub mod Reopening
 pub mod Keeping
 pub mod FreeCounts
+pub mod MoveBounds

@@ -1,5 +1,5 @@
 -- What an opening of zones gives.
-use Rattle.std.specs.Prelude.{◌≡◌, ◌⊎◌, ℕ, ◌<◌, ◌++◌, ◌∷◌, List, [], length, map, slice_index_or}
+use Rattle.std.specs.Prelude.{◌≡◌, ◌⊎◌, ℕ, ◌*◌, ◌/◌, ◌<◌, ◌++◌, ◌∷◌, List, [], length, map, slice_index_or}
 use Rattle.std.specs.List.{All}
 use Rattle.frame_words.specs.declared.fault.Fault.{Fault}
 use Rattle.frame_words.specs.declared.fault.Fault.TheVariants.{BadRange, NoMemory}
@@ -7,7 +7,7 @@ use Rattle.frame_model.specs.Key.{IsKey}
 use Rattle.core_frames.specs.declared.shared.allocator.Allocator.{Allocator}
 use Rattle.core_frames.specs.declared.shared.allocator.Core.{Core}
 use Rattle.core_frames.specs.Cores.{memory_of, IsNewCore}
-use Rattle.frame_zones.specs.Spans.{Place, place_of, place_at, MayBeZones, HoldsLawful}
+use Rattle.frame_zones.specs.Spans.{Place, place_of_span, place_at, MayBeZones, HoldsLawful}
 use Rattle.frame_zones.specs.Zones.{zone_count, AreCoresOf, InEach}
 use Rattle.frame_zones.specs.declared.image.ZoneImage.{ZoneImage}
 use Rattle.frame_zones.specs.declared.spans.Span.{Span}
@@ -35,6 +35,15 @@ pub record AreDealt (old : List ZoneCore) (parts : List Core) (new : List ZoneCo
 abbrev pub IsBegun : ℕ → ZoneCore → Type 0
 IsBegun zones c = (c.cores.items ≡ []) × (c.home < zones)
 
+-- the home of a core by its number, of so many: they lie as evenly among the zones as they can
+abbrev pub home_for : (number cores zones : ℕ) → ℕ
+home_for number cores zones = number * zones / cores
+
+-- each core has the home of its number
+abbrev pub HaveHomes : (cores zones : ℕ) → List ZoneCore → Type 0
+HaveHomes cores zones cs = (k : ℕ) (c : ZoneCore) → k < length cs
+    → (slice_index_or cs k c).home ≡ home_for k cores zones
+
 -- the allocator, at its first frame, is of the memory that lies at this place
 pub record IsAt (p : Place) (first : ℕ) (a : Allocator) : Type 0 where
   pub first_frame : first ≡ p.first
@@ -58,14 +67,15 @@ pub record AreOpened (cores : ℕ) (places : List Place) (zs : Zones) (cs : List
   pub as_many : zs.cores ≡ cores
   pub are_at : AreAt places zs.firsts.items zs.zones.items
   pub count : length cs ≡ cores
+  pub homes : HaveHomes cores (zone_count zs) cs
   pub each : All (IsNewIn zs) cs
 
 -- why an opening was refused: zones may not lie so, or one may not hold back what it is to; or there
 -- is not enough memory
 abbrev pub AreUnopenedFor : ℕ → List Span → Fault → Type 0
 AreUnopenedFor cores spans fault =
-    ((fault ≡ BadRange) × ¬ (MayBeZones cores (map place_of spans) × All HoldsLawful spans))
-    ⊎ ((fault ≡ NoMemory) × MayBeZones cores (map place_of spans))
+    ((fault ≡ BadRange) × ¬ (MayBeZones cores (map place_of_span spans) × All HoldsLawful spans))
+    ⊎ ((fault ≡ NoMemory) × MayBeZones cores (map place_of_span spans))
 
 -- why an opening at images was refused: zones may not lie so; or there is not enough memory
 abbrev pub AreUnopenedAt : ℕ → List ZoneImage → Fault → Type 0

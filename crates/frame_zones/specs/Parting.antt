@@ -13,8 +13,8 @@ abbrev pub HasPart : ZoneCore → Type 0
 HasPart c = 0 < length c.cores.items
 
 -- the core has room for one part more
-abbrev pub HasRoom : ZoneCore → Type 0
-HasRoom c = vec_len c.cores < vec_capacity c.cores
+abbrev pub HasRoomForPart : ZoneCore → Type 0
+HasRoomForPart c = vec_len c.cores < vec_capacity c.cores
 
 -- the last of the allocators was parted off, with its cores, in order; the others and their cores are
 -- as before

@@ -19,8 +19,8 @@ abbrev pub IsReopenable : ZoneImage → Type 0
 IsReopenable i = IsRebuilt (unsealed_key i.image.geometry) i.image.words i.image.words
 
 -- the blocks that the image holds
-abbrev pub held_at : ZoneImage → List FrameBlock
-held_at i = held_blocks (unsealed_key i.image.geometry) i.image.words
+abbrev pub held_in_image : ZoneImage → List FrameBlock
+held_in_image i = held_blocks (unsealed_key i.image.geometry) i.image.words
 
 -- for each of these allocators what was held before its opening
 pub record AreLeftOf (zones : List Allocator) (left : List Survivors) : Type 0 where
@@ -35,7 +35,7 @@ AreSurvivorsOf zs left = AreLeftOf zs.zones.items left
 -- in so many zones just what the images hold is left
 abbrev pub AreHeldAt : ℕ → List ZoneImage → List Survivors → Type 0
 AreHeldAt zones images left = (z : ℕ) (i : ZoneImage) (s : Survivors) → z < zones
-    → left_blocks (slice_index_or left z s) ≡ held_at (slice_index_or images z i)
+    → left_blocks (slice_index_or left z s) ≡ held_in_image (slice_index_or images z i)
 
 -- the block of this zone is adopted and leaves what is left there; or it is refused, and nothing
 -- leaves; of the other zones all is left as before

@@ -21,8 +21,8 @@ pub record Place : Type 0 where
   pub key : Key
 
 -- where an opening of the span lies
-abbrev pub place_of : Span → Place
-place_of s = record { first = s.first; key = sealed_key s.geometry s.ranges.items }
+abbrev pub place_of_span : Span → Place
+place_of_span s = record { first = s.first; key = sealed_key s.geometry s.ranges.items }
 
 -- where an opening at the image lies
 abbrev pub place_at : ZoneImage → Place
@@ -42,8 +42,8 @@ pub record MayLie (as_many from first cores children : ℕ) : Type 0 where
   pub inside : end_at first children ≤ most_zone_frames
 
 -- the frame past the last child
-abbrev pub end_of : Place → ℕ
-end_of p = end_at p.first p.key.children
+abbrev pub end_of_place : Place → ℕ
+end_of_place p = end_at p.first p.key.children
 
 -- the zone may lie behind those that end at a frame
 abbrev pub MayComeAfter : (cores from : ℕ) → Place → Type 0
@@ -52,7 +52,7 @@ MayComeAfter cores from p = MayLie cores from p.first p.key.cores p.key.children
 -- each zone may lie behind the one before it, and the first one behind a frame
 unfoldable pub AreSpans : (cores from : ℕ) → List Place → Type 0
 AreSpans cores from [] = Unit {0}
-AreSpans cores from (p ∷ places) = MayComeAfter cores from p × AreSpans cores (end_of p) places
+AreSpans cores from (p ∷ places) = MayComeAfter cores from p × AreSpans cores (end_of_place p) places
 
 -- there are some, and few enough, and each may lie behind the one before it
 pub record MayBeZones (cores : ℕ) (places : List Place) : Type 0 where

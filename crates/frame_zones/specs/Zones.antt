@@ -51,6 +51,6 @@ pub record StayCoresOf (zs : Zones) (c d : ZoneCore) : Type 0 where
   pub same_numbers : InEach zs (λ _ x y. number_of y ≡ number_of x) c d
 
 -- the block was handed out by the zone that it names
-pub record IsOutIn (zs : Zones) (b : ZoneBlock) : Type 0 where
+pub record IsOutOfItsZone (zs : Zones) (b : ZoneBlock) : Type 0 where
   pub zone : b.zone < zone_count zs
   pub is_out : (a : Allocator) → IsOutOf (zone_at zs b.zone a) b.block

@@ -2,25 +2,33 @@
 
 ghost use Rattle.std.specs.Prelude.{◌+◌, ◌≤◌};
 ghost use Rattle.core_frames.specs.Bounds.{most_in_give};
-ghost use Rattle.frame_zones.specs.Zones.{AreCoresOf, StayCoresOf, IsOutIn};
-ghost use Rattle.frame_zones.specs.Uses.{GivesIn, MovesAtMost, moves_through};
+ghost use Rattle.frame_zones.specs.Zones.{AreCoresOf, StayCoresOf, IsOutOfItsZone};
+ghost use Rattle.frame_zones.specs.Uses.{GivesIn, IsGivenFor, MovesAtMost, moves_through};
 
-use crate::block::ZoneBlock;
+use crate::block::{GivenBlock, ZoneBlock};
 use crate::zones::{ZoneCore, Zones};
+use frame_core::HeldBlock;
 
 impl Zones {
-    /// Gives the block back, whichever core took it. It always succeeds.
+    /// Gives the block back, whichever core took it. It always succeeds, and says which one it was.
     #[inline(always)]
-    pub fn give(&self, core: &mut ZoneCore, block: ZoneBlock)
+    pub fn give(&self, core: &mut ZoneCore, block: ZoneBlock) -> GivenBlock
         requires core { AreCoresOf self.now core.old }
-        requires block { IsOutIn self.now block }
+        requires block { IsOutOfItsZone self.now block }
         ensures core { StayCoresOf self.now core.old core.new }
         ensures gives { GivesIn self.now block.zone core.old core.new }
+        ensures given { IsGivenFor block result }
         ensures moves { MovesAtMost most_in_give block.zone core.old core.new }
         ensures all_moves { moves_through core.new ≤ moves_through core.old + most_in_give }
     {
         let ZoneBlock { zone, block } = block;
-        let zone = zone as usize;
-        self.zones[zone].give(&mut core.cores[zone], block);
+        let given = GivenBlock {
+            zone,
+            frame: block.frame(),
+            order: block.order(),
+        };
+        let place = zone as usize;
+        self.zones[place].give(&mut core.cores[place], block);
+        given
     }
 }

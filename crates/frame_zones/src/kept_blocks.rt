@@ -3,9 +3,9 @@
 ghost use Rattle.std.specs.Prelude.{◌≡◌, ◌+◌, ◌<◌};
 ghost use Rattle.frame_model.specs.Block.{block as block_at};
 ghost use Rattle.frame_table.specs.Seats.{block_in};
-ghost use Rattle.frame_zones.specs.Keeping.{IsKeptIn, KeepsIn, RecallsIn, IsThisOut};
+ghost use Rattle.frame_zones.specs.Keeping.{IsKeptIn, KeepsInZone, RecallsIn, IsThisOut};
 ghost use Rattle.frame_zones.specs.Uses.{moves_through};
-ghost use Rattle.frame_zones.specs.Zones.{zone_count, AreCoresOf, StayCoresOf, IsOutIn};
+ghost use Rattle.frame_zones.specs.Zones.{zone_count, AreCoresOf, StayCoresOf, IsOutOfItsZone};
 
 use crate::block::ZoneBlock;
 use crate::zones::{ZoneCore, Zones};
@@ -15,9 +15,9 @@ impl Zones {
     /// its order.
     pub fn keep(&self, core: &mut ZoneCore, block: ZoneBlock) -> (u32, u32, u8)
         requires core { AreCoresOf self.now core.old }
-        requires block { IsOutIn self.now block }
+        requires block { IsOutOfItsZone self.now block }
         ensures core { StayCoresOf self.now core.old core.new }
-        ensures keeps { KeepsIn self.now block.zone (block_in block.block) core.old core.new }
+        ensures keeps { KeepsInZone self.now block.zone (block_in block.block) core.old core.new }
         ensures all_moves { moves_through core.new ≡ moves_through core.old + 1 }
         ensures zone { result.0 ≡ block.zone }
         ensures answer { block_at result.1 result.2 ≡ block_in block.block }

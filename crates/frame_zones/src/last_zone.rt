@@ -3,7 +3,7 @@
 ghost use Rattle.std.specs.Prelude.{◌≡◌, ◌<◌, ◌≤◌, [], IfOk, IfErr, OnErr, vec_len, vec_capacity, length};
 ghost use Rattle.std.specs.List.{All};
 ghost use Rattle.frame_zones.specs.Openings.{IsLonger, AreDealt};
-ghost use Rattle.frame_zones.specs.Parting.{HasPart, HasRoom, PartsOff, KeepsFirsts};
+ghost use Rattle.frame_zones.specs.Parting.{HasPart, HasRoomForPart, PartsOff, KeepsFirsts};
 ghost use Rattle.frame_zones.specs.Zones.{zone_count, HasCoresIn};
 
 use crate::row::Row;
@@ -72,7 +72,7 @@ pub(crate) fn gather(cores: &mut Vec<ZoneCore>, mut parts: Vec<Core>) -> Vec<Cor
     requires some { All HasPart cores.old.items }
     ensures dealt { AreDealt cores.new.items result.items cores.old.items }
     ensures count { length result.items ≡ length cores.new.items }
-    ensures room { All HasRoom cores.new.items }
+    ensures room { All HasRoomForPart cores.new.items }
 {
     for number in 0..cores.len() {
         parts.push_reserved(cores[number].take_last());
@@ -83,7 +83,7 @@ pub(crate) fn gather(cores: &mut Vec<ZoneCore>, mut parts: Vec<Core>) -> Vec<Cor
 /// The parts become the last ones of the cores, in order, again. There is room for them.
 pub(crate) fn put_back(cores: &mut Vec<ZoneCore>, mut parts: Vec<Core>)
     requires count { vec_len parts ≡ vec_len cores.old }
-    requires room { All HasRoom cores.old.items }
+    requires room { All HasRoomForPart cores.old.items }
     ensures { AreDealt cores.old.items parts.items cores.new.items }
 {
     while let Some(part) = parts.pop() {
@@ -97,7 +97,7 @@ impl ZoneCore {
     fn take_last(&mut self) -> Core
         requires { HasPart self.old }
         ensures shorter { IsLonger self.new result self.old }
-        ensures room { HasRoom self.new }
+        ensures room { HasRoomForPart self.new }
     {
         let Some(part) = self.cores.pop() else {
             unreachable!()
@@ -106,7 +106,7 @@ impl ZoneCore {
     }
 
     fn put_last(&mut self, part: Core)
-        requires { HasRoom self.old }
+        requires { HasRoomForPart self.old }
         ensures { IsLonger self.old part self.new }
     {
         self.cores.push_reserved(part);

@@ -1,8 +1,10 @@
-//! What holds of every block of zones: laws, proved as contracts of functions that do nothing.
+//! What holds of every block of zones and of all moves there: laws, proved as contracts of functions that do
+//! nothing.
 
 ghost use Rattle.std.specs.Prelude.{◌≢◌};
-ghost use Rattle.frame_zones.specs.Zones.{IsOutIn};
-ghost use Rattle.frame_zones.specs.Laws.{OwnsInZone, LiesInZone, AreApart};
+ghost use Rattle.frame_zones.specs.Zones.{IsOutOfItsZone};
+ghost use Rattle.frame_zones.specs.MoveBounds.{TakeInZoneInNumbers, TakeMovesTooMuch, ZoneMovesTooMuch};
+ghost use Rattle.frame_zones.specs.Laws.{OwnsInZone, LiesInZone, AreFramesApart};
 
 use crate::block::ZoneBlock;
 use crate::zones::Zones;
@@ -10,11 +12,19 @@ use crate::zones::Zones;
 /// A block that is out owns just itself in its zone, and lies there: so blocks of two zones share no
 /// frame.
 pub fn blocks_lie_in_zones(zones: &Zones, one: &ZoneBlock, two: &ZoneBlock)
-    requires one { IsOutIn zones.now one.now }
-    requires two { IsOutIn zones.now two.now }
+    requires one { IsOutOfItsZone zones.now one.now }
+    requires two { IsOutOfItsZone zones.now two.now }
     ensures owns { OwnsInZone zones.now one.now }
     ensures inside { LiesInZone zones.now one.now }
-    ensures apart { one.now.zone ≢ two.now.zone → AreApart zones.now one.now two.now }
+    ensures apart { one.now.zone ≢ two.now.zone → AreFramesApart zones.now one.now two.now }
 {
     let (_, _, _) = (zones, one, two);
 }
+
+/// The bound on moves of a take in a zone is this number; and no take, give or split is said to keep to a
+/// bound that it does not.
+pub fn bounds_in_zones_are_these()
+    ensures take { TakeInZoneInNumbers }
+    ensures within { TakeMovesTooMuch }
+    ensures at_most { ZoneMovesTooMuch }
+{}

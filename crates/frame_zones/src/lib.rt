@@ -19,11 +19,11 @@ mod stops;
 mod takes;
 mod zones;
 
-pub use block::ZoneBlock;
+pub use block::{GivenBlock, ZoneBlock};
 pub use closings::ZonesFault;
 pub use image::ZoneImage;
-pub use laws::blocks_lie_in_zones;
+pub use laws::{blocks_lie_in_zones, bounds_in_zones_are_these};
 pub use row::Row;
 pub use spans::{MOST_ZONES, Span, may_be_zones};
 pub use stops::StopRoom;
-pub use zones::{ZoneCore, Zones};
+pub use zones::{ORDERS, Stay, ZoneCore, Zones};

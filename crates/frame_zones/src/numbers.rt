@@ -4,7 +4,7 @@ ghost use Rattle.std.specs.Prelude.{◌≡◌, ◌<◌, IfSome, IfNone};
 ghost use Rattle.frame_zones.specs.FreeCounts.{frames_among};
 ghost use Rattle.frame_zones.specs.Frames.{IsFrameIn, IsInNoZone, IsNotIn, IsLastFrom, BeginBehind};
 ghost use Rattle.frame_zones.specs.Spans.{most_zone_frames};
-ghost use Rattle.frame_zones.specs.Zones.{zone_count, IsOutIn, first_frame_of, first_frame_in};
+ghost use Rattle.frame_zones.specs.Zones.{zone_count, IsOutOfItsZone, first_frame_of, first_frame_in};
 
 use crate::block::ZoneBlock;
 use crate::zones::Zones;
@@ -13,7 +13,7 @@ use frame_core::HeldBlock;
 impl Zones {
     /// The number of the block's first frame among all frames of the memory.
     pub fn frame_of(&self, block: &ZoneBlock) -> u64
-        requires { IsOutIn self.now block.now }
+        requires { IsOutOfItsZone self.now block.now }
         ensures frame { result ≡ first_frame_in self.now block.now }
         ensures inside { result < most_zone_frames }
     {

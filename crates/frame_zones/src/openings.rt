@@ -4,13 +4,13 @@ ghost use Rattle.std.specs.Prelude.{◌≡◌, ◌<◌, ◌≤◌, [], IfOk, IfE
 ghost use Rattle.std.specs.List.{All};
 ghost use Rattle.core_frames.specs.Cores.{IsOpened};
 ghost use Rattle.core_frames.specs.Ranges.{IsUnopenedFor};
-ghost use Rattle.frame_zones.specs.Spans.{most_zones, place_of, HoldsLawful};
-ghost use Rattle.frame_zones.specs.Openings.{IsLonger, AreDealt, IsBegun, AreOpened, AreUnopenedFor};
+ghost use Rattle.frame_zones.specs.Spans.{most_zones, place_of_span, HoldsLawful};
+ghost use Rattle.frame_zones.specs.Openings.{home_for, HaveHomes, IsLonger, AreDealt, IsBegun, AreOpened, AreUnopenedFor};
 
 use crate::row::Row;
 use crate::spans::{Span, may_be_zones};
-use crate::zones::{ZoneCore, Zones};
-use core_frames::{Allocator, Core};
+use crate::zones::{ORDERS, Stay, ZoneCore, Zones};
+use core_frames::{Allocator, Core, Start};
 use frame_words::Fault;
 use std::alloc::Global;
 
@@ -19,7 +19,7 @@ impl Zones {
     /// the end of each zone and in its ranges. Refused as `BadRange` where zones may not lie so or
     /// hold that back, else for lack of memory.
     pub fn open(alloc: Global, cores: u32, spans: &[Span]) -> Result<(Zones, Vec<ZoneCore>), Fault>
-        ensures opened { IfOk result (λ r. AreOpened cores (map place_of spans.now) r.0 r.1.items) }
+        ensures opened { IfOk result (λ r. AreOpened cores (map place_of_span spans.now) r.0 r.1.items) }
         ensures lawful { IfOk result (λ _. All HoldsLawful spans.now) }
         ensures refused { IfErr result (AreUnopenedFor cores spans.now) }
     {
@@ -49,11 +49,11 @@ impl Zones {
 
 // The allocator of the span, with its cores.
 fn open_zone(alloc: Global, span: &Span) -> Result<(Allocator, Vec<Core>), Fault>
-    ensures opened { IfOk result (λ r. IsOpened (place_of span.now).key r.0 r.1.items) }
+    ensures opened { IfOk result (λ r. IsOpened (place_of_span span.now).key r.0 r.1.items) }
     ensures lawful { IfOk result (λ r. HoldsLawful span.now) }
     ensures refused { IfErr result (IsUnopenedFor span.now.geometry span.now.ranges.items) }
 {
-    Allocator::open_with(alloc, span.geometry, &span.ranges)
+    Allocator::open_starting(alloc, span.geometry, &span.ranges, Start::Last)
 }
 
 // A list of what all cores read, and a core's parts, which it writes, have room for so many items more, at
@@ -88,6 +88,7 @@ pub(crate) fn begun(alloc: Global, cores: u32, zones: u32) -> Result<Vec<ZoneCor
     requires { 0 < zones }
     ensures count { IfOk result (λ all. vec_len all ≡ cores) }
     ensures begun { IfOk result (λ all. All (IsBegun zones) all.items) }
+    ensures homes { IfOk result (λ all. HaveHomes cores zones all.items) }
     ensures err { IfErr result (λ e. e ≡ Fault.NoMemory) }
 {
     let Ok(mut all) = Vec::with_capacity(alloc, cores as usize) else {
@@ -99,10 +100,21 @@ pub(crate) fn begun(alloc: Global, cores: u32, zones: u32) -> Result<Vec<ZoneCor
         };
         all.push_reserved(ZoneCore {
             cores: room,
-            home: number % zones,
+            home: home_of(number, cores, zones),
+            stays: [Stay::NONE; ORDERS],
         });
     }
     Ok(all)
+}
+
+// The home of a core: by their numbers the cores lie as evenly among the zones as they can.
+fn home_of(number: u32, cores: u32, zones: u32) -> u32
+    requires number { number < cores }
+    requires zones { 0 < zones }
+    ensures inside { result < zones }
+    ensures even { result ≡ home_for number cores zones }
+{
+    (u64::from(number) * u64::from(zones) / u64::from(cores)) as u32
 }
 
 /// A part to each core, in order. Refused only for lack of memory.

@@ -6,7 +6,7 @@ ghost use Rattle.frame_model.specs.Block.{block as block_at};
 ghost use Rattle.frame_zones.specs.Spans.{place_at};
 ghost use Rattle.frame_zones.specs.Openings.{AreOpened, AreUnopenedAt};
 ghost use Rattle.frame_zones.specs.Reopening.{IsReopenable, AreSurvivorsOf, AreHeldAt, AdoptsIn};
-ghost use Rattle.frame_zones.specs.Zones.{zone_count, IsOutIn};
+ghost use Rattle.frame_zones.specs.Zones.{zone_count, IsOutOfItsZone};
 
 use crate::block::ZoneBlock;
 use crate::image::ZoneImage;
@@ -14,7 +14,7 @@ use crate::openings::{begun, deal, room_for};
 use crate::row::Row;
 use crate::spans::may_be_zones_again;
 use crate::zones::{ZoneCore, Zones};
-use core_frames::{Allocator, Survivors};
+use core_frames::{Allocator, Start, Survivors};
 use frame_words::Fault;
 use std::alloc::Global;
 
@@ -39,7 +39,11 @@ impl Zones {
         let (mut zones, mut firsts, mut frames) = room_for(alloc, images.len())?;
         let mut left = Vec::with_capacity(alloc, images.len())?;
         for image in images {
-            let (zone, parts, survivors) = Allocator::open_at(alloc, &image.image)?;
+            let (zone, parts, survivors) = Allocator::open_at_starting(
+                alloc,
+                &image.image,
+                Start::Last,
+            )?;
             deal(&mut all, parts)?;
             zones.push_reserved(zone);
             firsts.push_reserved(image.first);
@@ -70,7 +74,7 @@ impl Zones {
         ensures survivors { AreSurvivorsOf self.now survivors.new.items }
         ensures adopts { AdoptsIn self.now zone (block_at frame order) result
             survivors.old.items survivors.new.items }
-        ensures out { IfOk result (IsOutIn self.now) }
+        ensures out { IfOk result (IsOutOfItsZone self.now) }
     {
         let place = zone as usize;
         match survivors[place].adopt(&self.zones[place], frame, order) {

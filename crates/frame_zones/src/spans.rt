@@ -1,7 +1,7 @@
 //! Where zones lie, and the rule for it.
 
 ghost use Rattle.std.specs.Prelude.{◌≡◌, ◌≤◌, MatchBool, map};
-ghost use Rattle.frame_zones.specs.Spans.{most_zone_frames, place_of, place_at, end_at, MayLie, MayBeZones};
+ghost use Rattle.frame_zones.specs.Spans.{most_zone_frames, place_of_span, place_at, end_at, MayLie, MayBeZones};
 
 use crate::image::ZoneImage;
 use frame_words::{CHILD_FRAMES, Geometry};
@@ -27,8 +27,8 @@ pub struct Span {
 
 /// May zones of so many cores lie like this?
 pub fn may_be_zones(cores: u32, spans: &[Span]) -> bool
-    ensures { MatchBool result (MayBeZones cores (map place_of spans.now))
-        (¬ MayBeZones cores (map place_of spans.now)) }
+    ensures { MatchBool result (MayBeZones cores (map place_of_span spans.now))
+        (¬ MayBeZones cores (map place_of_span spans.now)) }
 {
     if spans.is_empty() || spans.len() > MOST_ZONES {
         return false;

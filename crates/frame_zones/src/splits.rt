@@ -2,7 +2,7 @@
 
 ghost use Rattle.std.specs.Prelude.{◌+◌, ◌≤◌};
 ghost use Rattle.core_frames.specs.Bounds.{most_in_split};
-ghost use Rattle.frame_zones.specs.Zones.{AreCoresOf, StayCoresOf, IsOutIn};
+ghost use Rattle.frame_zones.specs.Zones.{AreCoresOf, StayCoresOf, IsOutOfItsZone};
 ghost use Rattle.frame_zones.specs.Splits.{SplitsIn};
 ghost use Rattle.frame_zones.specs.Uses.{MovesAtMost, moves_through};
 
@@ -17,7 +17,7 @@ impl Zones {
         block: ZoneBlock,
     ) -> Result<(ZoneBlock, ZoneBlock), ZoneBlock>
         requires core { AreCoresOf self.now core.old }
-        requires block { IsOutIn self.now block }
+        requires block { IsOutOfItsZone self.now block }
         ensures core { StayCoresOf self.now core.old core.new }
         ensures splits { SplitsIn self.now block result core.old core.new }
         ensures moves { MovesAtMost most_in_split block.zone core.old core.new }

@@ -20,10 +20,27 @@ pub struct Zones {
     pub ghost same_cores: { HaveCores cores zones.items },
 }
 
+/// How many orders there are.
+pub const ORDERS: usize = 10;
+
 /// What one thread takes and gives through: a core of each zone.
 #[derive(Drop)]
 pub struct ZoneCore {
     pub cores: Vec<Core>,
-    /// The zone where takes begin.
+    /// The zone where takes begin, unless another one served takes of the order of late.
     pub home: u32,
+    /// Where takes of each order begin for a while.
+    pub stays: [Stay; ORDERS],
+}
+
+/// So many takes more begin in this zone, and not at home.
+#[derive(Clone, Copy, Debug)]
+pub struct Stay {
+    pub zone: u32,
+    pub left: u32,
+}
+
+impl Stay {
+    /// None: takes begin at home.
+    pub const NONE: Stay = Stay { zone: 0, left: 0 };
 }

@@ -140,7 +140,9 @@ fn work(zones: &Zones, mut core: ZoneCore, order: u8, count: u32) -> u64
     let mut refused = 0u64;
     for _i in 0..count {
         match zones.take(&mut core, order) {
-            Ok(block) => zones.give(&mut core, block),
+            Ok(block) => {
+                zones.give(&mut core, block);
+            }
             Err(_) => refused = refused.wrapping_add(1),
         }
     }

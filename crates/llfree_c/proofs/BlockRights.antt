@@ -8,7 +8,7 @@ use denote.RattleType.{RattleType, Valss}
 use denote.Steps.{nothing}
 use denote.Struct.Struct.{within}
 use denote.Struct.Owning.{shape}
-use Rattle.frame_model.specs.declared.view.Eye.{Eye}
+use Rattle.frame_table.specs.declared.rule.Watch.{Watch}
 use Rattle.atomic_table.specs.declared.badge.Badge.{Badge}
 use Rattle.llfree_c.specs.Rights.{right_owned}
 use Rattle.llfree_c.specs.contracts.block_right.BlockRight as right
@@ -17,7 +17,7 @@ abbrev pub Right : RattleType
 Right = right.the_row
 
 module _ {M : Type 1} {𝓤 : Ura M} {𝓛 : Logic 𝓤} {K : Type 0} {Γ : List (Item 𝓤)} {G : Goal 𝓤 𝓛.H} where
-  pub right_in : K → (b : Badge Eye)
+  pub right_in : K → (b : Badge Watch)
       → Step K 𝓛 (‵ (Right.own_val (record { badge = b }) (vstruct vnil ∷ [])) ∷ Γ) G (‵ (right_owned b) ∷ Γ) G
   right_in t b = step (λ s. let w : Val = vstruct vnil in
       nothing t $ feq_i t (List Val) (w ∷ []) (w ∷ []) refl $ fjoin t $

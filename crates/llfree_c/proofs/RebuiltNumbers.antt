@@ -21,7 +21,7 @@ use Rattle.frame_model.proofs.Steps.Shared.{bit-le, view_of as view_at}
 use Rattle.frame_model.proofs.Stopping.Existing.{every_rebuilding_exists}
 use Rattle.frame_model.proofs.Stopping.Rebuilding.{kept_bit, cleared_bit, every_rebuilding_is_exact}
 use Rattle.low_frames.proofs.ViewLemmas.{covered_from}
-use Rattle.frame_table.specs.Rule.{eye_view}
+use Rattle.frame_model.specs.declared.view.Eye.{Eye}
 use Rattle.frame_table.specs.Seats.{view_of}
 use Rattle.frame_table.specs.Stopping.{IsImageAtStop}
 use Rattle.frame_table.specs.declared.seats.CoreSeat.{CoreSeat}
@@ -125,7 +125,7 @@ leaves_stop key last image numbers stop says =
     let r : IsRebuilt key old again.0 = again.1 in
     let vs : List View = views_of stop.state in
     let v : View = stop.eye.view in
-    let at : get_elem? vs stop.id ≡ some v = at_map eye_view stop.state.eyes stop.id stop.eye stop.at in
+    let at : get_elem? vs stop.id ≡ some v = at_map (λ (e : Eye). e.view) stop.state.eyes stop.id stop.eye stop.at in
     let kept : All (IsBlock key) (view_of last).kept = subst (λ (w : View). All (IsBlock key) w.kept) stop.seat
     (view_at key key.cores stop.state.words vs stop.id v stop.fits at).kept in
     record {

@@ -1,16 +1,16 @@
 -- What C carries of blocks, and what takes, gives and splits of it leave.
 use Rattle.std.specs.Prelude.{◌≡◌, ℕ, ◌+◌, ◌-◌, ◌^◌, [], ◌∷◌, true, Option, Some, None}
 use Rattle.atomic_table.specs.declared.shared.Seat.{Seat}
-use Rattle.frame_model.specs.declared.view.Eye.{Eye}
+use Rattle.frame_table.specs.declared.rule.Watch.{Watch}
 use Rattle.frame_zones.specs.declared.block.ZoneBlock.{ZoneBlock}
-use Rattle.zone_slots.specs.Blocks.{IsRightFor, frame_for}
-use Rattle.zone_slots.specs.Calls.{zones_of, SplitsFor}
-use Rattle.zone_slots.specs.Uses.{TakesByNumber}
+use Rattle.zone_slots.specs.Blocks.{IsRightThrough, frame_for}
+use Rattle.zone_slots.specs.Calls.{zones_of}
+use Rattle.zone_slots.specs.Uses.{TakesByNumber, SplitsByNumber}
 use Rattle.zone_slots.specs.declared.core_state.CoreState.{CoreState}
 use Rattle.llfree_c.specs.declared.block_handle.BlockHandle.{BlockHandle}
 
 -- the block of the order that begins at the frame of this number is carried, and this seat was its right
-pub record Carries (h : BlockHandle) (number n : ℕ) (seat : Seat (Unit {0}) Eye) : Type 0 where
+pub record Carries (h : BlockHandle) (number n : ℕ) (seat : Seat (Unit {0}) Watch) : Type 0 where
   pub live : h.live ≡ true
   pub frame : h.frame ≡ number
   pub order : h.order ≡ n
@@ -21,9 +21,9 @@ pub record Carries (h : BlockHandle) (number n : ℕ) (seat : Seat (Unit {0}) Ey
 -- the block that is carried is one of the zones of the core, and was handed out there: what C carries is the right
 -- to it
 pub record IsOutOfOne (s : CoreState) (h : BlockHandle) : Type 0 where
-  pub eye : Eye
+  pub eye : Watch
   pub views : h.right.badge.views ≡ eye ∷ []
-  pub right : IsRightFor s h.frame h.order h.right.badge.table_id (eye, [])
+  pub right : IsRightThrough s h.frame h.order h.right.badge.table_id (eye, [])
 
 -- the struct carries this block of the zones of the core, by its number over all zones
 pub record IsCarriedFor (s : CoreState) (b : ZoneBlock) (h : BlockHandle) : Type 0 where
@@ -54,4 +54,4 @@ pub record SplitsHeld (h lower upper : BlockHandle) (s t : CoreState) : Type 0 w
   pub orders : (lower.order ≡ h.order - 1) × (upper.order ≡ h.order - 1)
   pub frames : (lower.frame ≡ h.frame) × (upper.frame ≡ h.frame + 2 ^ (h.order - 1))
   pub out : IsOutOfOne s lower × IsOutOfOne s upper
-  pub split : SplitsFor h.order h.frame s t
+  pub split : SplitsByNumber (zones_of s) h.order h.frame s.core t.core

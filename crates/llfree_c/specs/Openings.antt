@@ -4,6 +4,7 @@ use Rattle.frame_words.specs.Geometry.{most_cores}
 use Rattle.frame_model.specs.declared.key.Key.{Key}
 use Rattle.frame_model.specs.Key.{most_ranges, AreRanges}
 use Rattle.frame_slots.specs.Numbers.{most_frames}
+use Rattle.frame_zones.specs.Spans.{most_zones}
 use Rattle.zone_slots.specs.Cuts.{MayBeHeldBack}
 use Rattle.zone_slots.specs.Layouts.{Stretch, AreEven, AreZoneFrames}
 use Rattle.zone_slots.specs.ZoneSpans.{MayBeUsed}
@@ -74,10 +75,11 @@ EvenZonesDoNotHold frames ranges status = (status ≡ bad_range)
     × ((zones : List Stretch) → AreEven frames zones → ¬ MayBeHeldBack zones ranges)
 
 -- why zones of so many frames were not opened: there are none for so many cores, they may not hold the ranges
--- back, or memory was wanting
+-- back, or there are such zones and memory was wanting
 abbrev pub IsUnopenedEven : (frames cores : ℕ) → List Stretch → ℕ → Type 0
 IsUnopenedEven frames cores ranges status =
-    HasNoZones frames cores status ⊎ EvenZonesDoNotHold frames ranges status ⊎ (status ≡ no_memory)
+    HasNoZones frames cores status ⊎ EvenZonesDoNotHold frames ranges status
+    ⊎ ((status ≡ no_memory) × AreZoneSizes frames cores)
 
 -- zones may not lie so, or not for so many cores
 abbrev pub ZonesDoNotFit : ℕ → List Stretch → ℕ → Type 0
@@ -87,8 +89,22 @@ ZonesDoNotFit cores zones status = (status ≡ bad_geometry) × ¬ MayBeUsed cor
 abbrev pub ZonesDoNotHold : (zones ranges : List Stretch) → ℕ → Type 0
 ZonesDoNotHold zones ranges status = (status ≡ bad_range) × ¬ MayBeHeldBack zones ranges
 
+-- there may be so many zones for so many cores
+pub record AreFewEnough (cores : ℕ) (zones : List Stretch) : Type 0 where
+  pub some_cores : 1 ≤ cores
+  pub few_cores : cores ≤ most_cores
+  pub few_zones : length zones ≤ most_zones
+
 -- why these zones were not opened: they may not lie so for so many cores, they may not hold the ranges back, or
--- memory was wanting
+-- memory was wanting for so many
 abbrev pub IsUnopenedIn : ℕ → (zones ranges : List Stretch) → ℕ → Type 0
 IsUnopenedIn cores zones ranges status =
-    ZonesDoNotFit cores zones status ⊎ ZonesDoNotHold zones ranges status ⊎ (status ≡ no_memory)
+    ZonesDoNotFit cores zones status ⊎ ZonesDoNotHold zones ranges status
+    ⊎ ((status ≡ no_memory) × AreFewEnough cores zones)
+
+-- why these zones were not opened once they were read: the same, and memory was wanting only where they may lie so
+-- and may hold the ranges back
+abbrev pub IsUnopenedOnceRead : ℕ → (zones ranges : List Stretch) → ℕ → Type 0
+IsUnopenedOnceRead cores zones ranges status =
+    ZonesDoNotFit cores zones status ⊎ ZonesDoNotHold zones ranges status
+    ⊎ ((status ≡ no_memory) × MayBeUsed cores zones × MayBeHeldBack zones ranges)

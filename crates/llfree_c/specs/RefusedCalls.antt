@@ -1,20 +1,21 @@
 -- Why takes and splits of several threads were refused, by the status that each answered.
 use Rattle.std.specs.Prelude.{◌≡◌, ◌⊎◌, ℕ, ◌<◌, true, false}
-use Rattle.zone_slots.specs.Calls.{FindsNoneFor, LosesFor, IsContendedFor, CountsNone, CountsOne, KeepsCore}
+use Rattle.zone_slots.specs.Calls.{zones_of, LosesFor, IsContendedFor, CountsNone, CountsOne, KeepsCore}
+use Rattle.zone_slots.specs.Uses.{FindsNothingAnywhere}
 use Rattle.zone_slots.specs.declared.core_state.CoreState.{CoreState}
 use Rattle.llfree_c.specs.Status.{no_block, bad_order, not_held, not_closed, contended}
 use Rattle.llfree_c.specs.declared.block_handle.BlockHandle.{BlockHandle}
 
 -- the core found no block of the order in any zone, and lost no exchange
-pub record FindsNone (order : ℕ) (s t : CoreState) : Type 0 where
-  pub in_each : FindsNoneFor order s t
+pub record HasSearchedAll (order : ℕ) (s t : CoreState) : Type 0 where
+  pub in_each : FindsNothingAnywhere (zones_of s) order s.core t.core
 
 -- why a take of the order by numbers was refused: there are no blocks of that order; or none was found and
 -- no exchange was lost; or one was, or the block that was taken found no slot, which alone is counted
 abbrev pub RefusesTakeAs : (order status : ℕ) → CoreState → CoreState → Type 0
 RefusesTakeAs order status s t =
     ((status ≡ bad_order) × (9 < order) × KeepsCore s t × CountsNone s t)
-    ⊎ ((status ≡ no_block) × FindsNone order s t × CountsNone s t)
+    ⊎ ((status ≡ no_block) × HasSearchedAll order s t × CountsNone s t)
     ⊎ ((status ≡ contended) × IsContendedFor order s t)
 
 -- why a take of a block of the order into the struct was refused: that carries one; there are no blocks of
@@ -23,7 +24,7 @@ abbrev pub RefusesBlockAs : (order : ℕ) → (held : BlockHandle) → (status :
 RefusesBlockAs order held status s t =
     ((status ≡ not_closed) × (held.live ≡ true) × KeepsCore s t)
     ⊎ ((status ≡ bad_order) × (9 < order) × KeepsCore s t)
-    ⊎ ((status ≡ no_block) × FindsNone order s t)
+    ⊎ ((status ≡ no_block) × HasSearchedAll order s t)
     ⊎ ((status ≡ contended) × LosesFor order s t)
 
 -- why a split of a block of the order by numbers was refused: it has no halves; or it is not held; or a half

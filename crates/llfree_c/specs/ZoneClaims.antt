@@ -5,31 +5,31 @@ use Rattle.std.specs.List.Sorted.{IsPermutation}
 use Rattle.frame_model.specs.declared.block.FrameBlock.{FrameBlock}
 use Rattle.frame_slots.specs.Claims.{Ascend, IsHeldAs, ShareNoFrame}
 use Rattle.frame_slots.specs.Numbers.{child_count_of, IsImageOf}
-use Rattle.zone_slots.specs.ImageParts.{numbers_of}
-use Rattle.zone_slots.specs.Layouts.{Stretch, stretch_at, LiesIn}
+use Rattle.zone_slots.specs.ImageParts.{image_numbers_of}
+use Rattle.zone_slots.specs.Layouts.{Stretch, stretch_at, LiesInStretch}
 use Rattle.zone_slots.specs.ZoneClaims.{block_within}
 use Rattle.llfree_c.specs.Reopenings.{claimed_blocks, NamesAnOrder}
 use Rattle.llfree_c.specs.Status.{bad_image, bad_order, contended, no_memory, not_held}
 use Rattle.llfree_c.specs.declared.blocks.ClaimedBlock.{ClaimedBlock}
 
 -- the numbers of an image from those of a zone on: nine for each child, zone after zone
-abbrev pub numbers_at : List Stretch → List ℕ → ℕ → List ℕ
-numbers_at zones numbers z = drop (numbers_of (take z zones)) numbers
+abbrev pub numbers_of_zone : List Stretch → List ℕ → ℕ → List ℕ
+numbers_of_zone zones numbers z = drop (image_numbers_of (take z zones)) numbers
 
 -- those of the zone alone
 abbrev pub own_numbers : List Stretch → List ℕ → ℕ → List ℕ
-own_numbers zones numbers z = take (9 * child_count_of (stretch_at zones z).1) (numbers_at zones numbers z)
+own_numbers zones numbers z = take (9 * child_count_of (stretch_at zones z).1) (numbers_of_zone zones numbers z)
 
 -- the numbers are those of an image of these zones, zone after zone
 pub record AreImagesOf (zones : List Stretch) (numbers : List ℕ) : Type 0 where
-  pub count : length numbers ≡ numbers_of zones
+  pub count : length numbers ≡ image_numbers_of zones
   pub each : (z : ℕ) → z < length zones → IsImageOf (stretch_at zones z).1 (own_numbers zones numbers z)
 
 -- the block begins in this zone, and the zone's image holds all of it there in its own form
 pub record IsHeldInZone (zones : List Stretch) (numbers : List ℕ) (b : FrameBlock) (z : ℕ) : Type 0 where
   pub zone : z < length zones
-  pub begins : LiesIn b.frame (stretch_at zones z)
-  pub held : IsHeldAs (stretch_at zones z).1 (numbers_at zones numbers z) (block_within (stretch_at zones z) b)
+  pub begins : LiesInStretch b.frame (stretch_at zones z)
+  pub held : IsHeldAs (stretch_at zones z).1 (numbers_of_zone zones numbers z) (block_within (stretch_at zones z) b)
 
 -- the image of some zone holds the block in its own form
 abbrev pub IsHeldInOne : List Stretch → List ℕ → FrameBlock → Type 0
@@ -58,6 +58,15 @@ HasNoClaimsIn zones numbers claims status =
     ⊎ ((status ≡ bad_order) × ¬ All NamesAnOrder claims)
     ⊎ ((status ≡ not_held) × ¬ MayBeClaimedIn zones numbers claims)
     ⊎ (status ≡ no_memory)
+
+-- why blocks of these zones are not claimed once it is known where the numbers of each begin: the same, and memory
+-- was wanting only where the numbers are an image's and the orders are some
+abbrev pub HasNoClaimsOnceRead : List Stretch → List ℕ → List ClaimedBlock → (status : ℕ) → Type 0
+HasNoClaimsOnceRead zones numbers claims status =
+    ((status ≡ bad_image) × ¬ AreImagesOf zones numbers)
+    ⊎ ((status ≡ bad_order) × ¬ All NamesAnOrder claims)
+    ⊎ ((status ≡ not_held) × ¬ MayBeClaimedIn zones numbers claims)
+    ⊎ ((status ≡ no_memory) × AreImagesOf zones numbers × All NamesAnOrder claims)
 
 -- a block was not reached, of an image's of these zones that may be claimed
 abbrev pub IsUnreachedIn : List Stretch → List ℕ → List ClaimedBlock → (status : ℕ) → Type 0

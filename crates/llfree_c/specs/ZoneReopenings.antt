@@ -1,5 +1,5 @@
 -- The memories of zones that an opening at an image is asked for, and why there are none.
-use Rattle.std.specs.Prelude.{◌≡◌, ◌⊎◌, ℕ, ◌<◌, List, [], ◌∷◌, ◌++◌, Some, length, map, slice_index_or}
+use Rattle.std.specs.Prelude.{◌≡◌, ◌⊎◌, ℕ, ◌<◌, true, List, [], ◌∷◌, ◌++◌, Some, length, map, slice_index_or}
 use Rattle.std.specs.List.{All}
 use Rattle.std.specs.declared.alloc.Global.{Global}
 use Rattle.std.specs.declared.boxed.Box.{Box}
@@ -9,52 +9,55 @@ use Rattle.core_frames.specs.declared.shared.allocator.Core.{Core}
 use Rattle.frame_slots.specs.Slots.{laid_down}
 use Rattle.frame_slots.specs.Reopenings.{KeepsRest}
 use Rattle.frame_slots.specs.declared.receipt.Receipt.{Receipt}
+use Rattle.frame_zones.specs.Openings.{HaveHomes}
 use Rattle.frame_zones.specs.Zones.{core_at}
 use Rattle.frame_zones.specs.declared.zones.ZoneCore.{ZoneCore}
 use Rattle.zone_slots.specs.Layouts.{Stretch, stretch_at, AreEven}
-use Rattle.zone_slots.specs.Openings.{Shares, IsUnusedState}
+use Rattle.zone_slots.specs.Openings.{AreListsIn, Shares, IsUnusedState, parts_from_last}
 use Rattle.zone_slots.specs.ZoneClaims.{blocks_within}
 use Rattle.zone_slots.specs.declared.core_state.CoreState.{CoreState}
 use Rattle.zone_slots.specs.declared.memory.Memory.{Memory}
-use Rattle.llfree_c.specs.OpenCores.{HasZones, IsCoreBehind, IsOneOpen, core_behind, states_in}
+use Rattle.llfree_c.specs.OpenCores.{AreCoresInOrder, HasZones, IsCoreBehind, IsOneOpen, core_behind, states_in}
 use Rattle.llfree_c.specs.Openings.{pairs_of, HasNoZones, ZonesDoNotFit}
 use Rattle.llfree_c.specs.Status.{no_memory}
-use Rattle.llfree_c.specs.ZoneClaims.{numbers_at, AreClaimedOf, HasNoClaimsIn, IsUnreachedIn}
+use Rattle.llfree_c.specs.ZoneClaims.{numbers_of_zone, AreClaimedOf, HasNoClaimsIn, IsUnreachedIn}
 use Rattle.llfree_c.specs.declared.blocks.ClaimedBlock.{ClaimedBlock}
 use Rattle.llfree_c.specs.declared.core_handle.CoreHandle.{CoreHandle}
 use Rattle.llfree_c.specs.declared.ranges.FrameRange.{FrameRange}
 
 -- in each zone just those of the blocks that begin there were laid down before any core was handed out
-abbrev pub HasLaidDown : List Stretch → List FrameBlock → Memory → Type 0
-HasLaidDown zones blocks m = (z : ℕ) (r : Vec Receipt Global) → z < length zones
+abbrev pub LaysClaimsDown : List Stretch → List FrameBlock → Memory → Type 0
+LaysClaimsDown zones blocks m = (z : ℕ) (r : Vec Receipt Global) → z < length zones
     → map laid_down (slice_index_or m.reclaimed.items z r).items ≡ blocks_within (stretch_at zones z) blocks
 
 -- in each zone the core keeps just what the image holds there and none of the blocks has, and lends one block
 -- for each of those that begin there
-abbrev pub KeepsRests : List Stretch → List ℕ → List FrameBlock → ZoneCore → Type 0
-KeepsRests zones numbers blocks c = (z : ℕ) (x : Core) → z < length zones
-    → KeepsRest (stretch_at zones z).1 (numbers_at zones numbers z) (blocks_within (stretch_at zones z) blocks)
+abbrev pub KeepsUnclaimed : List Stretch → List ℕ → List FrameBlock → ZoneCore → Type 0
+KeepsUnclaimed zones numbers blocks c = (z : ℕ) (x : Core) → z < length zones
+    → KeepsRest (stretch_at zones z).1 (numbers_of_zone zones numbers z) (blocks_within (stretch_at zones z) blocks)
     (core_at c z x)
 
 -- the last core keeps the rest, and the others were not used yet
-pub record HasKeeper (zones : List Stretch) (numbers : List ℕ) (blocks : List FrameBlock)
+pub record HasKeeperAmong (zones : List Stretch) (numbers : List ℕ) (blocks : List FrameBlock)
     (states : List CoreState) : Type 0 where
   pub others : List CoreState
   pub keeper : CoreState
   pub are : states ≡ others ++ keeper ∷ []
   pub unused : All IsUnusedState others
-  pub keeps : KeepsRests zones numbers blocks keeper.core
+  pub keeps : KeepsUnclaimed zones numbers blocks keeper.core
 
--- these are so many cores of one memory of these zones with no ranges, which has laid down just these blocks; of
--- what the image with these numbers holds besides the last core keeps all
+-- these are so many cores of one memory of these zones with no ranges, with slots for its blocks, which has laid
+-- down just these; of what the image with these numbers holds besides the last core keeps all
 pub record ShareReopened (as_many : ℕ) (zones : List Stretch) (numbers : List ℕ) (blocks : List FrameBlock)
     (states : List CoreState) : Type 0 where
   pub count : length states ≡ as_many
   pub memory : Memory
   pub are_zones : HasZones as_many zones [] memory
-  pub laid : HasLaidDown zones blocks memory
+  pub slots : AreListsIn true memory.zones memory.slots.items
+  pub homes : HaveHomes as_many (length zones) (parts_from_last states)
+  pub laid : LaysClaimsDown zones blocks memory
   pub share : All (Shares memory) states
-  pub keeper : HasKeeper zones numbers blocks states
+  pub keeper : HasKeeperAmong zones numbers blocks states
 
 -- cores of these zones were opened at an image with these numbers, of which just the claimed blocks, which may be
 -- claimed, are out
@@ -81,15 +84,18 @@ pub record HasKeeperBehind (zones : List Stretch) (numbers : List ℕ) (blocks :
   pub others : List CoreState
   pub behind : map core_behind handles ≡ Some keeper ∷ map Some others
   pub unused : All IsUnusedState others
-  pub keeps : KeepsRests zones numbers blocks keeper.core
+  pub keeps : KeepsUnclaimed zones numbers blocks keeper.core
 
--- the cores behind all of the handles share one memory of these zones with no ranges, which has laid down just
--- these blocks; of what the image with these numbers holds besides the core behind the first handle keeps all
+-- the cores behind all of the handles, in their order, share one memory of these zones with no ranges, with slots
+-- for its blocks, which has laid down just these; of what the image with these numbers holds besides the core
+-- behind the first handle keeps all
 pub record ReopensIn (zones : List Stretch) (numbers : List ℕ) (blocks : List FrameBlock)
     (handles : List CoreHandle) : Type 0 where
   pub memory : Memory
   pub are_zones : HasZones (length handles) zones [] memory
-  pub laid : HasLaidDown zones blocks memory
+  pub slots : AreListsIn true memory.zones memory.slots.items
+  pub in_order : AreCoresInOrder (length zones) handles
+  pub laid : LaysClaimsDown zones blocks memory
   pub share : All (IsCoreBehind memory) handles
   pub keeper : HasKeeperBehind zones numbers blocks handles
 

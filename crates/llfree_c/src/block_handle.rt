@@ -5,8 +5,8 @@ ghost use Rattle.llfree_c.specs.Rights.{IsRightTo};
 
 use crate::block_right::BlockRight;
 use atomic_table::Seat;
-use frame_core::{Eye, HeldBlock};
-use frame_table::Block;
+use frame_core::HeldBlock;
+use frame_table::{Block, Watch};
 use std::mem::replace;
 
 /// Where all of its bytes are 0 it carries no block.
@@ -50,7 +50,7 @@ impl BlockHandle {
     }
 
     /// The number, the order and the right of the block that was carried; none is from then on.
-    pub(crate) fn take_out(&mut self) -> Option<(u32, u8, Seat<(), Eye>)>
+    pub(crate) fn take_out(&mut self) -> Option<(u32, u8, Seat<(), Watch>)>
         ensures some { IfSome result (λ r. Carries self.old r.0 r.1 r.2) }
         ensures empty { self.new.live ≡ false }
         ensures none { IfNone result ((self.old.live ≡ false) × (self.new ≡ self.old)) }

@@ -5,7 +5,7 @@ ghost use Rattle.frame_core.specs.Image.{key_in};
 ghost use Rattle.llfree_c.specs.Images.{image_words, SaysOfChild, SaysAll, StaysBehind};
 ghost use Rattle.frame_slots.specs.Numbers.{most_frames};
 ghost use Rattle.frame_zones.specs.Spans.{most_zones};
-ghost use Rattle.zone_slots.specs.ImageParts.{numbers_of};
+ghost use Rattle.zone_slots.specs.ImageParts.{image_numbers_of};
 ghost use Rattle.zone_slots.specs.Layouts.{Stretch, AreEven, MayBeLaidOut};
 
 use frame_core::Image;
@@ -20,7 +20,7 @@ pub extern "C" fn llfree_image_words(frames: u32) -> usize
     ensures some { frames ≤ most_frames * most_zones → result ≡ image_words frames }
     ensures none { most_frames * most_zones < frames → result ≡ 0 }
     ensures zones { (zones : List Stretch) → AreEven frames zones → MayBeLaidOut zones
-        → result ≡ numbers_of zones }
+        → result ≡ image_numbers_of zones }
 {
     if frames > MOST_FRAMES * MOST_ZONES as u32 {
         return 0;

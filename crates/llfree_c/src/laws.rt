@@ -1,5 +1,7 @@
-//! What would be wrong, and is not left: laws, proved as contracts of a function that does nothing.
+//! What would be wrong, and is neither answered nor left: laws, proved as contracts of functions that do
+//! nothing.
 
+ghost use Rattle.llfree_c.specs.WrongCalls.{CountIsTooHigh, NoBlockIsUnsought, NumberIsOfAHole};
 ghost use Rattle.llfree_c.specs.WrongImages.{BootFrameIsClearInImage, CountersAreOff, ImageIsOfNoState};
 ghost use Rattle.llfree_c.specs.WrongImages.{ZoneStandsAtAnothersPlace};
 
@@ -12,4 +14,12 @@ pub fn wrong_images_are_not_left()
     ensures boot_frame { BootFrameIsClearInImage }
     ensures counters { CountersAreOff }
     ensures zones { ZoneStandsAtAnothersPlace }
+{}
+
+/// No call answers what is wrong: no take a block with a frame in a hole, or that none was found after fewer
+/// moves in a zone than it has trees; and no count is above all frames.
+pub fn wrong_answers_are_not_given()
+    ensures holes { NumberIsOfAHole }
+    ensures unsought { NoBlockIsUnsought }
+    ensures counts { CountIsTooHigh }
 {}

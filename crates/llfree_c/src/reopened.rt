@@ -66,7 +66,7 @@ pub(crate) fn reopened_cores(
     ensures err { IfErr result (HasNoCoresAt frames numbers.now claims.now handles.now) }
 {
     let count = cores_for(handles)?;
-    if count == 0 || !are_zone_frames(frames) {
+    if !are_zone_frames(frames) {
         return Err(BAD_GEOMETRY);
     }
     let Ok(zones) = even_zones(heap, frames) else {

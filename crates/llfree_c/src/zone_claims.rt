@@ -6,7 +6,8 @@ ghost use Rattle.frame_slots.specs.Claims.{IsHeldAs};
 ghost use Rattle.frame_slots.specs.Numbers.{child_count_of, most_frames, IsImageOf};
 ghost use Rattle.zone_slots.specs.ImageParts.{AreStarts};
 ghost use Rattle.zone_slots.specs.Layouts.{MayBeLaidOut};
-ghost use Rattle.llfree_c.specs.ZoneClaims.{AreClaimedOf, AreImagesOf, HasNoClaimsIn, IsHeldInOne, MayBeClaimedIn};
+ghost use Rattle.llfree_c.specs.ZoneClaims.{AreClaimedOf, AreImagesOf, HasNoClaimsIn, HasNoClaimsOnceRead};
+ghost use Rattle.llfree_c.specs.ZoneClaims.{IsHeldInOne, MayBeClaimedIn};
 
 use crate::blocks::{ClaimedBlock, blocks_in, have_orders};
 use crate::statuses::{BAD_IMAGE, BAD_ORDER, NO_MEMORY, NOT_HELD};
@@ -33,14 +34,32 @@ pub(crate) fn claimed_in_zones(
     let Ok(starts) = image_starts(heap, zones) else {
         return Err(NO_MEMORY);
     };
-    if !are_images(zones, &starts, numbers) {
+    claimed_at(heap, zones, &starts, numbers, claims)
+}
+
+// The same, where the numbers of each zone begin at these places.
+fn claimed_at(
+    heap: Global,
+    zones: &[(u32, u32)],
+    starts: &[usize],
+    numbers: &[u64],
+    claims: &[ClaimedBlock],
+) -> Result<Vec<FrameBlock>, u32>
+    requires zones { MayBeLaidOut zones.now }
+    requires starts { AreStarts zones.now starts.now }
+    ensures claimed { IfOk result (λ blocks.
+        AreClaimedOf zones.now numbers.now claims.now blocks.items) }
+    ensures lawful { IfOk result (λ _. MayBeClaimedIn zones.now numbers.now claims.now) }
+    ensures err { IfErr result (HasNoClaimsOnceRead zones.now numbers.now claims.now) }
+{
+    if !are_images(zones, starts, numbers) {
         return Err(BAD_IMAGE);
     }
     if !have_orders(claims) {
         return Err(BAD_ORDER);
     }
     let blocks = blocks_in(heap, claims)?;
-    if !are_held_in(zones, &starts, numbers, &blocks) {
+    if !are_held_in(zones, starts, numbers, &blocks) {
         return Err(NOT_HELD);
     }
     if !are_apart(&blocks) {

@@ -3,12 +3,12 @@
 ghost use Rattle.std.specs.Prelude.{◌≡◌, ◌≤◌, MatchBool, IfOk, IfErr, length, map, vec_len};
 ghost use Rattle.std.specs.List.{All};
 ghost use Rattle.frame_words.specs.Geometry.{most_cores};
-ghost use Rattle.frame_zones.specs.Spans.{place_of};
+ghost use Rattle.frame_zones.specs.Spans.{place_of_span};
 ghost use Rattle.zone_slots.specs.Cuts.{MayBeHeldBack};
 ghost use Rattle.zone_slots.specs.Layouts.{AreZoneFrames};
 ghost use Rattle.zone_slots.specs.Openings.{AreAllCoresOf};
 ghost use Rattle.zone_slots.specs.ZoneSpans.{AreSpansOf, MayBeUsed};
-ghost use Rattle.llfree_c.specs.Openings.{IsUnopenedIn};
+ghost use Rattle.llfree_c.specs.Openings.{IsUnopenedOnceRead};
 ghost use Rattle.llfree_c.specs.Status.{no_memory};
 ghost use Rattle.llfree_c.specs.OpenCores.{HasNoCores, HasNoCoresIn, AreNotFor, IsClosedHandle};
 ghost use Rattle.llfree_c.specs.OpenCores.{ShareEven, ShareOne, ShareZones};
@@ -76,6 +76,7 @@ pub(crate) fn given_cores(
 /// How many cores there will be, where each handle is closed.
 pub(crate) fn cores_for(handles: &[CoreHandle]) -> Result<u32, u32>
     ensures count { IfOk result (λ n. n ≡ length handles.now) }
+    ensures some { IfOk result (λ n. 1 ≤ n) }
     ensures few { IfOk result (λ n. n ≤ most_cores) }
     ensures closed { IfOk result (λ _. All IsClosedHandle handles.now) }
     ensures err { IfErr result (AreNotFor handles.now) }
@@ -86,7 +87,7 @@ pub(crate) fn cores_for(handles: &[CoreHandle]) -> Result<u32, u32>
         }
     }
     let count = handles.len();
-    if count > MOST_CORES as usize {
+    if count == 0 || count > MOST_CORES as usize {
         return Err(BAD_GEOMETRY);
     }
     Ok(count as u32)
@@ -108,7 +109,7 @@ fn cores_in(
 ) -> Result<Vec<Box<CoreState, Global>>, u32>
     ensures cores { IfOk result (λ boxes.
         ShareOne has_slots cores zones.now ranges.now boxes.items) }
-    ensures err { IfErr result (IsUnopenedIn cores zones.now ranges.now) }
+    ensures err { IfErr result (IsUnopenedOnceRead cores zones.now ranges.now) }
 {
     let spans = spans_for(heap, cores, zones, ranges)?;
     let states = states_of(heap, cores, &spans, has_slots)?;
@@ -124,7 +125,7 @@ fn spans_for(
     ensures spans { IfOk result (λ spans. AreSpansOf cores zones.now ranges.now spans.items) }
     ensures used { IfOk result (λ _. MayBeUsed cores zones.now) }
     ensures held_back { IfOk result (λ _. MayBeHeldBack zones.now ranges.now) }
-    ensures err { IfErr result (IsUnopenedIn cores zones.now ranges.now) }
+    ensures err { IfErr result (IsUnopenedOnceRead cores zones.now ranges.now) }
 {
     match spans_of(heap, cores, zones, ranges) {
         Ok(spans) => Ok(spans),
@@ -141,7 +142,7 @@ fn states_of(
     has_slots: bool,
 ) -> Result<Vec<CoreState>, u32>
     ensures cores { IfOk result (λ states.
-        AreAllCoresOf has_slots cores (map place_of spans.now) states.items) }
+        AreAllCoresOf has_slots cores (map place_of_span spans.now) states.items) }
     ensures err { IfErr result (λ e. e ≡ no_memory) }
 {
     let opened = if has_slots {

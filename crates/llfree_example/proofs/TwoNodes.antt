@@ -9,8 +9,8 @@ use Rattle.core_frames.specs.declared.shared.allocator.Allocator.{Allocator}
 use Rattle.frame_zones.specs.Laws.{LiesInZone}
 use Rattle.frame_zones.specs.Openings.{IsAt, AreOpened}
 use Rattle.frame_zones.specs.Sizes.{end_from}
-use Rattle.frame_zones.specs.Spans.{Place, place_of}
-use Rattle.frame_zones.specs.Zones.{first_frame_in, IsOutIn}
+use Rattle.frame_zones.specs.Spans.{Place, place_of_span}
+use Rattle.frame_zones.specs.Zones.{first_frame_in, IsOutOfItsZone}
 use Rattle.frame_zones.specs.declared.block.ZoneBlock.{ZoneBlock}
 use Rattle.frame_zones.specs.declared.spans.Span.{Span}
 use Rattle.frame_zones.specs.declared.zones.Zones.{Zones}
@@ -41,14 +41,14 @@ nodes_of p q zs cs opened lower upper p-children q-children (suc (suc z)) a with
 pub nodes_if : {Z : Type 0} (r : Result (Zones × Vec ZoneCore Z) Fault) (spans : List Span) (lower upper : Span)
     → spans ≡ lower ∷ upper ∷ [] → lower.first ≡ 0 → upper.first ≡ second_node
     → lower.geometry.children ≡ 2048 → upper.geometry.children ≡ 2048
-    → IfOk r (λ o. AreOpened 2 (map place_of spans) o.0 o.1.items) → IfOk r (λ o. AreNodes o.0)
+    → IfOk r (λ o. AreOpened 2 (map place_of_span spans) o.0 o.1.items) → IfOk r (λ o. AreNodes o.0)
 nodes_if (Ok o) spans lower upper are lower-first upper-first lower-children upper-children opened =
-    nodes_of (place_of lower) (place_of upper) o.0 o.1.items
-    (subst (λ (l : List Span). AreOpened 2 (map place_of l) o.0 o.1.items) are opened)
+    nodes_of (place_of_span lower) (place_of_span upper) o.0 o.1.items
+    (subst (λ (l : List Span). AreOpened 2 (map place_of_span l) o.0 o.1.items) are opened)
     lower-first upper-first lower-children upper-children
 nodes_if (Err e) spans lower upper are lower-first upper-first lower-children upper-children opened = tt
 
-pub on_node : (zs : Zones) (b : ZoneBlock) → AreNodes zs → IsOutIn zs b → LiesInZone zs b
+pub on_node : (zs : Zones) (b : ZoneBlock) → AreNodes zs → IsOutOfItsZone zs b → LiesInZone zs b
     → LiesOnNode (2 ^ (block_in b.block).order) zs b
 on_node zs b nodes out lies x from to =
     let a : Allocator = some_zone zs b.zone out.zone in

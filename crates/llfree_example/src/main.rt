@@ -1,8 +1,10 @@
 //! A first program: two threads take and give blocks of one memory. Each hands a block back, the two share no
-//! frame, and once both are given no frame is held. Then a machine with two nodes and a hole between them.
+//! frame, and once both are given no frame is held. Then one core of all, and a machine with two nodes and a hole
+//! between them.
 #![tactic(auto)]
 
 mod nodes;
+mod one_core;
 
 ghost use Rattle.std.specs.Prelude.{◌≡◌, ◌+◌, ◌+ℤ◌, ◌≤◌, ℕ, pos, [], IfOk, IfSome};
 ghost use Rattle.std.specs.List.{All};
@@ -17,6 +19,7 @@ use frame_image::held_frames;
 use frame_table::Block;
 use frame_words::{Fault, Geometry};
 use nodes::two_nodes;
+use one_core::alone;
 use std::alloc::Global;
 use std::io;
 use std::thread::{Threads, join};
@@ -127,6 +130,10 @@ fn run<R: Threads + Sync>(rt: &R, alloc: Global) -> Result<u32, Fault>
 fn main(rt: HostRuntime) -> io::Result<()> {
     match run(&rt, rt.alloc()) {
         Ok(held) => println!(rt; "{held} frames are held")?,
+        Err(fault) => println!(rt; "{fault}")?,
+    }
+    match alone(rt.alloc()) {
+        Ok(free) => println!(rt; "alone: a huge frame is taken, {free} of 4096 frames are free")?,
         Err(fault) => println!(rt; "{fault}")?,
     }
     match two_nodes(rt.alloc()) {

@@ -4,7 +4,7 @@
 ghost use Rattle.std.specs.Prelude.{◌≡◌, ◌^◌, IfOk, IfSome};
 ghost use Rattle.std.specs.List.{All};
 ghost use Rattle.frame_table.specs.Seats.{block_in};
-ghost use Rattle.frame_zones.specs.Zones.{AreCoresOf, IsOutIn};
+ghost use Rattle.frame_zones.specs.Zones.{AreCoresOf, IsOutOfItsZone};
 ghost use Rattle.llfree_example.specs.Nodes.{AreNodes, LiesOnNode, IsOnNode};
 
 use frame_words::{Fault, Geometry, TakeFault};
@@ -63,7 +63,7 @@ fn take(zones: &Zones, core: &mut ZoneCore, order: u8) -> Result<ZoneBlock, Take
     requires nodes { AreNodes zones.now }
     requires core { AreCoresOf zones.now core.old }
     ensures core { AreCoresOf zones.now core.new }
-    ensures out { IfOk result (IsOutIn zones.now) }
+    ensures out { IfOk result (IsOutOfItsZone zones.now) }
     ensures on_node { IfOk result (λ b. LiesOnNode (2 ^ (block_in b.block).order) zones.now b) }
 {
     let block = zones.take(core, order)?;

@@ -13,3 +13,4 @@ pub mod HeldLemmas
 pub mod FlightLemmas
 pub mod GiveAlone
 pub mod WideAlone
+pub mod SinglesLemmas

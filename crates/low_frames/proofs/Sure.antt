@@ -85,8 +85,8 @@ module _ {T H : Type 0} where
   }
 
   pub sure_in : {t : ℕ → ℕ} {a b : Mover T H} {block_of : H → FrameBlock} {held : H} → (a.is_alone → a.is_undisturbed)
-      → HandsIn t block_of held a b → StaysSure a b
-  sure_in still m = record {
-    is_sure = λ s. (m.keeps.stays_alone s.0, (s.1.0, m.words (still s.0) ∙ s.1.1));
+      → HandsIn t block_of held a b → a.remembers → StaysSure a b
+  sure_in still m so = record {
+    is_sure = λ s. (m.keeps.stays_alone s.0, (s.1.0, m.words so (still s.0) ∙ s.1.1));
     loses_none = λ s. record { missed = m.missed; lost = ap (λ v. v.lost) m.view };
   }

@@ -50,3 +50,19 @@ most_words = child_words / 2
 -- a give in a tree: the block comes in, its bit words are released, and its frames are refunded
 abbrev pub most_to_give_back : ℕ
 most_to_give_back = 1 + most_words + 1
+
+-- single frames of a bit word, k together: each run is tried and each frame goes out, and one try more finds none
+abbrev pub most_in_word_singles : ℕ → ℕ
+most_in_word_singles k = attempt * (k + 1) + k
+
+-- single frames of the bit words of a child, k together
+abbrev pub most_in_words_singles : ℕ → ℕ
+most_in_words_singles k = attempt * (k + child_words) + k
+
+-- single frames of a child, k together: its entry is loaded, charged and refunded
+abbrev pub most_in_child_singles : ℕ → ℕ
+most_in_child_singles k = 2 + attempt + most_in_words_singles k
+
+-- single frames of a tree, k together: each of its children is tried
+abbrev pub most_in_tree_singles : ℕ → ℕ
+most_in_tree_singles k = tree_children * most_in_child_singles 0 + (attempt + 1) * k

@@ -4,7 +4,7 @@ use Rattle.frame_model.specs.declared.block.FrameBlock.{FrameBlock}
 use Rattle.frame_model.specs.declared.view.View.{View}
 use Rattle.frame_model.specs.Key.{tree_of, tree_of_child}
 use Rattle.frame_model.specs.View.{NoneBut}
-use Rattle.frame_core.specs.Mover.{Mover, KeepsOthers}
+use Rattle.frame_core.specs.Mover.{Mover, KeepsOthers, KnowsWords}
 use Rattle.frame_model.specs.Steps.Amounts.{more}
 use Rattle.low_frames.specs.Takes.{Counts, StaysSure}
 use Rattle.low_frames.specs.Alone.{WordsGive}
@@ -42,5 +42,6 @@ pub record Gives {T H : Type 0} (block_of : H → FrameBlock) (exact : ℕ → T
   pub keeps : KeepsOthers block_of (block_of given) old new
   pub counts : Counts exact most old new
   pub back : V old.view new.view
-  pub sure : StaysSure old new
-  pub alone_given : old.is_alone → WordsGive old.key old.words new.words (block_of given)
+  pub sure : old.remembers → StaysSure old new
+  pub knows : KnowsWords new
+  pub alone_given : old.remembers → old.is_alone → WordsGive old.key old.words new.words (block_of given)

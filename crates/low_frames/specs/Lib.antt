@@ -5,3 +5,4 @@ pub mod Groups
 pub mod Alone
 pub mod Outcomes
 pub mod Parts
+pub mod Singles

@@ -5,6 +5,7 @@ mod attempts;
 mod gives;
 mod huge;
 mod in_tree;
+mod singles;
 mod small;
 mod wide;
 
@@ -12,5 +13,6 @@ pub use attempts::TRIES;
 pub use gives::give_low;
 pub use huge::take_huge;
 pub use in_tree::take_in_tree;
+pub use singles::take_some;
 pub use small::take_small;
 pub use wide::take_wide;

@@ -238,6 +238,7 @@ made_by key words bytes v w kind p x agrees share may made is_word is_view is_pl
   view = sym (any ∙ is_view);
   reads = λ i n. reads_but words p x i (λ e. n (e ∙ sym is_place));
   words = λ u. written words p (place key kind) x _ (sym is_place) (sym is_word);
+  knows = (_, refl);
   apart = apart_known key (set words p x) bytes w
       (stepped key words bytes v w kind p x agrees share may made is_word is_view is_place);
 }

@@ -106,6 +106,7 @@ plain_mover key them words bytes v = record {
   is_undisturbed = Unit {0};
   is_alone = All IsIdleParty them.parties.items;
   loses_at_will = ⊥;
+  remembers = Unit {0};
   is_out = λ b. IsOutIn bytes b;
 }
 

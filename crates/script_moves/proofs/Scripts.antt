@@ -206,6 +206,7 @@ module _ (m r w n : Stage) (p : PlainMoves) (kind : Kind) (q : ℕ) (ready : IsR
     view = ap view_by now ∙ is.view ∙ ap (after plain_tick kind) ready.still.view;
     reads = reads_by is.keeps.same_key;
     words = changed m r p n.plain ready now kind (is.words tt);
+    knows = (_, refl);
     apart = subst (λ (w : PlainMoves). IsApart (key_by m.plain) (view_by w)) (sym now)
         (subst (λ (k : Key). IsApart k (view_by p)) ready.still.key is.apart);
   }
@@ -340,7 +341,8 @@ module _ (m r : Stage) (p : PlainMoves) (ready : IsReady m r) (b : FrameBlock) w
         missed = ready.untold.missed;
         view = is.view ∙ (λ k. joined_by plain_tick hand_in (ready.still.view k) (holder (Some (ready.still.key k)) b));
         reads = reads_on;
-        words = λ none. words_on (is.words tt) none;
+        stays_so = λ so. so;
+        words = λ so none. words_on (is.words tt tt) none;
       }
 
 -- The caller's own step.

@@ -47,6 +47,7 @@ scripted plain cues read begun missed = record {
   is_undisturbed = NoneAt (moves_by plain - begun) cues;
   is_alone = IsOver (moves_by plain - begun) cues plain;
   loses_at_will = LosesAt (moves_by plain - begun) cues;
+  remembers = Unit {0};
   is_out = λ b. IsOutIn plain.outs.items b;
 }
 

@@ -18,7 +18,6 @@ use Rattle.csv.specs.declared.parser.State.TheVariants as st
 use Rattle.csv.specs.Writing.{default_writer, is_blank, row_body, row_text}
 use Rattle.csv.proofs.RoundTrip.{read-write-many}
 use Rattle.frame_text.specs.Records.{records_of}
-use Rattle.trace_text.specs.PlainRows.{BeginsWith}
 
 -- the records of a text from a state on, with the fields and the bytes of the field at hand
 rows_onward : State → List (List ℕ) → List ℕ → List ℕ → List (List (List ℕ))
@@ -83,11 +82,11 @@ row_first a b others behind =
     (omega (arith, row_is_long a b others, length-append (row_text default_writer (a ∷ b ∷ others)) behind))))
 
 -- so it has where no byte order mark is read over
-pub records_of_row : (a b : List ℕ) (others : List (List ℕ)) (text behind : List ℕ)
-    → strip_bom text ≡ text → BeginsWith text (a ∷ b ∷ others) behind
-    → records_of text ≡ (a ∷ b ∷ others) ∷ records_of behind
-records_of_row a b others text behind same begins =
-    rw (same, begins.unmarked, begins.whole) (row_first a b others behind)
+pub records_of_row : (a b : List ℕ) (others : List (List ℕ)) (behind : List ℕ)
+    → strip_bom (row_text default_writer (a ∷ b ∷ others) ++ behind) ≡ row_text default_writer (a ∷ b ∷ others) ++ behind
+    → strip_bom behind ≡ behind
+    → records_of (row_text default_writer (a ∷ b ∷ others) ++ behind) ≡ (a ∷ b ∷ others) ∷ records_of behind
+records_of_row a b others behind same unmarked = rw (same, unmarked) (row_first a b others behind)
 
 -- a state outside quotes and comments, with no field at hand between two records
 abbrev IsPlain : State → List (List ℕ) → List ℕ → Type 0

@@ -102,7 +102,8 @@ begins cores number made out (row ∷ rows) e =
     let others = begins cores (number + 1) (made ++ first.line ∷ []) out rows first.others in
     (first.line ∷ others.0, others.1 ∙ append_assoc made (first.line ∷ []) others.0)
 
-last_is : (lines : List Line) (line : Line) → last_line (lines ++ line ∷ []) ≡ Some line
+-- the last of records is the one that was put behind them
+pub last_is : (lines : List Line) (line : Line) → last_line (lines ++ line ∷ []) ≡ Some line
 last_is lines line =
     let less : length lines + 1 - 1 ≡ length lines = omega arith in
     rw (length_push lines line, less, slice_get-get_or (lines ++ line ∷ []) (length lines) line (omega (arith, length_push lines line)))

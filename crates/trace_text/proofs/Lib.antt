@@ -6,6 +6,5 @@ pub mod Cutting
 pub mod Joining
 pub mod InParts
 pub mod RoundParts
-pub mod PlainRows
 pub mod AnswerRows
 pub mod Spelling

@@ -5,10 +5,9 @@ use Rattle.std.proofs.Math.Bool.{and-true}
 use Rattle.std.proofs.lemmas.List.{length_push}
 use Rattle.std.proofs.lemmas.List.Folds.{list_all-append}
 use Rattle.frame_text.specs.Records.{read_records, records_of}
-use Rattle.trace_text.specs.PlainRows.{IsReadTo}
 use Rattle.trace_text.specs.Trace.{core_count, cores_in, is_ask, is_one_round, most_records, range_in, ranges_in}
 use Rattle.trace_text.specs.declared.line.Line.{Line}
-use Rattle.trace_text.specs.TraceText.{line_after, lines_with, trace_of}
+use Rattle.trace_text.specs.TraceText.{IsReadTo, line_after, lines_with, trace_of}
 use Rattle.trace_text.proofs.Cores.{core_count_more}
 use Rattle.trace_text.proofs.Ranges.{ranges_in_more}
 

@@ -1,22 +1,22 @@
 -- The text of records reads as these records.
-use Rattle.std.specs.Prelude.{◌≢◌, ◌≤◌, codes, decimal, nat_lt}
+use Rattle.std.specs.Prelude.{◌≢◌, ◌≤◌, codes, decimal, nat_lt, replicate, ⊤}
 use Rattle.std.specs.List.{All}
-use Rattle.std.proofs.Common.{◌≡◌, ◌∙◌, ◌<◌, ◌+◌, ◌%◌, ◌^◌, ◌∷◌, ◌++◌, [], ℕ, List, Some, Ok, ap, append_assoc, append-nil, arith, get_or, length, refl, sym, true}
+use Rattle.std.proofs.Common.{◌≡◌, ◌∙◌, ◌<◌, ◌+◌, ◌%◌, ◌^◌, ◌∷◌, ◌++◌, [], ℕ, zero, suc, List, Option, None, Some, Ok, ap, append_assoc, append-nil, arith, false, length, refl, sym, true}
 use Rattle.std.proofs.lemmas.Bool.{ne_eqb}
 use Rattle.std.proofs.lemmas.Bool.Decides.{nat_tests}
 use Rattle.std.proofs.lemmas.Fmt.{decimal_by_steps}
-use Rattle.std.proofs.lemmas.List.{length_push, length-append}
+use Rattle.std.proofs.lemmas.List.{get_or-replicate, length_push, length-append, length-replicate}
+use Rattle.std.proofs.lemmas.List.Folds.{list_any-append}
 use Rattle.std.proofs.lemmas.List.Elements.{All-cons, All-head, All-nil, All-tail}
 use Rattle.std.specs.Fmt.{digits}
 use Rattle.csv.specs.Machine.{next_record}
 use Rattle.csv.specs.Reading.{records_from, strip_bom}
-use Rattle.csv.specs.Writing.{default_writer, fields_text, is_blank, row_text}
+use Rattle.csv.specs.Writing.{default_writer, fields_text, is_blank, needs_byte, needs_quotes, row_text}
 use Rattle.frame_words.specs.Geometry.{most_cores}
 use Rattle.held_blocks.specs.Label.{is_label, is_label_byte, label_of}
 use Rattle.frame_text.specs.Records.{read_records, records_of}
 use Rattle.frame_text.proofs.NumberLemmas.{number_below-decimal}
-use Rattle.trace_text.specs.PlainRows.{BeginsWith}
-use Rattle.trace_text.specs.Spelling.{IsRecord, IsSampleSpelled, IsTraceFor, TracesReadBack, fields_of, sample, spelled}
+use Rattle.trace_text.specs.Spelling.{AreMost, IsRecord, IsSampleSpelled, IsTraceFor, TracesReadBack, fields_of, long_label, sample, spelled}
 use Rattle.trace_text.specs.Trace.{most_records}
 use Rattle.trace_text.specs.TraceText.{ask_of, give_at_of, give_of, last_line, line_after, line_of, lines_with, may_follow, move_of}
 use Rattle.trace_text.specs.TraceText.{record_of, request_of, reserve_of, round_of, take_of, trace_of}
@@ -24,8 +24,24 @@ use Rattle.trace_text.specs.declared.line.Line.{Line}
 use Rattle.trace_text.specs.declared.line.Line.TheVariants as line
 use Rattle.trace_text.specs.declared.line.Request.TheVariants as request
 use Rattle.trace_text.proofs.Cutting.{records_of_row}
+use Rattle.trace_text.proofs.Joining.{last_is}
 use Rattle.trace_text.proofs.Parsing.{read_all, read_more}
-use Rattle.trace_text.proofs.PlainRows.{number_is_plain}
+
+-- a digit calls for no quotes
+digit_is_plain : (d : ℕ) → needs_byte default_writer (48 + d) ≡ false
+digit_is_plain d =
+    let comma = ne_eqb (48 + d) 44 (λ e. omega arith) in
+    let quote = ne_eqb (48 + d) 34 (λ e. omega arith) in
+    let feed = ne_eqb (48 + d) 10 (λ e. omega arith) in
+    let back = ne_eqb (48 + d) 13 (λ e. omega arith) in
+    rw (comma, quote, feed, back) refl
+
+-- a number calls for no quotes
+number_is_plain : (n : ℕ) → n < 2 ^ 64 → needs_quotes default_writer (decimal n) ≡ false
+number_is_plain n small =
+    decimal_by_steps (λ m ds. needs_quotes default_writer ds ≡ false) (λ m low. rw (digit_is_plain m) refl)
+    (λ m ds high before. rw (list_any-append (needs_byte default_writer) ds ((48 + m % 10) ∷ []), before, digit_is_plain (m % 10)) refl)
+    n small
 
 -- a text that begins with another byte begins with no byte order mark
 other_byte : (c : ℕ) (cs : List ℕ) → c ≢ 239 → strip_bom (c ∷ cs) ≡ c ∷ cs
@@ -116,23 +132,25 @@ text_unmarked cores [] few each = refl
 text_unmarked cores (line ∷ lines) few each = row_unmarked cores line (spelled lines) few (All-head (IsRecord cores) line lines each)
 
 -- the record that a text begins with, and those behind it
-first_of_row : (line : Line) (text behind : List ℕ) → strip_bom text ≡ text → BeginsWith text (fields_of line) behind
-    → records_of text ≡ fields_of line ∷ records_of behind
+first_of_row : (line : Line) (behind : List ℕ)
+    → strip_bom (row_text default_writer (fields_of line) ++ behind) ≡ row_text default_writer (fields_of line) ++ behind
+    → strip_bom behind ≡ behind
+    → records_of (row_text default_writer (fields_of line) ++ behind) ≡ fields_of line ∷ records_of behind
 unfolding fields_of
-first_of_row (line.Ask core (request.Take label order)) text behind same begins = records_of_row _ _ _ text behind same begins
-first_of_row (line.Ask core (request.Give label)) text behind same begins = records_of_row _ _ _ text behind same begins
-first_of_row (line.Ask core (request.GiveAt frame order)) text behind same begins = records_of_row _ _ _ text behind same begins
-first_of_row (line.Move core label to) text behind same begins = records_of_row _ _ _ text behind same begins
-first_of_row line.Round text behind same begins = records_of_row _ _ _ text behind same begins
-first_of_row (line.Reserve frame count) text behind same begins = records_of_row _ _ _ text behind same begins
+first_of_row (line.Ask core (request.Take label order)) behind same unmarked = records_of_row _ _ _ behind same unmarked
+first_of_row (line.Ask core (request.Give label)) behind same unmarked = records_of_row _ _ _ behind same unmarked
+first_of_row (line.Ask core (request.GiveAt frame order)) behind same unmarked = records_of_row _ _ _ behind same unmarked
+first_of_row (line.Move core label to) behind same unmarked = records_of_row _ _ _ behind same unmarked
+first_of_row line.Round behind same unmarked = records_of_row _ _ _ behind same unmarked
+first_of_row (line.Reserve frame count) behind same unmarked = records_of_row _ _ _ behind same unmarked
 
 -- the first record of a text of records, and those behind it
 first_of_text : (cores : ℕ) (line : Line) (lines : List Line) → cores ≤ most_cores → All (IsRecord cores) (line ∷ lines)
     → records_of (spelled (line ∷ lines)) ≡ fields_of line ∷ records_of (spelled lines)
 unfolding spelled
 first_of_text cores line lines few each =
-    first_of_row line (spelled (line ∷ lines)) (spelled lines) (text_unmarked cores (line ∷ lines) few each)
-    record { whole = refl; unmarked = text_unmarked cores lines few (All-tail (IsRecord cores) line lines each) }
+    first_of_row line (spelled lines) (text_unmarked cores (line ∷ lines) few each)
+    (text_unmarked cores lines few (All-tail (IsRecord cores) line lines each))
 
 -- nothing has no records
 none_in_nothing : records_of [] ≡ []
@@ -160,45 +178,81 @@ pub traces_read_back : TracesReadBack
 unfolding trace_of
 traces_read_back cores lines few trace = read_to_end cores lines [] lines few trace refl trace.each
 
--- the sample may stand as it does
-sample_in_order : (front behind : List Line) (l : Line) → sample ≡ front ++ l ∷ behind → may_follow (last_line front) l ≡ true
+-- each record may come behind the one before it, the first behind this one
+abbrev InOrder : Option Line → List Line → Type 0
+InOrder before [] = ⊤
+InOrder before (line ∷ lines) = (may_follow before line ≡ true) × InOrder (Some line) lines
+
+-- so it may wherever records are cut
+goes_there : (done lines front behind : List Line) (l : Line) → InOrder (last_line done) lines → lines ≡ front ++ l ∷ behind
+    → may_follow (last_line (done ++ front)) l ≡ true
+goes_there done [] front behind l order e =
+    absurd (omega (arith, ap (λ (t : List Line). length t) e, length-append front (l ∷ behind)))
+goes_there done (x ∷ lines) [] behind l order e =
+    let same : x ≡ l = cc in
+    rw (append-nil done, ← same) order.0
+goes_there done (x ∷ lines) (y ∷ front) behind l order e =
+    let same : x ≡ y = cc in
+    let rest : lines ≡ front ++ l ∷ behind = cc in
+    rw (← append_assoc done (y ∷ []) front)
+    (goes_there (done ++ y ∷ []) lines front behind l (rw (last_is done y, ← same) order.1) rest)
+
+-- ends of rounds may come behind any record
+rounds_in_order : (n : ℕ) (before : Option Line) → InOrder before (replicate n line.Round)
 unfolding may_follow
-sample_in_order [] behind l e =
-    let here = ap (λ (t : List Line). get_or t 0 line.Round) e in
-    rw (← here) refl
-sample_in_order (x ∷ []) behind l e =
-    let last = ap (λ (t : List Line). get_or t 0 line.Round) e in
-    let here = ap (λ (t : List Line). get_or t 1 line.Round) e in
-    rw (← last, ← here) refl
-sample_in_order (x ∷ y ∷ []) behind l e =
-    let last = ap (λ (t : List Line). get_or t 1 line.Round) e in
-    let here = ap (λ (t : List Line). get_or t 2 line.Round) e in
-    rw (← last, ← here) refl
-sample_in_order (x ∷ y ∷ z ∷ []) behind l e =
-    let last = ap (λ (t : List Line). get_or t 2 line.Round) e in
-    let here = ap (λ (t : List Line). get_or t 3 line.Round) e in
-    rw (← last, ← here) refl
-sample_in_order (x ∷ y ∷ z ∷ w ∷ others) behind l e =
-    absurd (omega (arith, ap (λ (t : List Line). length t) e, length-append others (l ∷ behind)))
+rounds_in_order zero before = tt
+rounds_in_order (suc n) before = (refl, rounds_in_order n (Some line.Round))
+
+-- they are a trace, if there are few enough
+rounds_are : (n : ℕ) → n ≤ most_records → IsTraceFor 1 (replicate n line.Round)
+unfolding IsRecord
+rounds_are n few = record {
+  few = rw (length-replicate n line.Round) few;
+  each = λ i d lt. rw (get_or-replicate n i line.Round d (rw (length-replicate n line.Round) at lt)) tt;
+  order = λ front behind l e. goes_there [] (replicate n line.Round) front behind l (rounds_in_order n None) e;
+}
+
+-- the bound is this number
+pub are_most : AreMost
+are_most = record {
+  most = rounds_are 1_000_000 (omega arith);
+  one_more = λ cores lines many trace. omega (arith, many, trace.few);
+}
+
+-- the sample may stand as it does
+sample_in_order : InOrder None sample
+unfolding may_follow
+sample_in_order = (refl, (refl, (refl, (refl, (refl, (refl, tt))))))
+
+-- each of its records is one
+each_of_sample : All (IsRecord 64) sample
+unfolding IsRecord is_label is_label_byte
+each_of_sample =
+    let P : Line → Type 0 = IsRecord 64 in
+    let a : Line = line.Reserve 4_294_967_295 4_294_967_295 in
+    let b : Line = line.Ask 63 (request.Take long_label 255) in
+    let d : Line = line.Ask 63 (request.Give long_label) in
+    let e : Line = line.Ask 63 (request.GiveAt 4_294_967_295 255) in
+    let f : Line = line.Move 63 long_label 0 in
+    let range : P a = (omega arith, omega arith) in
+    let take : P b = (omega arith, refl, omega arith) in
+    let give : P d = (omega arith, refl) in
+    let give_at : P e = (omega arith, omega arith, omega arith) in
+    let move : P f = (omega arith, refl, omega arith) in
+    All-cons P a (b ∷ d ∷ e ∷ line.Round ∷ f ∷ []) range
+    (All-cons P b (d ∷ e ∷ line.Round ∷ f ∷ []) take
+    (All-cons P d (e ∷ line.Round ∷ f ∷ []) give
+    (All-cons P e (line.Round ∷ f ∷ []) give_at
+    (All-cons P line.Round (f ∷ []) tt (All-cons P f [] move (All-nil P))))))
 
 -- the sample is a trace, and has this text
 pub sample_is_spelled : IsSampleSpelled
-unfolding IsRecord is_label is_label_byte spelled fields_of fields_text is_blank digits
-sample_is_spelled =
-    let a : Line = line.Reserve 512 4 in
-    let b : Line = line.Ask 0 (request.Take (codes "a") 3) in
-    let d : Line = line.Move 0 (codes "a") 1 in
-    let range : IsRecord 2 a = (omega arith, omega arith) in
-    let ask : IsRecord 2 b = (omega arith, refl, omega arith) in
-    let move : IsRecord 2 d = (omega arith, refl, omega arith) in
-    let last = All-cons (IsRecord 2) d [] move (All-nil (IsRecord 2)) in
-    let behind = All-cons (IsRecord 2) line.Round (d ∷ []) tt last in
-    record {
-      lawful = record {
-        few = omega arith;
-        each = All-cons (IsRecord 2) a (b ∷ line.Round ∷ d ∷ []) range
-            (All-cons (IsRecord 2) b (line.Round ∷ d ∷ []) ask behind);
-        order = sample_in_order;
-      };
-      text = refl;
-    }
+unfolding spelled fields_of fields_text is_blank digits
+sample_is_spelled = record {
+  lawful = record {
+    few = omega arith;
+    each = each_of_sample;
+    order = λ front behind l e. goes_there [] sample front behind l sample_in_order e;
+  };
+  text = refl;
+}

@@ -1,5 +1,5 @@
 -- The text of answers.
-use Rattle.std.specs.Prelude.{ℕ, List, [], ◌∷◌, ◌++◌, codes, decimal}
+use Rattle.std.specs.Prelude.{ℕ, List, [], ◌∷◌, ◌++◌, codes, decimal, Option, Some, None}
 use Rattle.std.specs.List.{flat_map}
 use Rattle.csv.specs.Writing.{default_writer, row_text}
 use Rattle.frame_words.specs.declared.fault.Fault.{Fault}
@@ -15,6 +15,11 @@ word_of fault.NoBlock = codes "NoBlock"
 word_of fault.Contended = codes "Contended"
 word_of fault.NotHeld = codes "NotHeld"
 word_of _ = []
+
+-- the fields of a block, if there is one
+abbrev pub block_fields : Option (ℕ × ℕ) → List (List ℕ)
+block_fields (Some b) = decimal b.0 ∷ decimal b.1 ∷ []
+block_fields None = [] ∷ [] ∷ []
 
 -- the word for a reply, and the block that it names
 abbrev pub reply_fields : Reply → List (List ℕ)

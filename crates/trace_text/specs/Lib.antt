@@ -1,6 +1,5 @@
 pub mod Trace
 pub mod TraceText
-pub mod PlainRows
 pub mod Parts
 pub mod AnswerText
 pub mod Spelling

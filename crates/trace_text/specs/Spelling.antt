@@ -1,5 +1,5 @@
 -- How a trace is spelled.
-use Rattle.std.specs.Prelude.{ℕ, ◌^◌, ◌≡◌, ◌≤◌, ◌<◌, ◌++◌, true, List, [], ◌∷◌, codes, decimal, length, Ok}
+use Rattle.std.specs.Prelude.{ℕ, ◌^◌, ◌≡◌, ◌≤◌, ◌<◌, ◌++◌, true, List, [], ◌∷◌, codes, decimal, length, replicate, Ok}
 use Rattle.std.specs.List.{All, flat_map}
 use Rattle.csv.specs.Writing.{default_writer, row_text}
 use Rattle.frame_words.specs.Geometry.{most_cores}
@@ -47,13 +47,32 @@ TracesReadBack =
     (cores : ℕ) (lines : List Line) → cores ≤ most_cores → IsTraceFor cores lines
     → trace_of cores (spelled lines) ≡ Ok lines
 
--- a range, a take, the end of a round and a move
+-- a label of 16 bytes
+abbrev pub long_label : List ℕ
+long_label = codes "09_azAZ-09_azAZ-"
+
+-- a record of each kind, with the greatest numbers and a label of most bytes
 abbrev pub sample : List Line
 sample =
-    line.Reserve 512 4 ∷ line.Ask 0 (request.Take (codes "a") 3) ∷ line.Round ∷ line.Move 0 (codes "a") 1 ∷ []
+    line.Reserve 4_294_967_295 4_294_967_295 ∷ line.Ask 63 (request.Take long_label 255)
+    ∷ line.Ask 63 (request.Give long_label) ∷ line.Ask 63 (request.GiveAt 4_294_967_295 255)
+    ∷ line.Round ∷ line.Move 63 long_label 0 ∷ []
 
--- these four records are a trace for two cores, and are spelled so
+-- the text of these records
+abbrev pub sample_text : List ℕ
+sample_text = codes ",reserve,4294967295,4294967295" ++ line_feed
+    ∷ (codes "63,take,09_azAZ-09_azAZ-,255" ++ line_feed
+    ∷ (codes "63,give,09_azAZ-09_azAZ-," ++ line_feed
+    ∷ (codes "63,giveat,4294967295,255" ++ line_feed
+    ∷ (codes ",round,," ++ line_feed
+    ∷ (codes "63,move,09_azAZ-09_azAZ-,0" ++ line_feed ∷ [])))))
+
+-- these six records are a trace for 64 cores, and are spelled so
 pub record IsSampleSpelled : Type 0 where
-  pub lawful : IsTraceFor 2 sample
-  pub text : spelled sample ≡ codes ",reserve,512,4" ++ line_feed ∷ (codes "0,take,a,3" ++ line_feed
-      ∷ (codes ",round,," ++ line_feed ∷ (codes "0,move,a,1" ++ line_feed ∷ [])))
+  pub lawful : IsTraceFor 64 sample
+  pub text : spelled sample ≡ sample_text
+
+-- 1,000,000 records may be a trace, and no more
+pub record AreMost : Type 0 where
+  pub most : IsTraceFor 1 (replicate 1_000_000 line.Round)
+  pub one_more : (cores : ℕ) (lines : List Line) → length lines ≡ 1_000_001 → ¬ IsTraceFor cores lines

@@ -1,5 +1,5 @@
 -- What a text says as a trace.
-use Rattle.std.specs.Prelude.{ℕ, ◌^◌, ◌≡◌, ◌==◌, ◌-◌, ◌&&◌, Bool, true, false, List, [], ◌∷◌, ◌++◌}
+use Rattle.std.specs.Prelude.{ℕ, ◌+◌, ◌^◌, ◌≡◌, ◌≤◌, ◌==◌, ◌-◌, ◌&&◌, Bool, true, false, List, [], ◌∷◌, ◌++◌}
 use Rattle.std.specs.Prelude.{length, nat_lt, slice_get, codes, unwrap_or}
 use Rattle.std.specs.Prelude.{Option, Some, None, option_map, option_and_then, Result, Err}
 use Rattle.std.specs.Prelude.{if◌then◌else◌}
@@ -9,7 +9,7 @@ use Rattle.frame_text.specs.Numbers.{number_below}
 use Rattle.frame_text.specs.Records.{read_records, records_of}
 use Rattle.frame_words.specs.declared.fault.Fault.{Fault}
 use Rattle.frame_words.specs.declared.fault.Fault.TheVariants as fault
-use Rattle.trace_text.specs.Trace.{most_records}
+use Rattle.trace_text.specs.Trace.{core_count, is_one_round, most_records, ranges_in}
 use Rattle.trace_text.specs.declared.line.Line.{Line}
 use Rattle.trace_text.specs.declared.line.Line.TheVariants as line
 use Rattle.trace_text.specs.declared.line.Request.{Request}
@@ -118,6 +118,16 @@ lines_with cores lines row =
 -- trace, or the number of the lowest refused record
 unfoldable pub trace_of : ℕ → List ℕ → Result (List Line) ℕ
 trace_of cores text = read_records (lines_with cores) 1 [] (records_of text)
+
+-- what the text says is what these records and then these rows say; the records are few enough, name only
+-- the cores, and hold these ranges back, and it is known whether they are one round
+pub record IsReadTo (cores : ℕ) (text : List ℕ) (lines : List Line) (ranges : List (ℕ × ℕ)) (round : Bool)
+    (rows : List (List (List ℕ))) : Type 0 where
+  pub says : trace_of cores text ≡ read_records (lines_with cores) (length lines + 1) lines rows
+  pub few : length lines ≤ most_records
+  pub within : core_count lines ≤ cores
+  pub holds : ranges ≡ ranges_in lines
+  pub one : round ≡ is_one_round lines
 
 -- why a trace was not read: memory ran out, or this is the number of the lowest refused record
 abbrev pub ExplainsTrace : Fault → Result (List Line) ℕ → Type 0

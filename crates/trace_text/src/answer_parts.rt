@@ -3,7 +3,7 @@
 ghost use Rattle.std.specs.Prelude.{◌≡◌, ◌<◌, ◌≤◌, [], IfErr, IfOk};
 ghost use Rattle.trace_text.specs.AnswerText.{answers_of, answer_rows_text};
 
-use crate::answers::{rows_text, write_closing};
+use crate::answers::{answers_text, rows_text};
 use crate::in_flight::{Going, TURNS, join_all, keep};
 use crate::reply::Answer;
 use frame_words::Fault;
@@ -36,7 +36,7 @@ impl<'a> Promise<Result<Vec<u8>, Fault>> for Writing<'a> {
 
 /// The text of answers, as `answers_text` makes it. That of many answers is made in parts, on so many
 /// threads at once.
-#[tactic(auto, unfolding(crate::specs::AnswerText::answers_of))]
+#[tactic(auto, unfolding(crate::specs::AnswerText::answers_of, crate::specs::AnswerText::answer_rows_text))]
 pub fn answers_apart<R: Threads + Wait>(
     rt: &R,
     alloc: Global,
@@ -54,7 +54,8 @@ pub fn answers_apart<R: Threads + Wait>(
     } else {
         rows_apart(rt, alloc, answers, threads)?
     };
-    write_closing(&mut text, held, free)?;
+    let mut last = answers_text(alloc, &[], held, free)?;
+    text.append(&mut last)?;
     Ok(text)
 }
 

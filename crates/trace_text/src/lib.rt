@@ -8,9 +8,7 @@ mod laws;
 mod line;
 mod parser;
 mod parts;
-mod plain_rows;
 mod reply;
-mod row;
 
 pub use answer_parts::answers_apart;
 pub use answers::{answers_text, rows_text};

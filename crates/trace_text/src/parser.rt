@@ -1,20 +1,16 @@
 //! How a text is read as a trace.
 
-ghost use Rattle.std.specs.Prelude.{◌≡◌, ◌≢◌, ◌<◌, ◌≤◌, ◌^◌, ◌∷◌, ◌++◌, [], length};
-ghost use Rattle.std.specs.Prelude.{Some, IfErr, IfNone, IfOk, IfSome, OnOk};
+ghost use Rattle.std.specs.Prelude.{◌≡◌, ◌<◌, ◌≤◌, ◌^◌, ◌++◌, length, IfErr, IfOk, IfSome, OnOk};
 ghost use Rattle.std.specs.Option.{option_copied};
-ghost use Rattle.csv.specs.Records.{field_at, fields_of};
-ghost use Rattle.frame_text.specs.Records.{records_of};
+ghost use Rattle.csv.specs.Records.{fields_of};
 ghost use Rattle.frame_text.specs.Numbers.{number_below as the_number_below};
-ghost use Rattle.trace_text.specs.PlainRows.{IsReadTo, row_of};
 ghost use Rattle.trace_text.specs.Trace.{core_count, cores_in, most_records, range_in};
 ghost use Rattle.trace_text.specs.TraceText as Spec;
 ghost use Rattle.trace_text.specs.TraceText.{ExplainsTrace, trace_of};
 
 use crate::line::{Line, Request, Trace, number_after, stays_one_round};
-use crate::plain_rows::{Fields, has_mark, plain_row};
 use csv::ByteRecord;
-use frame_text::{RecordReader, number_below};
+use frame_text::{RecordReader, field, number_below};
 use frame_words::{Fault, Geometry};
 use held_blocks::Label;
 use std::alloc::{AllocError, Global};
@@ -25,16 +21,6 @@ pub(crate) const MOST_RECORDS: usize = 1_000_000;
 /// The fewest bytes of a record, with the end of its line: `,round,,`.
 const LEAST_RECORD: usize = 9;
 
-// The records that a text begins with, whether they are one round, the ranges that they hold back, and the
-// text behind them.
-#[derive(Drop)]
-struct Front<'a> {
-    lines: Vec<Line>,
-    one_round: bool,
-    ranges: Vec<(u32, u32)>,
-    rest: &'a [u8],
-}
-
 /// Reads a text as a trace for the cores of the geometry.
 ///
 /// `BadTrace` names the lowest refused record.
@@ -44,12 +30,11 @@ pub fn parse_trace(alloc: Global, geometry: &Geometry, text: &[u8]) -> Result<Tr
     ensures refused { IfErr result (λ e. ExplainsTrace e (trace_of geometry.now.cores text.now)) }
 {
     let cores = geometry.cores();
-    let front = read_front(alloc, cores, text)?;
-    let mut records = RecordReader::new(alloc, front.rest);
+    let mut records = RecordReader::new(alloc, text);
     let mut row = ByteRecord::new(alloc);
-    let mut lines = front.lines;
-    let mut one_round = front.one_round;
-    let mut ranges = front.ranges;
+    let mut lines = Vec::with_capacity(alloc, most_records_of(text))?;
+    let mut one_round = true;
+    let mut ranges = Vec::new(alloc);
     loop {
         let found = records.read(&mut row)?;
         if !found {
@@ -65,44 +50,6 @@ pub fn parse_trace(alloc: Global, geometry: &Geometry, text: &[u8]) -> Result<Tr
             None => return Err(Fault::BadTrace { line: number }),
         }
     }
-}
-
-// Reads the records that a text begins with, as long as they are spelled plainly: `csv` would take several
-// times as long for each byte.
-fn read_front(alloc: Global, cores: u32, text: &[u8]) -> Result<Front<'_>, Fault>
-    requires { cores ≤ 64 }
-    ensures front { IfOk result (λ f.
-        IsReadTo cores text.now f.lines.items f.ranges.items f.one_round
-        (records_of f.rest.now)) }
-    ensures fault { IfErr result (λ e. e ≡ Fault.NoMemory) }
-{
-    let mut lines = Vec::with_capacity(alloc, most_records_of(text))?;
-    let mut one_round = true;
-    let mut ranges = Vec::new(alloc);
-    let mut rest = text;
-    if has_mark(text) {
-        return Ok(Front {
-            lines,
-            one_round,
-            ranges,
-            rest,
-        });
-    }
-    while let Some((fields, behind)) = plain_row(rest) {
-        let Some(line) = line_of_fields(cores, lines.as_slice(), &fields) else {
-            break;
-        };
-        note_range(&mut ranges, &line)?;
-        one_round = stays_one_round(one_round, &line);
-        lines.push(line)?;
-        rest = behind;
-    }
-    Ok(Front {
-        lines,
-        one_round,
-        ranges,
-        rest,
-    })
 }
 
 /// How many records a text has at most, so that room for them is made once.
@@ -121,34 +68,40 @@ fn note_range(ranges: &mut Vec<(u32, u32)>, line: &Line) -> Result<(), AllocErro
 }
 
 // The record behind those so far, where this row is one.
+#[tactic(auto, unfolding(crate::specs::TraceText::line_after))]
 fn line_after(cores: u32, lines: &[Line], row: &ByteRecord) -> Option<Line>
     requires { cores ≤ 64 }
     ensures value { result ≡ Spec.line_after cores lines.now (fields_of row.now) }
     ensures core { IfSome result (λ line. cores_in line ≤ cores) }
     ensures few { IfSome result (λ _. length lines.now < most_records) }
 {
-    match four_fields(row) {
-        Some(fields) => line_of_fields(cores, lines, &fields),
-        None => None,
-    }
-}
-
-// The record behind those so far, where these fields are one.
-#[tactic(auto, unfolding(crate::specs::TraceText::line_after, crate::specs::TraceText::line_of))]
-fn line_of_fields(cores: u32, lines: &[Line], fields: &Fields) -> Option<Line>
-    requires { cores ≤ 64 }
-    ensures value { result ≡ Spec.line_after cores lines.now (row_of fields.now) }
-    ensures core { IfSome result (λ line. cores_in line ≤ cores) }
-    ensures few { IfSome result (λ _. length lines.now < most_records) }
-{
     if lines.len() >= MOST_RECORDS {
         return None;
     }
-    let line = record_of(cores, fields)?;
+    let line = line_of(cores, row)?;
     if !may_follow(lines.last(), &line) {
         return None;
     }
     Some(line)
+}
+
+// A record of four fields.
+#[tactic(auto, unfolding(crate::specs::TraceText::line_of))]
+fn line_of(cores: u32, row: &ByteRecord) -> Option<Line>
+    requires { cores ≤ 64 }
+    ensures value { result ≡ Spec.line_of cores (fields_of row.now) }
+    ensures core { IfSome result (λ line. cores_in line ≤ cores) }
+{
+    if row.len() != 4 {
+        return None;
+    }
+    record_of(
+        cores,
+        field(row, 0),
+        field(row, 1),
+        field(row, 2),
+        field(row, 3),
+    )
 }
 
 /// Whether a record may come straight behind that one, or first where there is none.
@@ -165,18 +118,11 @@ pub(crate) fn may_follow(before: Option<&Line>, line: &Line) -> bool
 
 // A record, by its four fields.
 #[tactic(auto, unfolding(crate::specs::TraceText::record_of))]
-fn record_of(cores: u32, fields: &Fields) -> Option<Line>
+fn record_of(cores: u32, core: &[u8], word: &[u8], third: &[u8], fourth: &[u8]) -> Option<Line>
     requires { cores ≤ 64 }
-    ensures value { result ≡ Spec.record_of cores fields.now.core.now fields.now.word.now
-        fields.now.third.now fields.now.fourth.now }
+    ensures value { result ≡ Spec.record_of cores core.now word.now third.now fourth.now }
     ensures core { IfSome result (λ line. cores_in line ≤ cores) }
 {
-    let Fields {
-        core,
-        word,
-        third,
-        fourth,
-    } = *fields;
     if word == b"round".as_slice() {
         round_of(core, third, fourth)
     } else if word == b"reserve".as_slice() {
@@ -315,32 +261,5 @@ fn frame_of(field: &[u8]) -> Option<u32>
     match number_below(field, 1 << 32) {
         Some(frame) => Some(frame as u32),
         None => None,
-    }
-}
-
-// The fields of a row of four.
-fn four_fields(row: &ByteRecord) -> Option<Fields<'_>>
-    ensures four { IfSome result (λ f. fields_of row.now ≡ row_of f) }
-    ensures other { IfNone result (length (fields_of row.now) ≢ 4) }
-{
-    if row.len() != 4 {
-        return None;
-    }
-    Some(Fields {
-        core: field(row, 0),
-        word: field(row, 1),
-        third: field(row, 2),
-        fourth: field(row, 3),
-    })
-}
-
-// The field at this place.
-fn field(row: &ByteRecord, place: usize) -> &[u8]
-    requires { place < length (fields_of row.now) }
-    ensures { Some result.now ≡ field_at (fields_of row.now) place }
-{
-    match row.get(place) {
-        Some(field) => field,
-        None => unreachable!(),
     }
 }

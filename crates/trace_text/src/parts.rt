@@ -13,7 +13,6 @@ ghost use Rattle.trace_text.specs.TraceText.{ExplainsTrace, trace_of};
 use crate::in_flight::{Going, TURNS, join_all, keep};
 use crate::line::{Line, Trace};
 use crate::parser::{MOST_RECORDS, may_follow, most_records_of, parse_trace};
-use crate::plain_rows::has_mark;
 use frame_words::{Fault, Geometry};
 use memchr::memrchr;
 use std::alloc::Global;
@@ -27,6 +26,9 @@ const LEAST_TEXT: usize = 65_536;
 
 /// The least bytes that are worth a thread.
 const LEAST_PART: usize = 8192;
+
+/// The first byte of a byte order mark.
+const MARK: u8 = 0xEF;
 
 /// What the thread of a part promises: the trace that its text says, if it answers one.
 #[derive(Drop)]
@@ -329,5 +331,15 @@ fn goes_behind(front: &[Line], behind: &[Line]) -> bool
     match behind.first() {
         Some(line) => may_follow(front.last(), line),
         None => true,
+    }
+}
+
+// Whether a text begins as a byte order mark does, which would not be read as part of a record.
+fn has_mark(text: &[u8]) -> bool
+    ensures { result ≡ false → strip_bom text.now ≡ text.now }
+{
+    match text.first() {
+        Some(byte) => *byte == MARK,
+        None => false,
     }
 }

@@ -7,7 +7,7 @@ use Rattle.std.proofs.lemmas.List.Elements.{filter-append}
 use Rattle.frame_model.specs.Block.{block}
 use Rattle.frame_model.specs.declared.block.FrameBlock.{FrameBlock}
 use Rattle.zone_slots.specs.Layouts.{Stretch, end_of}
-use Rattle.zone_slots.specs.ZoneClaims.{begins_in, block_within, blocks_within, first_of, BeginBelow}
+use Rattle.zone_slots.specs.ZoneClaims.{begins_in, block_within, blocks_within, first_frame_at, BeginBelow}
 use Rattle.frame_slots.specs.Claims.{Ascend}
 
 -- where none passes, none is left
@@ -37,7 +37,7 @@ none_within zone blocks own n cut none =
 
 -- none of those behind one that begins behind the zone is in it
 pub all_within : (zone : Stretch) (blocks own : List FrameBlock) (i : ℕ) → Ascend blocks → i < length blocks
-    → end_of zone ≤ first_of blocks i → own ≡ blocks_within zone (take i blocks) → own ≡ blocks_within zone blocks
+    → end_of zone ≤ first_frame_at blocks i → own ≡ blocks_within zone (take i blocks) → own ≡ blocks_within zone blocks
 all_within zone blocks own i up within behind is =
     let p = begins_in zone in
     let none : filter p (drop i blocks) ≡ [] =

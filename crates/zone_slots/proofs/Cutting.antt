@@ -4,12 +4,12 @@ use Rattle.std.specs.Prelude.{min, max}
 use Rattle.std.proofs.lemmas.Bool.{cases_lt}
 use Rattle.std.proofs.lemmas.List.{get_or_append_left, get_or_at, length-append}
 use Rattle.frame_model.specs.Key.{AreRanges}
-use Rattle.zone_slots.specs.Layouts.{Stretch, stretch_at, end_of, LiesIn, LiesInOne, EndAtOrBelow, MayBeLaidOut}
-use Rattle.zone_slots.specs.Cuts.{AreApart, AreIn, IsPieceOf, Meet}
+use Rattle.zone_slots.specs.Layouts.{Stretch, stretch_at, end_of, LiesInStretch, LiesInOne, EndAtOrBelow, MayBeLaidOut}
+use Rattle.zone_slots.specs.Cuts.{AreRangesApart, AreIn, IsPieceOf, Meet}
 use Rattle.zone_slots.proofs.Laid.{in_none, laid_ascend}
 
 -- the first range that ends behind a frame has a frame from there to before where it begins in front of that
-pub meets : (ranges : List Stretch) (from end n : ℕ) → AreApart ranges → EndAtOrBelow from ranges n
+pub meets : (ranges : List Stretch) (from end n : ℕ) → AreRangesApart ranges → EndAtOrBelow from ranges n
     → from < end → n < length ranges → (stretch_at ranges n).0 < end → Meet from end ranges
 meets ranges from end n apart cut some within begins =
     let first = (stretch_at ranges n).0 in
@@ -32,14 +32,14 @@ lies_before ps p x lies =
     let k = lies.0 in (
       k,
       omega (arith, length-append ps (p ∷ []), lies.1),
-      subst (λ s. LiesIn x s) (sym (get_or_append_left ps (p ∷ []) (0, 0) k lies.1)) lies.2,
+      subst (λ s. LiesInStretch x s) (sym (get_or_append_left ps (p ∷ []) (0, 0) k lies.1)) lies.2,
     )
 
-lies_last : (ps : List Stretch) (p : Stretch) (x : ℕ) → LiesIn x p → LiesInOne x (ps ++ p ∷ [])
+lies_last : (ps : List Stretch) (p : Stretch) (x : ℕ) → LiesInStretch x p → LiesInOne x (ps ++ p ∷ [])
 lies_last ps p x lies = (
   length ps,
   omega (arith, length-append ps (p ∷ [])),
-  subst (λ s. LiesIn x s) (sym (get_or_at ps p [] (0, 0) (length ps) refl)) lies,
+  subst (λ s. LiesInStretch x s) (sym (get_or_at ps p [] (0, 0) (length ps) refl)) lies,
 )
 
 -- what holds of each but the last, and of the last
@@ -54,9 +54,9 @@ each_added P ps p each last j within =
     (cases_lt j (length ps))
 
 lies_added : (ps : List Stretch) (p : Stretch) (x : ℕ) → LiesInOne x (ps ++ p ∷ [])
-    → LiesInOne x ps ⊎ LiesIn x p
+    → LiesInOne x ps ⊎ LiesInStretch x p
 lies_added ps p x lies =
-    each_added (λ s. LiesIn x s → LiesInOne x ps ⊎ LiesIn x p) ps p
+    each_added (λ s. LiesInStretch x s → LiesInOne x ps ⊎ LiesInStretch x p) ps p
     (λ j within at. inl (j, within, at)) (λ at. inr at) lies.0 lies.1 lies.2
 
 -- a range behind all others may be added
@@ -84,7 +84,7 @@ pub record AreCut (zone : Stretch) (ranges : List Stretch) (i : ℕ) (pieces : L
   pub below : (k : ℕ) → i ≤ k → k < length ranges → (j : ℕ) → j < length pieces
       → zone.0 + end_of (stretch_at pieces j) ≤ (stretch_at ranges k).0
   pub only : (x : ℕ) → LiesInOne x pieces → LiesInOne (zone.0 + x) ranges
-  pub all : (x k : ℕ) → x < zone.1 → k < i → LiesIn (zone.0 + x) (stretch_at ranges k) → LiesInOne x pieces
+  pub all : (x k : ℕ) → x < zone.1 → k < i → LiesInStretch (zone.0 + x) (stretch_at ranges k) → LiesInOne x pieces
 
 pub cut_none : (zone : Stretch) (ranges pieces : List Stretch) (n : ℕ) → pieces ≡ []
     → EndAtOrBelow zone.0 ranges n → AreCut zone ranges n pieces
@@ -98,7 +98,7 @@ cut_none zone ranges pieces n none cut =
       all = λ x k inside before lies. absurd (omega (arith, cut.below k before, lies.1));
     }
 
-pub cut_more : (zone : Stretch) (ranges pieces : List Stretch) (i : ℕ) (p : Stretch) → AreApart ranges
+pub cut_more : (zone : Stretch) (ranges pieces : List Stretch) (i : ℕ) (p : Stretch) → AreRangesApart ranges
     → i < length ranges → IsPieceOf zone (stretch_at ranges i) p → AreCut zone ranges i pieces
     → AreCut zone ranges (i + 1) (pieces ++ p ∷ [])
 cut_more zone ranges pieces i p apart within piece cut =
@@ -113,12 +113,12 @@ cut_more zone ranges pieces i p apart within piece cut =
           (cut.below k (omega arith) inside)
           (omega (arith, ends, apart.ascend i k (omega arith) inside));
       only = λ x lies. ⊎_elim (cut.only x)
-          (λ (at : LiesIn x p). (i, within, (omega (arith, begins, at.0), omega (arith, ends, at.1))))
+          (λ (at : LiesInStretch x p). (i, within, (omega (arith, begins, at.0), omega (arith, ends, at.1))))
           (lies_added pieces p x lies);
       all = λ x k inside before lies.
           ⊎_elim (λ (h : k < i). lies_before pieces p x (cut.all x k inside h lies))
           (λ (h : i ≤ k). let same : k ≡ i = omega arith in
-          let here : LiesIn (zone.0 + x) r = subst (λ n. LiesIn (zone.0 + x) (stretch_at ranges n)) same lies in
+          let here : LiesInStretch (zone.0 + x) r = subst (λ n. LiesInStretch (zone.0 + x) (stretch_at ranges n)) same lies in
           lies_last pieces p x (omega (arith, begins, here.0), omega (arith, ends, here.1, inside)))
           (cases_lt k i);
     }
@@ -134,7 +134,7 @@ cut_all zone ranges pieces i cut behind x inside = (
 )
 
 -- ranges behind one that begins behind the zone do so too
-pub behind_all : (zone : Stretch) (ranges : List Stretch) (i : ℕ) → AreApart ranges
+pub behind_all : (zone : Stretch) (ranges : List Stretch) (i : ℕ) → AreRangesApart ranges
     → end_of zone ≤ (stretch_at ranges i).0
     → (k : ℕ) → i ≤ k → k < length ranges → end_of zone ≤ (stretch_at ranges k).0
 behind_all zone ranges i apart begins k at within =

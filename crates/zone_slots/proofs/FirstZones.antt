@@ -5,7 +5,7 @@ use Rattle.frame_table.specs.Ties.{table_sizes}
 use Rattle.atomic_table.specs.Seated.{TableId}
 use Rattle.atomic_table.specs.Table.{Me}
 use Rattle.core_frames.specs.declared.shared.allocator.Allocator.{Allocator}
-use Rattle.frame_model.specs.declared.view.Eye.{Eye}
+use Rattle.frame_table.specs.declared.rule.Watch.{Watch}
 use Rattle.frame_zones.proofs.Found.{found_in}
 use Rattle.frame_zones.proofs.Rounds.{some_zone}
 use Rattle.frame_zones.specs.Frames.{IsFrameIn, IsLastFrom}
@@ -13,7 +13,7 @@ use Rattle.frame_zones.specs.Zones.{zone_count, zone_at, first_frame_of}
 use Rattle.frame_zones.specs.declared.zones.Zones.{Zones}
 use Rattle.zone_slots.specs.Blocks.{IsRightAt, IsRightIn}
 use Rattle.zone_slots.specs.Layouts.{most_numbers}
-use Rattle.zone_slots.specs.Memories.{AreNumbered, IsFirstOf}
+use Rattle.zone_slots.specs.Memories.{HaveNumbers, IsFirstOf}
 use Rattle.zone_slots.specs.declared.first_zone.FirstZone.{FirstZone}
 use Rattle.zone_slots.proofs.Rights.{right_found}
 
@@ -55,7 +55,7 @@ first_is_last zs f frame local known sum few =
     }
 
 -- where the first zone begins has a number
-pub first_fits : (zs : Zones) (first : ℕ) → AreNumbered zs → 0 < zone_count zs
+pub first_fits : (zs : Zones) (first : ℕ) → HaveNumbers zs → 0 < zone_count zs
     → first ≡ slice_index_or zs.firsts.items 0 first → first < most_numbers
 first_fits zs first numbered some is =
     let a : Allocator = some_zone zs 0 some in
@@ -67,7 +67,7 @@ first_fits zs first numbered some is =
     )
 
 -- the right, said of the place that was found
-pub right_placed : (zs : Zones) (frame order z local : ℕ) (id : TableId) (me : Me (Unit {0}) Eye)
+pub right_placed : (zs : Zones) (frame order z local : ℕ) (id : TableId) (me : Me (Unit {0}) Watch)
     → IsRightIn zs frame order id me → IsLastFrom zs frame z → first_frame_of zs z + local ≡ frame
     → IsRightAt zs order id me z local
 right_placed zs frame order z local id me right last sum =

@@ -2,9 +2,9 @@
 use Rattle.std.proofs.Common.{◌≡◌, ℕ, ◌+◌, ◌-◌, ◌*◌, ◌<◌, ◌≤◌, List, length, arith, subst, ⊎_elim}
 use Rattle.std.specs.Int.{div_ceil}
 use Rattle.std.proofs.lemmas.Bool.{cases_lt}
-use Rattle.zone_slots.specs.Layouts.{Stretch, stretch_at, end_of, end_of_children, LiesIn, LiesInOne}
+use Rattle.zone_slots.specs.Layouts.{Stretch, stretch_at, end_of, end_of_children, LiesInStretch, LiesInOne}
 use Rattle.frame_slots.specs.Numbers.{child_count_of}
-use Rattle.zone_slots.specs.Layouts.{MayBeLaidOut, Ascend}
+use Rattle.zone_slots.specs.Layouts.{MayBeLaidOut, LieInOrder}
 
 -- the children of so many frames, as they are counted
 pub children_counted : (n : ℕ) → div_ceil n 512 ≡ child_count_of n
@@ -14,20 +14,20 @@ children_counted n = omega arith
 end_within : (z : Stretch) → end_of z ≤ end_of_children z
 end_within z = omega arith
 
-pub laid_ascend : (zones : List Stretch) → MayBeLaidOut zones → Ascend zones
+pub laid_ascend : (zones : List Stretch) → MayBeLaidOut zones → LieInOrder zones
 laid_ascend zones laid j k less within =
     omega (arith, laid.apart j k less within, end_within (stretch_at zones j))
 
 -- a frame lies in none of those that end at or below another one in front of it
 pub not_below : (stretches : List Stretch) (from x n k : ℕ)
     → ((i : ℕ) → i < n → end_of (stretch_at stretches i) ≤ from) → from ≤ x
-    → LiesIn x (stretch_at stretches k) → n ≤ k
+    → LiesInStretch x (stretch_at stretches k) → n ≤ k
 not_below stretches from x n k below behind lies =
     ⊎_elim (λ (h : k < n). absurd (omega (arith, below k h, lies.1))) (λ (h : n ≤ k). h) (cases_lt k n)
 
 -- where the next one begins behind it, or there is none, the frame lies in none
 pub in_none : (stretches : List Stretch) (from x n : ℕ)
-    → ((i : ℕ) → i < n → end_of (stretch_at stretches i) ≤ from) → from ≤ x → Ascend stretches
+    → ((i : ℕ) → i < n → end_of (stretch_at stretches i) ≤ from) → from ≤ x → LieInOrder stretches
     → (n < length stretches → x < (stretch_at stretches n).0) → ¬ LiesInOne x stretches
 in_none stretches from x n below behind up begins lies =
     let k = lies.0 in

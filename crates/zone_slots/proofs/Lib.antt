@@ -10,3 +10,4 @@ pub mod Opened
 pub mod FirstZones
 pub mod Rights
 pub mod Reopened
+pub mod Homes

@@ -1,5 +1,5 @@
 -- What the zones' own calls leave, as calls by numbers say it.
-use Rattle.std.proofs.Common.{◌≡◌, ℕ, ℤ, pos, ◌+ℤ◌, ◌-ℤ◌, ◌<◌, ◌≤◌, Result, Ok, Err, IfOk, inl, inr, refl, sym, ◌∙◌, ap, subst, arith}
+use Rattle.std.proofs.Common.{◌≡◌, ℕ, ℤ, pos, ◌+◌, ◌-◌, ◌^◌, ◌+ℤ◌, ◌-ℤ◌, ◌<◌, ◌≤◌, Result, Ok, Err, IfOk, inl, inr, refl, sym, ◌∙◌, ap, subst, arith}
 use Rattle.std.proofs.lemmas.Bool.{cases_eq, true≢false}
 use Rattle.std.proofs.Math.IntN.{+ℤ-neg_ℤ_cancel}
 use Rattle.std.proofs.Math.Nat.{one-le-pow}
@@ -12,22 +12,26 @@ use Rattle.core_frames.specs.Uses.{HasTaken, HasSplit}
 use Rattle.frame_words.specs.declared.fault.TakeFault.{TakeFault}
 use Rattle.frame_words.specs.declared.fault.TakeFault.TheVariants.{BadOrder, NoBlock, Contended}
 use Rattle.frame_model.specs.Block.{block, IsBlock}
+use Rattle.frame_model.specs.declared.block.FrameBlock.{FrameBlock}
+use Rattle.frame_table.specs.Seats.{block_in}
+use Rattle.core_frames.specs.Splits.{AreHalves}
 use Rattle.frame_core.specs.Mover.{LiesInside}
 use Rattle.low_frames.specs.Outcomes.{HasNoBootFrame}
 use Rattle.frame_zones.proofs.Rounds.{some_zone, some_core}
 use Rattle.frame_zones.specs.Splits.{HasSplitIn, SplitsIn}
 use Rattle.frame_zones.specs.Uses.{OthersStay, GivesIn, HasTakenIn, TakesAmong}
-use Rattle.frame_zones.specs.Zones.{zone_count, zone_at, core_at, first_frame_in, AreCoresOf, IsOutIn}
+use Rattle.frame_zones.specs.Zones.{zone_count, zone_at, core_at, first_frame_of, first_frame_in, AreCoresOf, IsOutOfItsZone}
 use Rattle.frame_zones.specs.declared.zones.Zones.{Zones}
 use Rattle.frame_zones.specs.declared.zones.ZoneCore.{ZoneCore}
+use Rattle.frame_zones.specs.declared.block.GivenBlock.{GivenBlock}
 use Rattle.frame_zones.specs.declared.block.ZoneBlock.{ZoneBlock}
 use Rattle.zone_slots.specs.Blocks.{HasTakenBlock, HasSplitBlock}
 use Rattle.zone_slots.specs.Layouts.{most_numbers}
 use Rattle.frame_table.specs.declared.block.Block.{Block}
 use Rattle.frame_zones.specs.Frames.{IsFrameIn}
-use Rattle.zone_slots.specs.Memories.{number_for, AreNumbered, IsOutOfZone}
+use Rattle.zone_slots.specs.Memories.{number_for, block_given, block_laid, HaveNumbers, IsOutOfZone}
 use Rattle.zone_slots.specs.Uses.{TakesInZone, GivesInZone, SplitsInZone, GivesByNumber, SplitsByNumber, one_more}
-use Rattle.zone_slots.specs.Uses.{LendAsMany, FindsNoSlot, IsReceiptOf, HasTakenFor, IsRefusedBlock, IsRefusedTake}
+use Rattle.zone_slots.specs.Uses.{EachLendsSame, FindsNoSlot, IsReceiptOf, HasTakenFor, IsRefusedBlock, IsRefusedTake}
 use Rattle.zone_slots.specs.declared.zone_receipt.ZoneReceipt.{ZoneReceipt}
 
 -- a block was taken in its zone
@@ -70,7 +74,7 @@ taken_block zs n b c d are taken = record {
 }
 
 -- a block that is out was given in its zone
-pub given_in : (zs : Zones) (b : ZoneBlock) (c d : ZoneCore) → IsOutIn zs b → GivesIn zs b.zone c d
+pub given_in : (zs : Zones) (b : ZoneBlock) (c d : ZoneCore) → IsOutOfItsZone zs b → GivesIn zs b.zone c d
     → GivesInZone zs b.block.order c d b.zone b.block.frame
 given_in zs b c d out gives = record {
   here = λ a x. record { block = (out.is_out a).is_block; lent = (gives.here x).lent };
@@ -93,6 +97,16 @@ given_by_number zs frame order z local (Ok u) c d is gives =
     record { zone = z; local = local; within = is.zone; number = sym is.sum; holds = gives }
 given_by_number zs frame order z local (Err e) c d is gives = tt
 
+-- the block that was given there is the very one of this number
+pub very_by_number : {E : Type 0} (zs : Zones) (frame order z local : ℕ) (answer : Result GivenBlock E)
+    → IsFrameIn zs frame z local → IfOk answer (λ g. (g.zone ≡ z) × (g.frame ≡ local) × (g.order ≡ order))
+    → IfOk answer (λ g. block_given zs g ≡ block frame order)
+very_by_number zs frame order z local (Ok g) is same =
+    ap (λ n. block n g.order) (ap (λ k. first_frame_of zs k + g.frame) same.0
+    ∙ ap (λ f. first_frame_of zs z + f) same.1 ∙ is.sum)
+    ∙ ap (λ o. block frame o) same.2
+very_by_number zs frame order z local (Err e) is same = tt
+
 -- a block was split in its zone
 pub halved_in : (zs : Zones) (b first second : ZoneBlock) (c d : ZoneCore) → HasSplitIn zs b first second c d
     → OthersStay zs b.zone c d → SplitsInZone zs b.block.order c d b.zone b.block.frame
@@ -111,7 +125,7 @@ halved_in zs b first second c d split others = record {
   others = others;
 }
 
-pub split_among : (zs : Zones) (frame order : ℕ) (b first second : ZoneBlock) (c d : ZoneCore) → IsOutIn zs b
+pub split_among : (zs : Zones) (frame order : ℕ) (b first second : ZoneBlock) (c d : ZoneCore) → IsOutOfItsZone zs b
     → first_frame_in zs b ≡ frame → b.block.order ≡ order → HasSplitIn zs b first second c d
     → OthersStay zs b.zone c d → SplitsByNumber zs order frame c d
 split_among zs frame order b first second c d out frame-is order-is split others = record {
@@ -122,7 +136,35 @@ split_among zs frame order b first second c d out frame-is order-is split others
   holds = subst (λ k. SplitsInZone zs k c d b.zone b.block.frame) order-is (halved_in zs b first second c d split others);
 }
 
-pub split_block : (zs : Zones) (b first second : ZoneBlock) (c d : ZoneCore) → AreCoresOf zs c → IsOutIn zs b
+-- the receipt of a block of this zone is of the very one
+half_laid : (zs : Zones) (z x n : ℕ) (half : ZoneBlock) (r : ZoneReceipt) → IsReceiptOf half r → half.zone ≡ z
+    → block_in half.block ≡ block x n → block_laid zs r ≡ block (first_frame_of zs z + x) n
+half_laid zs z x n half r is zone same =
+    ap (λ k. block k r.receipt.order) (ap (λ y. first_frame_of zs y + r.receipt.frame) (is.zone ∙ zone)
+    ∙ ap (λ f. first_frame_of zs z + f) (is.frame ∙ ap (λ (h : FrameBlock). h.frame) same))
+    ∙ ap (λ o. block (first_frame_of zs z + x) o) (is.order ∙ ap (λ (h : FrameBlock). h.order) same)
+
+-- the halves of a block were laid down for these receipts
+pub halves_laid : (zs : Zones) (frame order : ℕ) (b first second : ZoneBlock) (c d : ZoneCore) (lower upper : ZoneReceipt)
+    → AreCoresOf zs c → IsOutOfItsZone zs b → first_frame_in zs b ≡ frame → b.block.order ≡ order
+    → HasSplitIn zs b first second c d → IsReceiptOf first lower → IsReceiptOf second upper
+    → (block_laid zs lower ≡ block frame (order - 1))
+    × (block_laid zs upper ≡ block (frame + 2 ^ (order - 1)) (order - 1))
+halves_laid zs frame order b first second c d lower upper are out frame-is order-is split one two =
+    let halves : AreHalves (block_in b.block) (block_in first.block) (block_in second.block) =
+    (split.here (some_zone zs b.zone out.zone)
+    (some_core c b.zone (subst (λ k. b.zone < k) (sym are.parts.count) out.zone))).are_halves in
+    let less : b.block.order - 1 ≡ order - 1 = ap (λ o. o - 1) order-is in
+    let behind : first_frame_of zs b.zone + (b.block.frame + 2 ^ (b.block.order - 1)) ≡ frame + 2 ^ (order - 1) =
+    omega (arith, frame-is, ap (λ o. 2 ^ o) less) in (
+      half_laid zs b.zone b.block.frame (b.block.order - 1) first lower one split.first_zone halves.lower
+          ∙ ap (λ x. block x (b.block.order - 1)) frame-is ∙ ap (λ o. block frame o) less,
+      half_laid zs b.zone (b.block.frame + 2 ^ (b.block.order - 1)) (b.block.order - 1) second upper two
+          split.second_zone halves.upper
+          ∙ ap (λ x. block x (b.block.order - 1)) behind ∙ ap (λ o. block (frame + 2 ^ (order - 1)) o) less,
+    )
+
+pub split_block : (zs : Zones) (b first second : ZoneBlock) (c d : ZoneCore) → AreCoresOf zs c → IsOutOfItsZone zs b
     → HasSplitIn zs b first second c d → OthersStay zs b.zone c d → HasSplitBlock zs b first second c d
 split_block zs b first second c d are out split others = record {
   first_out = split.first_out;
@@ -139,7 +181,7 @@ back_again n m k up down = down ∙ ap (λ i. i -ℤ pos 1) up ∙ +ℤ-neg_ℤ_
 
 -- what was taken and given again is lent no more
 pub lent_again : (zs : Zones) (n : ℕ) (b : ZoneBlock) (c d e : ZoneCore) → HasTakenIn zs n b c d
-    → GivesIn zs b.zone d e → LendAsMany zs c e
+    → GivesIn zs b.zone d e → EachLendsSame zs c e
 lent_again zs n b c d e taken gives z a x within =
     elim (cases_eq z b.zone) as (λ _. lent_by (core_at e z x) ≡ lent_by (core_at c z x)) [
       | inl same ↦ subst (λ k. lent_by (core_at e k x) ≡ lent_by (core_at c k x)) (sym same)
@@ -159,7 +201,7 @@ found_no_slot zs n b c d e count later are taken gives counted = record {
 }
 
 -- the number of a block that was taken is one of all numbers
-pub number_fits : (zs : Zones) (n : ℕ) (c d : ZoneCore) (r : ZoneReceipt) → AreNumbered zs → AreCoresOf zs c
+pub number_fits : (zs : Zones) (n : ℕ) (c d : ZoneCore) (r : ZoneReceipt) → HaveNumbers zs → AreCoresOf zs c
     → HasTakenFor zs n c d r → number_for zs r < most_numbers
 number_fits zs n c d r numbered are taken =
     let a : Allocator = some_zone zs r.zone taken.zone in
@@ -174,7 +216,7 @@ taken_ok zs n (Err e) c d are takes = tt
 
 -- what a split of all zones answers
 pub split_ok : (zs : Zones) (b : ZoneBlock) (answer : Result (ZoneBlock × ZoneBlock) ZoneBlock) (c d : ZoneCore)
-    → AreCoresOf zs c → IsOutIn zs b → SplitsIn zs b answer c d → IfOk answer (λ r. HasSplitBlock zs b r.0 r.1 c d)
+    → AreCoresOf zs c → IsOutOfItsZone zs b → SplitsIn zs b answer c d → IfOk answer (λ r. HasSplitBlock zs b r.0 r.1 c d)
 split_ok zs b (Ok r) c d are out splits = split_block zs b r.0 r.1 c d are out splits.ok splits.others
 split_ok zs b (Err e) c d are out splits = tt
 

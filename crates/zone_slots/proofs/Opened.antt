@@ -13,14 +13,14 @@ use Rattle.frame_slots.specs.SlotLists.{IsListOf}
 use Rattle.frame_slots.specs.Slots.{IsUnused, IsUsedAsBefore}
 use Rattle.frame_slots.specs.declared.slots.SlotList.{SlotList}
 use Rattle.frame_zones.specs.Openings.{AreOpened, IsNewIn, IsAt}
-use Rattle.frame_zones.specs.Spans.{Place, place_of}
+use Rattle.frame_zones.specs.Spans.{Place, place_of_span}
 use Rattle.frame_zones.specs.Zones.{zone_count, zone_at, core_at, first_frame_of, AreCoresOf}
 use Rattle.frame_zones.specs.declared.spans.Span.{Span}
 use Rattle.frame_zones.specs.declared.zones.Zones.{Zones}
 use Rattle.frame_zones.specs.declared.zones.ZoneCore.{ZoneCore}
 use Rattle.frame_zones.proofs.Parted.{some_of}
 use Rattle.frame_zones.proofs.Placing.{others_stay, at_any_zone}
-use Rattle.zone_slots.specs.Memories.{AreNumbered, AreSlotted}
+use Rattle.zone_slots.specs.Memories.{HaveNumbers, AreSlotted}
 use Rattle.zone_slots.specs.Openings.{HasSlots, IsListIn, AreListsIn, IsUsedAlike, IsUnusedCore, HasNumbers, AreUnusedIn}
 
 -- where the written core belongs to its zone, all do
@@ -96,13 +96,13 @@ unused_in as_many places zs cs opened = record {
 }
 
 pub numbered : (as_many : ℕ) (spans : List Span) (zs : Zones) (cs : List ZoneCore)
-    → AreOpened as_many (map place_of spans) zs cs → All HasNumbers spans → AreNumbered zs
+    → AreOpened as_many (map place_of_span spans) zs cs → All HasNumbers spans → HaveNumbers zs
 numbered as_many spans zs cs opened numbers z a within =
-    let here : z < length spans = omega (arith, within, opened.zones, length-map spans place_of) in
+    let here : z < length spans = omega (arith, within, opened.zones, length-map spans place_of_span) in
     let s : Span = some_of spans (omega (arith, here)) in
-    let p : Place = place_of s in
-    let at : IsAt (slice_index_or (map place_of spans) z p) (first_frame_of zs z) (zone_at zs z a) = opened.are_at z p a within in
-    let same : slice_index_or (map place_of spans) z p ≡ place_of (slice_index_or spans z s) = get_or-map place_of spans z s p here in
+    let p : Place = place_of_span s in
+    let at : IsAt (slice_index_or (map place_of_span spans) z p) (first_frame_of zs z) (zone_at zs z a) = opened.are_at z p a within in
+    let same : slice_index_or (map place_of_span spans) z p ≡ place_of_span (slice_index_or spans z s) = get_or-map place_of_span spans z s p here in
     omega (
       arith,
       at.first_frame,

@@ -5,6 +5,8 @@ use Rattle.std.specs.declared.vec.Vec.{Vec}
 use Rattle.std.proofs.lemmas.Bool.{cases_lt}
 use Rattle.std.proofs.lemmas.List.{get_or_append_left, get_or_push}
 use Rattle.std.proofs.lemmas.List.Sums.{sum_by_more}
+use Rattle.std.specs.List.{All, remove}
+use Rattle.std.proofs.lemmas.List.Elements.{All-drop}
 use Rattle.frame_model.specs.declared.block.FrameBlock.{FrameBlock}
 use Rattle.frame_table.specs.Ties.{table_sizes}
 use Rattle.core_frames.specs.declared.shared.allocator.Allocator.{Allocator}
@@ -19,7 +21,13 @@ use Rattle.frame_zones.specs.declared.zones.Zones.{Zones}
 use Rattle.frame_zones.specs.declared.zones.ZoneCore.{ZoneCore}
 use Rattle.frame_zones.proofs.Placing.{at_any_zone}
 use Rattle.zone_slots.specs.ImageParts.{numbers_before, numbers_from}
-use Rattle.zone_slots.specs.Reopenings.{claimed_in, KeepsRestIn, HasLaidIn}
+use Rattle.zone_slots.specs.Reopenings.{claims_in, KeepsRestIn, HasLaidIn}
+
+-- a list without its first item
+pub All-remove_first : {X : Type 0} (P : X → Type 0) (xs ys : List X) (x : X) → ys ≡ remove xs 0
+    → x ≡ slice_index_or xs 0 x → 0 < length xs → All P xs → All P ys × P x
+All-remove_first {X} P xs ys x is at some all =
+    (subst (λ (l : List X). All P l) (sym is) (All-drop P 1 xs all), subst P (sym at) (all 0 x some))
 
 -- what the written core keeps, at each default
 pub rest_here : (zs : Zones) (c d : ZoneCore) (z : ℕ) (b : Allocator) (w y : Core) (numbers : List ℕ) (blocks : List FrameBlock)
@@ -34,9 +42,9 @@ pub rest_more : (numbers : List ℕ) (claimed : List (Vec FrameBlock Global)) (z
     → i < zone_count zs → ((z : ℕ) → z < i → KeepsRestIn numbers claimed zs c z) → OthersStay zs i c d
     → KeepsRestIn numbers claimed zs d i → (z : ℕ) → z < i + 1 → KeepsRestIn numbers claimed zs d z
 rest_more numbers claimed zs c d i within before others here z below a x v =
-    elim (cases_lt z i) as (λ _. KeepsRest (memory_of (zone_at zs z a)).frames (numbers_from zs numbers z) (claimed_in claimed z v) (core_at d z x)) [
+    elim (cases_lt z i) as (λ _. KeepsRest (memory_of (zone_at zs z a)).frames (numbers_from zs numbers z) (claims_in claimed z v) (core_at d z x)) [
       | inl less ↦
-          subst (λ (y : Core). KeepsRest (memory_of (zone_at zs z a)).frames (numbers_from zs numbers z) (claimed_in claimed z v) y)
+          subst (λ (y : Core). KeepsRest (memory_of (zone_at zs z a)).frames (numbers_from zs numbers z) (claims_in claimed z v) y)
           (sym (others z x (omega (arith, less, within)) (λ same. omega (arith, same, less)))) (before z less a x v)
       | inr past ↦
           let at : i ≡ z = omega (arith, past, below) in
@@ -51,16 +59,16 @@ unused_more zs c d i others before k x past within =
 
 pub laid_more : (claimed : List (Vec FrameBlock Global)) (rows : List (Vec Receipt Global)) (i : ℕ) (row : Vec Receipt Global)
     → length rows ≡ i → ((z : ℕ) → z < i → HasLaidIn claimed rows z)
-    → ((v : Vec FrameBlock Global) → map laid_down row.items ≡ claimed_in claimed i v)
+    → ((v : Vec FrameBlock Global) → map laid_down row.items ≡ claims_in claimed i v)
     → (z : ℕ) → z < i + 1 → HasLaidIn claimed (rows ++ row ∷ []) z
 laid_more claimed rows i row count before here z below v r =
-    elim (cases_lt z i) as (λ _. map laid_down (slice_index_or (rows ++ row ∷ []) z r).items ≡ claimed_in claimed z v) [
-      | inl less ↦ subst (λ (w : Vec Receipt Global). map laid_down w.items ≡ claimed_in claimed z v)
+    elim (cases_lt z i) as (λ _. map laid_down (slice_index_or (rows ++ row ∷ []) z r).items ≡ claims_in claimed z v) [
+      | inl less ↦ subst (λ (w : Vec Receipt Global). map laid_down w.items ≡ claims_in claimed z v)
           (sym (get_or_append_left rows (row ∷ []) r z (subst (λ n. z < n) (sym count) less))) (before z less v r)
       | inr past ↦
           let at : i ≡ z = omega (arith, past, below) in
-          subst (λ (w : Vec Receipt Global). map laid_down w.items ≡ claimed_in claimed z v) (sym (get_or_push rows row r z (count ∙ at)))
-          (subst (λ n. map laid_down row.items ≡ claimed_in claimed n v) at (here v))
+          subst (λ (w : Vec Receipt Global). map laid_down w.items ≡ claims_in claimed z v) (sym (get_or_push rows row r z (count ∙ at)))
+          (subst (λ n. map laid_down row.items ≡ claims_in claimed n v) at (here v))
     ]
 
 -- the children of a zone, by its frames

@@ -8,26 +8,26 @@ use Rattle.atomic_table.specs.Table.{Me}
 use Rattle.core_frames.specs.declared.shared.allocator.Allocator.{Allocator}
 use Rattle.core_frames.specs.Cores.{memory_of}
 use Rattle.frame_model.specs.Block.{block, IsBlock}
-use Rattle.frame_model.specs.declared.view.Eye.{Eye}
+use Rattle.frame_table.specs.declared.rule.Watch.{Watch}
 use Rattle.frame_table.specs.declared.block.Block.{Block}
 use Rattle.frame_zones.proofs.Rounds.{some_zone}
 use Rattle.frame_zones.specs.Frames.{IsLastFrom, BeginBehind}
-use Rattle.frame_zones.specs.Zones.{zone_count, zone_at, first_frame_of, first_frame_in, IsOutIn}
+use Rattle.frame_zones.specs.Zones.{zone_count, zone_at, first_frame_of, first_frame_in, IsOutOfItsZone}
 use Rattle.frame_zones.specs.declared.block.ZoneBlock.{ZoneBlock}
 use Rattle.frame_zones.specs.declared.zones.Zones.{Zones}
 use Rattle.zone_slots.specs.Blocks.{IsRightAt, IsRightIn}
 use Rattle.zone_slots.specs.Layouts.{most_numbers}
-use Rattle.zone_slots.specs.Memories.{AreNumbered}
+use Rattle.zone_slots.specs.Memories.{HaveNumbers}
 
 -- the block lies within the children of its zone
-within_children : (zs : Zones) (frame order : ℕ) (id : TableId) (me : Me (Unit {0}) Eye)
+within_children : (zs : Zones) (frame order : ℕ) (id : TableId) (me : Me (Unit {0}) Watch)
     (right : IsRightIn zs frame order id me) (a : Allocator)
     → right.local < 512 * (memory_of (zone_at zs right.zone a)).children
 within_children zs frame order id me right a =
     omega (arith, (right.holds.is_block a).inside, one-le-pow order 2 (omega arith))
 
 -- its zone is the last one that begins at its number or before it
-pub zone_found : (zs : Zones) (frame order z : ℕ) (id : TableId) (me : Me (Unit {0}) Eye)
+pub zone_found : (zs : Zones) (frame order z : ℕ) (id : TableId) (me : Me (Unit {0}) Watch)
     (right : IsRightIn zs frame order id me) → IsLastFrom zs frame z → right.zone ≡ z
 zone_found zs frame order z id me right last =
     let a : Allocator = some_zone zs z last.zone in
@@ -46,12 +46,12 @@ zone_found zs frame order z id me right last =
     ]
 
 -- some zone begins there or before it
-pub zone_there : (zs : Zones) (frame order : ℕ) (id : TableId) (me : Me (Unit {0}) Eye) → IsRightIn zs frame order id me
+pub zone_there : (zs : Zones) (frame order : ℕ) (id : TableId) (me : Me (Unit {0}) Watch) → IsRightIn zs frame order id me
     → ¬ BeginBehind zs frame
 zone_there zs frame order id me right behind = omega (arith, behind right.zone right.within, right.number)
 
 -- the right, said of the zone that was found
-pub right_found : (zs : Zones) (frame order z : ℕ) (id : TableId) (me : Me (Unit {0}) Eye)
+pub right_found : (zs : Zones) (frame order z : ℕ) (id : TableId) (me : Me (Unit {0}) Watch)
     (right : IsRightIn zs frame order id me) → IsLastFrom zs frame z
     → IsRightAt zs order id me z (frame - first_frame_of zs z)
 right_found zs frame order z id me right last =
@@ -61,20 +61,20 @@ right_found zs frame order z id me right last =
     (subst (λ k. IsRightAt zs order id me right.zone k) local right.holds)
 
 -- the number of a block that is out is one of all numbers
-pub out_fits : (zs : Zones) (b : ZoneBlock) → AreNumbered zs → IsOutIn zs b → first_frame_in zs b < most_numbers
+pub out_fits : (zs : Zones) (b : ZoneBlock) → HaveNumbers zs → IsOutOfItsZone zs b → first_frame_in zs b < most_numbers
 out_fits zs b numbered out =
     let a : Allocator = some_zone zs b.zone out.zone in
     omega (arith, numbered b.zone a out.zone, (out.is_out a).is_block.inside, one-le-pow b.block.order 2 (omega arith))
 
 -- the block with the right is out in the zone
-pub right_out : (zs : Zones) (order z local : ℕ) (b : Block) (seat : Seat (Unit {0}) Eye) → z < zone_count zs
+pub right_out : (zs : Zones) (order z local : ℕ) (b : Block) (seat : Seat (Unit {0}) Watch) → z < zone_count zs
     → IsRightAt zs order seat.table_id seat.me z local
-    → b.frame ≡ local → b.order ≡ order → b.seat ≡ seat → IsOutIn zs (record { zone = z; block = b })
+    → b.frame ≡ local → b.order ≡ order → b.seat ≡ seat → IsOutOfItsZone zs (record { zone = z; block = b })
 right_out zs order z local b seat within right frame-is order-is seat-is = record {
   zone = within;
   is_out = λ a. record {
-    table = ap (λ (s : Seat (Unit {0}) Eye). s.table_id) seat-is ∙ right.table a;
-    about = ap (λ (s : Seat (Unit {0}) Eye). s.me.0.view.about) seat-is ∙ right.about a;
+    table = ap (λ (s : Seat (Unit {0}) Watch). s.table_id) seat-is ∙ right.table a;
+    about = ap (λ (s : Seat (Unit {0}) Watch). s.me.0.view.about) seat-is ∙ right.about a;
     is_block = subst (λ k. IsBlock (memory_of (zone_at zs z a)) (block k b.order)) (sym frame-is)
         (subst (λ k. IsBlock (memory_of (zone_at zs z a)) (block local k)) (sym order-is) (right.is_block a));
   };

@@ -1,16 +1,16 @@
 -- What takes, gives and splits of blocks leave whose rights the caller keeps.
-use Rattle.std.specs.Prelude.{◌≡◌, ℕ, [], Some}
+use Rattle.std.specs.Prelude.{◌≡◌, ℕ, [], Some, None}
 use Rattle.atomic_table.specs.Seated.{TableId}
 use Rattle.atomic_table.specs.Table.{Me}
 use Rattle.core_frames.specs.Cores.{memory_of}
 use Rattle.core_frames.specs.declared.shared.allocator.Allocator.{Allocator}
 use Rattle.frame_model.specs.Block.{block, IsBlock}
-use Rattle.frame_model.specs.Events.{eye}
+use Rattle.frame_table.specs.Rule.{watch}
 use Rattle.frame_model.specs.View.{holder}
-use Rattle.frame_model.specs.declared.view.Eye.{Eye}
+use Rattle.frame_table.specs.declared.rule.Watch.{Watch}
 use Rattle.core_frames.specs.Splits.{AreHalves}
 use Rattle.frame_table.specs.Seats.{block_in, id_of}
-use Rattle.frame_zones.specs.Zones.{zone_at, first_frame_in, IsOutIn}
+use Rattle.frame_zones.specs.Zones.{zone_at, first_frame_in, IsOutOfItsZone}
 use Rattle.frame_zones.specs.declared.block.ZoneBlock.{ZoneBlock}
 use Rattle.frame_zones.specs.declared.zones.Zones.{Zones}
 use Rattle.frame_zones.specs.declared.zones.ZoneCore.{ZoneCore}
@@ -21,40 +21,40 @@ use Rattle.zone_slots.specs.declared.core_state.CoreState.{CoreState}
 
 -- the block is one of the order, is out in the zone that it names, and was taken there
 pub record HasTakenBlock (zs : Zones) (n : ℕ) (c d : ZoneCore) (b : ZoneBlock) : Type 0 where
-  pub is_out : IsOutIn zs b
+  pub is_out : IsOutOfItsZone zs b
   pub order : b.block.order ≡ n
   pub taken : TakesInZone zs n c d b.zone b.block.frame
 
 -- the block was split in its zone, and its halves are out there
 pub record HasSplitBlock (zs : Zones) (b first second : ZoneBlock) (c d : ZoneCore) : Type 0 where
-  pub first_out : IsOutIn zs first
-  pub second_out : IsOutIn zs second
+  pub first_out : IsOutOfItsZone zs first
+  pub second_out : IsOutOfItsZone zs second
   pub zones : (first.zone ≡ b.zone) × (second.zone ≡ b.zone)
   pub are_halves : AreHalves (block_in b.block) (block_in first.block) (block_in second.block)
   pub split : SplitsInZone zs b.block.order c d b.zone b.block.frame
 
 -- the block was handed out in the zone that it names, of those of the core
 abbrev pub IsOutFor : CoreState → ZoneBlock → Type 0
-IsOutFor s b = IsOutIn (zones_of s) b
+IsOutFor s b = IsOutOfItsZone (zones_of s) b
 
 -- the number of the block's first frame among those of all zones
 abbrev pub frame_for : CoreState → ZoneBlock → ℕ
 frame_for s b = first_frame_in (zones_of s) b
 
 -- a seat with this identity is the right to the block of the order that begins at this frame of the zone
-pub record IsRightAt (zs : Zones) (order : ℕ) (id : TableId) (me : Me (Unit {0}) Eye) (z local : ℕ) : Type 0 where
-  pub owns : me ≡ (eye (holder me.0.view.about (block local order)) [], [])
+pub record IsRightAt (zs : Zones) (order : ℕ) (id : TableId) (me : Me (Unit {0}) Watch) (z local : ℕ) : Type 0 where
+  pub owns : me ≡ (watch (holder me.0.view.about (block local order)) [] None, [])
   pub table : (a : Allocator) → id ≡ id_of (zone_at zs z a).table
   pub about : (a : Allocator) → me.0.view.about ≡ Some (memory_of (zone_at zs z a))
   pub is_block : (a : Allocator) → IsBlock (memory_of (zone_at zs z a)) (block local order)
 
 -- it is the right to the block of the order that begins at the frame of this number
-abbrev pub IsRightIn : Zones → (frame order : ℕ) → TableId → Me (Unit {0}) Eye → Type 0
+abbrev pub IsRightIn : Zones → (frame order : ℕ) → TableId → Me (Unit {0}) Watch → Type 0
 IsRightIn zs frame order id me = IsInZone zs frame (IsRightAt zs order id me)
 
 -- the same in the zones of the core
-abbrev pub IsRightFor : CoreState → (frame order : ℕ) → TableId → Me (Unit {0}) Eye → Type 0
-IsRightFor s frame order id me = IsRightIn (zones_of s) frame order id me
+abbrev pub IsRightThrough : CoreState → (frame order : ℕ) → TableId → Me (Unit {0}) Watch → Type 0
+IsRightThrough s frame order id me = IsRightIn (zones_of s) frame order id me
 
 -- a block of the order was taken through the core
 abbrev pub TakesBlockFor : ℕ → CoreState → CoreState → ZoneBlock → Type 0

@@ -1,5 +1,5 @@
 -- What takes, gives and splits by numbers leave.
-use Rattle.std.specs.Prelude.{◌≡◌, ◌⊎◌, ℕ, Option, Some, option_map}
+use Rattle.std.specs.Prelude.{◌≡◌, ◌⊎◌, ℕ, ◌+◌, ◌-◌, ◌^◌, Option, Some, option_map}
 use Rattle.std.specs.Arc.{arc_value}
 use Rattle.frame_words.specs.declared.fault.TakeFault.{TakeFault}
 use Rattle.frame_model.specs.Block.{block}
@@ -8,10 +8,9 @@ use Rattle.frame_zones.specs.FreeCounts.{frames_among}
 use Rattle.frame_zones.specs.Zones.{zone_count}
 use Rattle.frame_zones.specs.declared.zones.Zones.{Zones}
 use Rattle.zone_slots.specs.ImageParts.{numbers_before}
-use Rattle.zone_slots.specs.Memories.{number_for}
-use Rattle.zone_slots.specs.Uses.{TakesByNumber, GivesByNumber, SplitsByNumber, FindNothing, LoseSome, FindsNoSlot, IsRefusedBlock, IsRefusedTake, one_more}
+use Rattle.zone_slots.specs.Memories.{block_laid, block_given}
+use Rattle.zone_slots.specs.Uses.{TakesByNumber, GivesByNumber, SplitsByNumber, LoseSome, FindsNoSlot, IsRefusedBlock, IsRefusedTake, one_more}
 use Rattle.zone_slots.specs.declared.core_state.CoreState.{CoreState}
-use Rattle.zone_slots.specs.declared.zone_receipt.ZoneReceipt.{ZoneReceipt}
 
 -- the zones that the core belongs to
 abbrev pub zones_of : CoreState → Zones
@@ -29,30 +28,33 @@ frames_by s = frames_among (zones_of s)
 abbrev pub image_numbers_by : CoreState → ℕ
 image_numbers_by s = numbers_before (zones_of s) (zone_count (zones_of s))
 
--- the block that a receipt says was laid down, by its number among the frames of all zones
-abbrev pub laid_down : Zones → ZoneReceipt → FrameBlock
-laid_down zs r = block (number_for zs r) r.receipt.order
-
 -- the block that the last take through the core laid down at its slot
 abbrev pub last_laid : CoreState → Option FrameBlock
-last_laid s = option_map (laid_down (zones_of s)) s.last
+last_laid s = option_map (block_laid (zones_of s)) s.last
+
+-- the block that the last give through the core gave
+abbrev pub last_given : CoreState → Option FrameBlock
+last_given s = option_map (block_given (zones_of s)) s.given
+
+-- the halves that the last split through the core laid down at their slots
+abbrev pub last_halves : CoreState → Option (FrameBlock × FrameBlock)
+last_halves s = option_map (λ r. (block_laid (zones_of s) r.0, block_laid (zones_of s) r.1)) s.halves
 
 -- a block of the order was taken through the core, and this very block was laid down at its slot
 pub record TakesFor (order frame : ℕ) (s t : CoreState) : Type 0 where
   pub taken : TakesByNumber (zones_of s) order frame s.core t.core
   pub laid : last_laid t ≡ Some (block frame order)
 
--- the block was given through the core
-abbrev pub GivesFor : ℕ → ℕ → CoreState → CoreState → Type 0
-GivesFor order frame s t = GivesByNumber (zones_of s) order frame s.core t.core
+-- a block was given through the core, and it was this very one
+pub record GivesFor (order frame : ℕ) (s t : CoreState) : Type 0 where
+  pub given : GivesByNumber (zones_of s) order frame s.core t.core
+  pub very : last_given t ≡ Some (block frame order)
 
--- the block was split through the core
-abbrev pub SplitsFor : ℕ → ℕ → CoreState → CoreState → Type 0
-SplitsFor order frame s t = SplitsByNumber (zones_of s) order frame s.core t.core
-
--- the core found no block of the order in any zone
-abbrev pub FindsNoneFor : ℕ → CoreState → CoreState → Type 0
-FindsNoneFor order s t = FindNothing (zones_of s) order s.core t.core
+-- the block was split through the core, and its very halves were laid down at their slots
+pub record SplitsFor (order frame : ℕ) (s t : CoreState) : Type 0 where
+  pub split : SplitsByNumber (zones_of s) order frame s.core t.core
+  pub laid : last_halves t
+      ≡ Some (block frame (order - 1), block (frame + 2 ^ (order - 1)) (order - 1))
 
 -- the core is as it was in each zone
 abbrev pub KeepsCore : CoreState → CoreState → Type 0

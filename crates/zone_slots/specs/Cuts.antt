@@ -1,12 +1,12 @@
 -- Ranges that an opening holds back, cut at the zones.
 use Rattle.std.specs.Prelude.{◌≡◌, ◌↔◌, ℕ, ◌+◌, ◌<◌, ◌≤◌, List, length, min, max}
 use Rattle.frame_model.specs.Key.{most_ranges}
-use Rattle.zone_slots.specs.Layouts.{Stretch, stretch_at, end_of, LiesInOne, Ascend}
+use Rattle.zone_slots.specs.Layouts.{Stretch, stretch_at, end_of, LiesInOne, LieInOrder}
 
 -- none is empty, and each ends at or below each later one
-pub record AreApart (ranges : List Stretch) : Type 0 where
+pub record AreRangesApart (ranges : List Stretch) : Type 0 where
   pub some : (k : ℕ) → k < length ranges → 1 ≤ (stretch_at ranges k).1
-  pub ascend : Ascend ranges
+  pub ascend : LieInOrder ranges
 
 -- each frame of the ranges lies in a zone
 abbrev pub AreInside : (zones ranges : List Stretch) → Type 0
@@ -16,7 +16,7 @@ AreInside zones ranges = (x : ℕ) → LiesInOne x ranges → LiesInOne x zones
 -- not overlap, and each of their frames lies in a zone
 pub record MayBeHeldBack (zones ranges : List Stretch) : Type 0 where
   pub few : length ranges ≤ most_ranges
-  pub apart : AreApart ranges
+  pub apart : AreRangesApart ranges
   pub inside : AreInside zones ranges
 
 -- some frame from one to before another lies in a range

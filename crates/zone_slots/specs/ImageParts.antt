@@ -6,13 +6,13 @@ use Rattle.frame_zones.specs.declared.zones.Zones.{Zones}
 use Rattle.zone_slots.specs.Layouts.{Stretch}
 
 -- how many numbers an image of these zones has
-abbrev pub numbers_of : List Stretch → ℕ
-numbers_of zones = sum_by (λ zone. 9 * child_count_of zone.1) zones
+abbrev pub image_numbers_of : List Stretch → ℕ
+image_numbers_of zones = sum_by (λ zone. 9 * child_count_of zone.1) zones
 
 -- the numbers of each zone begin behind those of the zones before it
 pub record AreStarts (zones : List Stretch) (starts : List ℕ) : Type 0 where
   pub count : length starts ≡ length zones
-  pub each : (z : ℕ) → z < length zones → slice_index starts z ≡ numbers_of (take z zones)
+  pub each : (z : ℕ) → z < length zones → slice_index starts z ≡ image_numbers_of (take z zones)
 
 -- how many numbers an image of all zones has before those of a zone
 abbrev pub numbers_before : Zones → ℕ → ℕ

@@ -22,12 +22,12 @@ abbrev pub end_of : Stretch → ℕ
 end_of s = s.0 + s.1
 
 -- the frame lies there
-abbrev pub LiesIn : ℕ → Stretch → Type 0
-LiesIn x s = (s.0 ≤ x) × (x < end_of s)
+abbrev pub LiesInStretch : ℕ → Stretch → Type 0
+LiesInStretch x s = (s.0 ≤ x) × (x < end_of s)
 
 -- the frame lies in one of them
 abbrev pub LiesInOne : ℕ → List Stretch → Type 0
-LiesInOne x stretches = (k : ℕ) × (k < length stretches) × LiesIn x (stretch_at stretches k)
+LiesInOne x stretches = (k : ℕ) × (k < length stretches) × LiesInStretch x (stretch_at stretches k)
 
 -- there may be such a zone: it begins at a whole child, has a frame, and no more than an allocator
 -- has, and its frames are numbers of 32 bits
@@ -72,8 +72,8 @@ AreNoZonesFor frames fault =
     ((fault ≡ BadGeometry) × ¬ AreZoneFrames frames) ⊎ ((fault ≡ NoMemory) × AreZoneFrames frames)
 
 -- each of them ends at or below each later one
-abbrev pub Ascend : List Stretch → Type 0
-Ascend stretches = (j k : ℕ) → j < k → k < length stretches
+abbrev pub LieInOrder : List Stretch → Type 0
+LieInOrder stretches = (j k : ℕ) → j < k → k < length stretches
     → end_of (stretch_at stretches j) ≤ (stretch_at stretches k).0
 
 -- just so many of them, the first ones, end at or below the frame

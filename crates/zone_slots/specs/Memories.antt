@@ -2,11 +2,14 @@
 use Rattle.std.specs.Prelude.{◌≡◌, ℕ, ◌+◌, ◌<◌, ◌≤◌, List, length, slice_index_or}
 use Rattle.core_frames.specs.declared.shared.allocator.Allocator.{Allocator}
 use Rattle.core_frames.specs.Cores.{IsOutOf}
+use Rattle.frame_model.specs.Block.{block}
+use Rattle.frame_model.specs.declared.block.FrameBlock.{FrameBlock}
 use Rattle.frame_table.specs.declared.block.Block.{Block}
 use Rattle.frame_slots.specs.SlotLists.{IsListOf}
 use Rattle.frame_slots.specs.declared.slots.SlotList.{SlotList}
 use Rattle.frame_zones.specs.Sizes.{end_from}
 use Rattle.frame_zones.specs.Zones.{zone_count, zone_at, first_frame_of}
+use Rattle.frame_zones.specs.declared.block.GivenBlock.{GivenBlock}
 use Rattle.frame_zones.specs.declared.zones.Zones.{Zones}
 use Rattle.zone_slots.specs.Layouts.{most_numbers}
 use Rattle.zone_slots.specs.declared.first_zone.FirstZone.{FirstZone}
@@ -19,8 +22,8 @@ pub record AreSlotted (zs : Zones) (lists : List SlotList) : Type 0 where
       → IsListOf (zone_at zs z a) (slice_index_or lists z s)
 
 -- each zone ends where frames have numbers
-abbrev pub AreNumbered : Zones → Type 0
-AreNumbered zs = (z : ℕ) (a : Allocator) → z < zone_count zs
+abbrev pub HaveNumbers : Zones → Type 0
+HaveNumbers zs = (z : ℕ) (a : Allocator) → z < zone_count zs
     → end_from (first_frame_of zs z) (zone_at zs z a) ≤ most_numbers
 
 -- the first zone begins at this frame, and has so many frames
@@ -31,6 +34,14 @@ pub record IsFirstOf (zs : Zones) (f : FirstZone) : Type 0 where
 -- the number among those of all zones of the first frame of a block that was laid down
 abbrev pub number_for : Zones → ZoneReceipt → ℕ
 number_for zs r = first_frame_of zs r.zone + r.receipt.frame
+
+-- the block that a receipt says was laid down, by its number among the frames of all zones
+abbrev pub block_laid : Zones → ZoneReceipt → FrameBlock
+block_laid zs r = block (number_for zs r) r.receipt.order
+
+-- the block that was given, by its number among the frames of all zones
+abbrev pub block_given : Zones → GivenBlock → FrameBlock
+block_given zs g = block (first_frame_of zs g.zone + g.frame) g.order
 
 -- the block was handed out in the zone
 abbrev pub IsOutOfZone : Zones → ℕ → Block → Type 0

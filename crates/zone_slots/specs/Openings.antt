@@ -1,5 +1,5 @@
 -- What the cores of an opening of zones share.
-use Rattle.std.specs.Prelude.{◌≡◌, ◌⊎◌, ℕ, ◌<◌, ◌≤◌, Bool, true, false, List, length, map, slice_index_or, vec_capacity}
+use Rattle.std.specs.Prelude.{◌≡◌, ◌⊎◌, ℕ, ◌<◌, ◌≤◌, Bool, true, false, List, length, map, reverse, slice_index_or, vec_capacity}
 use Rattle.std.specs.Arc.{arc_value}
 use Rattle.std.specs.List.{All}
 use Rattle.frame_words.specs.declared.fault.Fault.{Fault}
@@ -9,8 +9,8 @@ use Rattle.core_frames.specs.Cores.{memory_of}
 use Rattle.frame_slots.specs.SlotLists.{HasRoomFor, IsListOf}
 use Rattle.frame_slots.specs.Slots.{IsUnused, IsUsedAsBefore}
 use Rattle.frame_slots.specs.declared.slots.SlotList.{SlotList}
-use Rattle.frame_zones.specs.Openings.{AreAt}
-use Rattle.frame_zones.specs.Spans.{Place, place_of, end_of, MayBeZones, HoldsLawful}
+use Rattle.frame_zones.specs.Openings.{AreAt, HaveHomes}
+use Rattle.frame_zones.specs.Spans.{Place, place_of_span, end_of_place, MayBeZones, HoldsLawful}
 use Rattle.frame_zones.specs.Zones.{zone_count, zone_at, InEach, AreCoresOf}
 use Rattle.frame_zones.specs.declared.spans.Span.{Span}
 use Rattle.frame_zones.specs.declared.zones.Zones.{Zones}
@@ -60,12 +60,12 @@ IsUnusedState s = IsUnusedCore s.core
 
 -- the span ends where frames have numbers
 abbrev pub HasNumbers : Span → Type 0
-HasNumbers s = end_of (place_of s) ≤ most_numbers
+HasNumbers s = end_of_place (place_of_span s) ≤ most_numbers
 
 -- zones may be opened like this: they may lie so, with a number for each frame, and may hold back
 -- what each of them is to
 pub record MayBeOpened (as_many : ℕ) (spans : List Span) : Type 0 where
-  pub lie : MayBeZones as_many (map place_of spans)
+  pub lie : MayBeZones as_many (map place_of_span spans)
   pub numbers : All HasNumbers spans
   pub lawful : All HoldsLawful spans
 
@@ -73,18 +73,28 @@ pub record MayBeOpened (as_many : ℕ) (spans : List Span) : Type 0 where
 abbrev pub IsNoOpening : ℕ → List Span → Fault → Type 0
 IsNoOpening cores spans fault =
     ((fault ≡ BadRange) × ¬ MayBeOpened cores spans)
-    ⊎ ((fault ≡ NoMemory) × MayBeZones cores (map place_of spans) × All HasNumbers spans)
+    ⊎ ((fault ≡ NoMemory) × MayBeZones cores (map place_of_span spans) × All HasNumbers spans)
 
 -- the cores belong to these zones, and none was used yet
 pub record AreUnusedIn (zs : Zones) (cs : List ZoneCore) : Type 0 where
   pub are_cores : All (AreCoresOf zs) cs
   pub unused : All IsUnusedCore cs
 
--- these are all cores of one memory whose zones lie at these places, with slots or without, and none
--- was used yet
+-- the cores' parts in zones, those of the last core first
+abbrev pub parts_from_last : List CoreState → List ZoneCore
+parts_from_last states = map (λ s. s.core) (reverse states)
+
+-- the homes are as they were
+abbrev pub HaveSameHomes : (old new : List ZoneCore) → Type 0
+HaveSameHomes old new = (k : ℕ) (c : ZoneCore) → k < length new
+    → (slice_index_or new k c).home ≡ (slice_index_or old k c).home
+
+-- these are all cores of one memory whose zones lie at these places, with slots or without, each with the
+-- home of its number, the last one first; and none was used yet
 pub record AreAllCoresOf (has_slots : Bool) (as_many : ℕ) (places : List Place) (states : List CoreState)
     : Type 0 where
   pub count : length states ≡ as_many
   pub one : (m : Memory) × LieAt as_many places m.zones
       × AreListsIn has_slots m.zones m.slots.items × All (Shares m) states
+  pub homes : HaveHomes as_many (length places) (parts_from_last states)
   pub unused : All IsUnusedState states

@@ -1,5 +1,5 @@
 -- What the cores of zones that are opened again share, and what they keep.
-use Rattle.std.specs.Prelude.{◌≡◌, ◌⊎◌, ℕ, ◌<◌, List, [], ◌∷◌, ◌++◌, length, map, slice_index_or}
+use Rattle.std.specs.Prelude.{◌≡◌, ◌⊎◌, ℕ, ◌<◌, true, List, [], ◌∷◌, ◌++◌, length, map, slice_index_or}
 use Rattle.std.specs.List.{All}
 use Rattle.std.specs.declared.alloc.Global.{Global}
 use Rattle.std.specs.declared.vec.Vec.{Vec}
@@ -11,6 +11,7 @@ use Rattle.core_frames.specs.Cores.{memory_of}
 use Rattle.frame_slots.specs.Reopenings.{KeepsRest, IsNoReplay}
 use Rattle.frame_slots.specs.Slots.{laid_down}
 use Rattle.frame_slots.specs.declared.receipt.Receipt.{Receipt}
+use Rattle.frame_zones.specs.Openings.{HaveHomes}
 use Rattle.frame_zones.specs.Spans.{Place}
 use Rattle.frame_zones.specs.Uses.{OthersStay}
 use Rattle.frame_zones.specs.Zones.{zone_count, zone_at, core_at, AreCoresOf}
@@ -18,7 +19,7 @@ use Rattle.frame_zones.specs.declared.spans.Span.{Span}
 use Rattle.frame_zones.specs.declared.zones.Zones.{Zones}
 use Rattle.frame_zones.specs.declared.zones.ZoneCore.{ZoneCore}
 use Rattle.zone_slots.specs.ImageParts.{numbers_from}
-use Rattle.zone_slots.specs.Openings.{LieAt, Shares, IsUnusedState, IsNoOpening}
+use Rattle.zone_slots.specs.Openings.{LieAt, AreListsIn, Shares, parts_from_last, IsUnusedState, IsNoOpening}
 use Rattle.zone_slots.specs.declared.core_state.CoreState.{CoreState}
 use Rattle.zone_slots.specs.declared.memory.Memory.{Memory}
 
@@ -28,13 +29,13 @@ pub record ChangesIn (zs : Zones) (z : ℕ) (c d : ZoneCore) : Type 0 where
   pub others : OthersStay zs z c d
 
 -- the blocks of a zone that an opening is told to hold, counted from the zone's first frame
-abbrev pub claimed_in : List (Vec FrameBlock Global) → ℕ → Vec FrameBlock Global → List FrameBlock
-claimed_in claimed z other = (slice_index_or claimed z other).items
+abbrev pub claims_in : List (Vec FrameBlock Global) → ℕ → Vec FrameBlock Global → List FrameBlock
+claims_in claimed z other = (slice_index_or claimed z other).items
 
 -- in this zone the core keeps just what the image holds there and none of its claimed blocks has
 abbrev pub KeepsRestIn : List ℕ → List (Vec FrameBlock Global) → Zones → ZoneCore → ℕ → Type 0
 KeepsRestIn numbers claimed zs c z = (a : Allocator) (x : Core) (v : Vec FrameBlock Global)
-    → KeepsRest (memory_of (zone_at zs z a)).frames (numbers_from zs numbers z) (claimed_in claimed z v) (core_at c z x)
+    → KeepsRest (memory_of (zone_at zs z a)).frames (numbers_from zs numbers z) (claims_in claimed z v) (core_at c z x)
 
 -- it is so in each zone
 abbrev pub KeepsRests : List ℕ → List (Vec FrameBlock Global) → Zones → ZoneCore → Type 0
@@ -43,7 +44,7 @@ KeepsRests numbers claimed zs c = (z : ℕ) → z < zone_count zs → KeepsRestI
 -- just the claimed blocks of this zone were laid down at their slots
 abbrev pub HasLaidIn : List (Vec FrameBlock Global) → List (Vec Receipt Global) → ℕ → Type 0
 HasLaidIn claimed rows z = (v : Vec FrameBlock Global) (r : Vec Receipt Global)
-    → map laid_down (slice_index_or rows z r).items ≡ claimed_in claimed z v
+    → map laid_down (slice_index_or rows z r).items ≡ claims_in claimed z v
 
 -- in each zone just its claimed blocks were laid down before any core was handed out
 abbrev pub HaveLaidDown : List (Vec FrameBlock Global) → Memory → Type 0
@@ -58,13 +59,16 @@ pub record HasKeeper (numbers : List ℕ) (claimed : List (Vec FrameBlock Global
   pub unused : All IsUnusedState others
   pub keeps : KeepsRests numbers claimed zs keeper.core
 
--- these are all cores of one memory whose zones lie at these places, which has laid these blocks down;
--- what the image with these numbers holds besides is kept
+-- these are all cores of one memory whose zones lie at these places, with slots, which has laid these blocks
+-- down; what the image with these numbers holds besides is kept; and each has the home of its number, the last
+-- one first
 pub record AreReopened (as_many : ℕ) (places : List Place) (numbers : List ℕ)
     (claimed : List (Vec FrameBlock Global)) (states : List CoreState) : Type 0 where
   pub count : length states ≡ as_many
   pub memory : Memory
   pub zones : LieAt as_many places memory.zones
+  pub slots : AreListsIn true memory.zones memory.slots.items
+  pub homes : HaveHomes as_many (length places) (parts_from_last states)
   pub laid : HaveLaidDown claimed memory
   pub share : All (Shares memory) states
   pub keeper : HasKeeper numbers claimed memory.zones states

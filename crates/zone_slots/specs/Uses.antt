@@ -10,7 +10,7 @@ use Rattle.core_frames.specs.declared.shared.allocator.Core.{Core}
 use Rattle.core_frames.specs.Cores.{memory_of, lent_by}
 use Rattle.core_frames.specs.Uses.{HasMovedForEach}
 use Rattle.frame_slots.specs.Slots.{FindsNothing}
-use Rattle.frame_zones.specs.Uses.{OthersStay, LendsAsMany, LosesIn, AreRefusedFor}
+use Rattle.frame_zones.specs.Uses.{OthersStay, LendsSame, LosesIn, AreRefusedFor}
 use Rattle.frame_zones.specs.Zones.{zone_count, zone_at, core_at, InEach}
 use Rattle.frame_zones.specs.declared.zones.Zones.{Zones}
 use Rattle.frame_zones.specs.declared.zones.ZoneCore.{ZoneCore}
@@ -95,20 +95,20 @@ abbrev pub SplitsByNumber : Zones → (order frame : ℕ) → ZoneCore → ZoneC
 SplitsByNumber zs order frame c d = IsInZone zs frame (SplitsInZone zs order c d)
 
 -- each zone lends as many blocks as before
-abbrev pub LendAsMany : Zones → ZoneCore → ZoneCore → Type 0
-LendAsMany zs c d = InEach zs LendsAsMany c d
+abbrev pub EachLendsSame : Zones → ZoneCore → ZoneCore → Type 0
+EachLendsSame zs c d = InEach zs LendsSame c d
 
 -- in each zone a move was made for each tree, for an order of blocks, no exchange was lost, and no
 -- block more is lent
-abbrev pub FindNothing : Zones → ℕ → ZoneCore → ZoneCore → Type 0
-FindNothing zs n c d = InEach zs (λ a. FindsNothing a n) c d
+abbrev pub FindsNothingAnywhere : Zones → ℕ → ZoneCore → ZoneCore → Type 0
+FindsNothingAnywhere zs n c d = InEach zs (λ a. FindsNothing a n) c d
 
 -- in each zone a move was made for each tree, for an order of blocks, and no block more is lent; in
 -- one of them an exchange was lost to other cores
 pub record LoseSome (zs : Zones) (n : ℕ) (c d : ZoneCore) : Type 0 where
   pub looked : InEach zs (λ a. HasMovedForEach a n) c d
   pub lost : (z : ℕ) × (z < zone_count zs) × LosesIn c d z
-  pub lent : LendAsMany zs c d
+  pub lent : EachLendsSame zs c d
 
 -- one more, of what is counted in 64 bits
 abbrev pub one_more : ℕ → ℕ
@@ -118,18 +118,18 @@ one_more count = (count + 1) % 2 ^ 64
 pub record FindsNoSlot (zs : Zones) (n : ℕ) (c d : ZoneCore) (count later : ℕ) : Type 0 where
   pub order : n ≤ 9
   pub counted : later ≡ one_more count
-  pub lent : LendAsMany zs c d
+  pub lent : EachLendsSame zs c d
 
 -- why a take of the order was refused, which needs no slot: as one of all zones is, and no zone lends
 -- a block more
 abbrev pub IsRefusedBlock : Zones → ℕ → ZoneCore → ZoneCore → TakeFault → Type 0
-IsRefusedBlock zs n c d fault = AreRefusedFor zs n c d fault × LendAsMany zs c d
+IsRefusedBlock zs n c d fault = AreRefusedFor zs n c d fault × EachLendsSame zs c d
 
 -- why a take of the order was refused: there are no blocks of that order; or a move was made for each
 -- tree of each zone, and no exchange was lost; or one was; or the block that was taken found no slot,
 -- which alone is counted
 abbrev pub IsRefusedTake : Zones → ℕ → ZoneCore → ZoneCore → (count later : ℕ) → TakeFault → Type 0
 IsRefusedTake zs n c d count later BadOrder = (9 < n) × (d ≡ c) × (later ≡ count)
-IsRefusedTake zs n c d count later NoBlock = FindNothing zs n c d × (later ≡ count)
+IsRefusedTake zs n c d count later NoBlock = FindsNothingAnywhere zs n c d × (later ≡ count)
 IsRefusedTake zs n c d count later Contended =
     (LoseSome zs n c d × (later ≡ count)) ⊎ FindsNoSlot zs n c d count later

@@ -48,8 +48,8 @@ LosesSome s t = (z : ℕ) × (z < zone_count (zones_of s)) × ((x : Core)
     → losses_by (core_at s.core z x) < losses_by (core_at t.core z x))
 
 -- the core lost none in any
-abbrev pub LosesNone : CoreState → CoreState → Type 0
-LosesNone s t = (z : ℕ) (x : Core) → z < zone_count (zones_of s)
+abbrev pub LosesNowhere : CoreState → CoreState → Type 0
+LosesNowhere s t = (z : ℕ) (x : Core) → z < zone_count (zones_of s)
     → losses_by (core_at t.core z x) ≤ losses_by (core_at s.core z x)
 
 -- no take says that it found no block after fewer moves in some zone than it has trees, or with a lost
@@ -62,7 +62,7 @@ NoneIsUnsought = (n : ℕ) (s t : CoreState)
 -- than it has trees or with no lost exchange
 abbrev pub ContendedForNothing : Type 0
 ContendedForNothing = (n : ℕ) (s t : CoreState) → ¬ CountsOne s t
-    → (SkipsTrees s t → ¬ RefusesTake n s t Contended) × (LosesNone s t → ¬ RefusesTake n s t Contended)
+    → (SkipsTrees s t → ¬ RefusesTake n s t Contended) × (LosesNowhere s t → ¬ RefusesTake n s t Contended)
 
 -- none is refused for its order up to 9, and none above for want of a block
 abbrev pub OrderIsAnother : Type 0

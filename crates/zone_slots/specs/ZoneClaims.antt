@@ -21,11 +21,11 @@ abbrev pub blocks_within : Stretch → List FrameBlock → List FrameBlock
 blocks_within zone blocks = map (block_within zone) (filter (begins_in zone) blocks)
 
 -- the first frame of one of the blocks
-abbrev pub first_of : List FrameBlock → ℕ → ℕ
-first_of blocks k = (slice_index_or blocks k (block 0 0)).frame
+abbrev pub first_frame_at : List FrameBlock → ℕ → ℕ
+first_frame_at blocks k = (slice_index_or blocks k (block 0 0)).frame
 
 -- just so many of them, the first ones, begin below the frame
 pub record BeginBelow (frame : ℕ) (blocks : List FrameBlock) (n : ℕ) : Type 0 where
   pub count : n ≤ length blocks
-  pub below : (k : ℕ) → k < n → first_of blocks k < frame
-  pub behind : (k : ℕ) → n ≤ k → k < length blocks → frame ≤ first_of blocks k
+  pub below : (k : ℕ) → k < n → first_frame_at blocks k < frame
+  pub behind : (k : ℕ) → n ≤ k → k < length blocks → frame ≤ first_frame_at blocks k

@@ -1,7 +1,7 @@
 //! The cores of a fresh memory of zones that has no slots.
 
 ghost use Rattle.std.specs.Prelude.{◌≡◌, false, IfOk, IfErr, map};
-ghost use Rattle.frame_zones.specs.Spans.{place_of};
+ghost use Rattle.frame_zones.specs.Spans.{place_of_span};
 ghost use Rattle.zone_slots.specs.Openings.{AreListsIn, MayBeOpened, IsNoOpening, AreAllCoresOf};
 
 use crate::core_state::CoreState;
@@ -16,7 +16,7 @@ use std::sync::Arc;
 /// As `open_cores`, but no slot is made: only blocks whose rights the caller keeps can be taken.
 pub fn open_bare_cores(alloc: Global, cores: u32, spans: &[Span]) -> Result<Vec<CoreState>, Fault>
     ensures cores { IfOk result (λ states.
-        AreAllCoresOf false cores (map place_of spans.now) states.items) }
+        AreAllCoresOf false cores (map place_of_span spans.now) states.items) }
     ensures lawful { IfOk result (λ _. MayBeOpened cores spans.now) }
     ensures refused { IfErr result (IsNoOpening cores spans.now) }
 {

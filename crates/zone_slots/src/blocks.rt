@@ -2,8 +2,9 @@
 
 ghost use Rattle.std.specs.Prelude.{◌≡◌, ◌+◌, IfOk, IfErr};
 ghost use Rattle.frame_zones.specs.Frames.{IsLastFrom, BeginBehind};
-ghost use Rattle.frame_zones.specs.Zones.{AreCoresOf, IsOutIn, first_frame_of, first_frame_in};
-ghost use Rattle.zone_slots.specs.Blocks.{HasTakenBlock, HasSplitBlock, TakesBlockFor, SplitsBlockFor, IsOutFor, frame_for, IsRightFor, IsRightIn};
+ghost use Rattle.frame_zones.specs.Uses.{IsGivenFor};
+ghost use Rattle.frame_zones.specs.Zones.{AreCoresOf, IsOutOfItsZone, first_frame_of, first_frame_in};
+ghost use Rattle.zone_slots.specs.Blocks.{HasTakenBlock, HasSplitBlock, TakesBlockFor, SplitsBlockFor, IsOutFor, frame_for, IsRightThrough, IsRightIn};
 ghost use Rattle.zone_slots.specs.Calls.{SharesOne, GivesFor, CountsNone, RemembersLast, KeepsCore, RefusesBlock};
 ghost use Rattle.zone_slots.specs.Memories.{IsFirstOf};
 ghost use Rattle.zone_slots.specs.Uses.{GivesInZone, IsRefusedBlock};
@@ -12,10 +13,10 @@ use crate::core_state::CoreState;
 use crate::first_zone::FirstZone;
 use crate::memory::Memory;
 use atomic_table::Seat;
-use frame_core::{Eye, HeldBlock};
-use frame_table::Block;
+use frame_core::HeldBlock;
+use frame_table::{Block, Watch};
 use frame_words::TakeFault;
-use frame_zones::{ZoneBlock, ZoneCore};
+use frame_zones::{GivenBlock, ZoneBlock, ZoneCore};
 
 impl CoreState {
     /// Takes a block of `2^order` frames: of the core's home zone, else of the next one that has such a
@@ -39,7 +40,8 @@ impl CoreState {
         ensures counted { CountsNone self.old self.new }
         ensures last { RemembersLast self.old self.new }
     {
-        self.shared.give_to(&mut self.core, held);
+        let given = self.shared.give_to(&mut self.core, held);
+        self.given = Some(given);
     }
 
     /// The halves of the block, the lower first. A block of order 0 has none, and is handed back.
@@ -65,8 +67,8 @@ impl CoreState {
 
     /// The block of the order that begins at the frame of this number, whose right this seat is: its
     /// zone is looked up.
-    pub fn block_of(&self, frame: u32, order: u8, seat: Seat<(), Eye>) -> ZoneBlock
-        requires { IsRightFor self.now frame order seat.table_id seat.me }
+    pub fn block_of(&self, frame: u32, order: u8, seat: Seat<(), Watch>) -> ZoneBlock
+        requires { IsRightThrough self.now frame order seat.table_id seat.me }
         ensures out { IsOutFor self.now result }
         ensures frame { frame_for self.now result ≡ frame }
         ensures order { result.block.order ≡ order }
@@ -86,14 +88,15 @@ impl Memory {
         self.zones.take(core, order)
     }
 
-    fn give_to(&self, core: &mut ZoneCore, held: ZoneBlock)
+    fn give_to(&self, core: &mut ZoneCore, held: ZoneBlock) -> GivenBlock
         requires core { AreCoresOf self.now.zones core.old }
-        requires out { IsOutIn self.now.zones held }
+        requires out { IsOutOfItsZone self.now.zones held }
         ensures core { AreCoresOf self.now.zones core.new }
         ensures given { GivesInZone self.now.zones held.block.order core.old core.new
             held.zone held.block.frame }
+        ensures very { IsGivenFor held result }
     {
-        self.zones.give(core, held);
+        self.zones.give(core, held)
     }
 
     fn split_in(
@@ -102,7 +105,7 @@ impl Memory {
         held: ZoneBlock,
     ) -> Result<(ZoneBlock, ZoneBlock), ZoneBlock>
         requires core { AreCoresOf self.now.zones core.old }
-        requires out { IsOutIn self.now.zones held }
+        requires out { IsOutOfItsZone self.now.zones held }
         ensures core { AreCoresOf self.now.zones core.new }
         ensures split { IfOk result (λ r.
             HasSplitBlock self.now.zones held r.0 r.1 core.old core.new) }
@@ -118,17 +121,17 @@ impl Memory {
     #[inline(always)]
     fn frame_at(&self, known: FirstZone, held: &ZoneBlock) -> u32
         requires known { IsFirstOf self.now.zones known }
-        requires out { IsOutIn self.now.zones held.now }
+        requires out { IsOutOfItsZone self.now.zones held.now }
         ensures { result ≡ first_frame_in self.now.zones held.now }
     {
         self.number_at(known, held.zone, held.block.frame())
     }
 
     #[inline(always)]
-    fn block_at(&self, known: FirstZone, frame: u32, order: u8, seat: Seat<(), Eye>) -> ZoneBlock
+    fn block_at(&self, known: FirstZone, frame: u32, order: u8, seat: Seat<(), Watch>) -> ZoneBlock
         requires known { IsFirstOf self.now.zones known }
         requires right { IsRightIn self.now.zones frame order seat.table_id seat.me }
-        ensures out { IsOutIn self.now.zones result }
+        ensures out { IsOutOfItsZone self.now.zones result }
         ensures frame { first_frame_in self.now.zones result ≡ frame }
         ensures order { result.block.order ≡ order }
         ensures seat { result.block.seat ≡ seat }

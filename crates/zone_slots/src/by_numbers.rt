@@ -1,9 +1,10 @@
 //! Takes, gives and splits of blocks whose rights rest at their slots.
 
-ghost use Rattle.std.specs.Prelude.{◌≡◌, ◌≢◌, ◌<◌, IfOk, IfErr, IfSome, IfNone};
+ghost use Rattle.std.specs.Prelude.{◌≡◌, ◌≢◌, ◌+◌, ◌-◌, ◌^◌, ◌<◌, IfOk, IfErr, IfSome, IfNone};
+ghost use Rattle.frame_model.specs.Block.{block as block_at};
 ghost use Rattle.frame_zones.specs.Uses.{GivesIn};
-ghost use Rattle.frame_zones.specs.Zones.{zone_count, AreCoresOf, IsOutIn};
-ghost use Rattle.zone_slots.specs.Memories.{IsFirstOf};
+ghost use Rattle.frame_zones.specs.Zones.{zone_count, AreCoresOf, IsOutOfItsZone};
+ghost use Rattle.zone_slots.specs.Memories.{IsFirstOf, block_given, block_laid};
 ghost use Rattle.zone_slots.specs.Refusals.{IsRefusedSplit};
 ghost use Rattle.zone_slots.specs.Uses.{HasTakenFor, IsReceiptOf, GivesInZone, GivesByNumber, SplitsByNumber, IsRefusedTake};
 
@@ -12,7 +13,7 @@ use crate::memory::Memory;
 use crate::refusal::Refusal;
 use crate::zone_receipt::ZoneReceipt;
 use frame_words::TakeFault;
-use frame_zones::{ZoneBlock, ZoneCore};
+use frame_zones::{GivenBlock, ZoneBlock, ZoneCore};
 
 impl Memory {
     /// Takes a block, and lays it down at its slot.
@@ -46,11 +47,12 @@ impl Memory {
         core: &mut ZoneCore,
         frame: u32,
         order: u8,
-    ) -> Result<(), Refusal>
+    ) -> Result<GivenBlock, Refusal>
         requires known { IsFirstOf self.now.zones known }
         requires core { AreCoresOf self.now.zones core.old }
         ensures core { AreCoresOf self.now.zones core.new }
         ensures given { IfOk result (λ _. GivesByNumber self.now.zones order frame core.old core.new) }
+        ensures very { IfOk result (λ g. block_given self.now.zones g ≡ block_at frame order) }
         ensures same { IfErr result (λ _. core.new ≡ core.old) }
         ensures refused { IfErr result (λ e. e ≡ Refusal.NotHeld) }
     {
@@ -62,10 +64,16 @@ impl Memory {
 
     // The same where the first zone does not have the frame. The look-up answers two numbers through memory,
     // which a give in the first zone is spared.
-    fn give_elsewhere(&self, core: &mut ZoneCore, frame: u32, order: u8) -> Result<(), Refusal>
+    fn give_elsewhere(
+        &self,
+        core: &mut ZoneCore,
+        frame: u32,
+        order: u8,
+    ) -> Result<GivenBlock, Refusal>
         requires { AreCoresOf self.now.zones core.old }
         ensures core { AreCoresOf self.now.zones core.new }
         ensures given { IfOk result (λ _. GivesByNumber self.now.zones order frame core.old core.new) }
+        ensures very { IfOk result (λ g. block_given self.now.zones g ≡ block_at frame order) }
         ensures same { IfErr result (λ _. core.new ≡ core.old) }
         ensures refused { IfErr result (λ e. e ≡ Refusal.NotHeld) }
     {
@@ -77,23 +85,30 @@ impl Memory {
 
     // The same in its zone, where it begins at this frame.
     #[inline(always)]
-    fn give_in(&self, core: &mut ZoneCore, zone: u32, local: u32, order: u8) -> Result<(), Refusal>
+    fn give_in(
+        &self,
+        core: &mut ZoneCore,
+        zone: u32,
+        local: u32,
+        order: u8,
+    ) -> Result<GivenBlock, Refusal>
         requires core { AreCoresOf self.now.zones core.old }
         requires zone { zone < zone_count self.now.zones }
         ensures core { AreCoresOf self.now.zones core.new }
         ensures given { IfOk result (λ _.
             GivesInZone self.now.zones order core.old core.new zone local) }
+        ensures very { IfOk result (λ g. (g.zone ≡ zone) × (g.frame ≡ local) × (g.order ≡ order)) }
         ensures same { IfErr result (λ _. core.new ≡ core.old) }
         ensures refused { IfErr result (λ e. e ≡ Refusal.NotHeld) }
     {
         let Some(block) = self.fetch_in(zone, local, order) else {
             return Err(Refusal::NotHeld);
         };
-        self.zones.give(core, ZoneBlock { zone, block });
-        Ok(())
+        let given = self.zones.give(core, ZoneBlock { zone, block });
+        Ok(given)
     }
 
-    /// Fetches a block from its slot, and lays its halves down at theirs.
+    /// Fetches a block from its slot, and lays its halves down at theirs, the lower first.
     #[inline]
     pub(crate) fn split_at_slot(
         &self,
@@ -102,11 +117,14 @@ impl Memory {
         slotless: &mut u64,
         frame: u32,
         order: u8,
-    ) -> Result<(), Refusal>
+    ) -> Result<(ZoneReceipt, ZoneReceipt), Refusal>
         requires known { IsFirstOf self.now.zones known }
         requires core { AreCoresOf self.now.zones core.old }
         ensures core { AreCoresOf self.now.zones core.new }
         ensures split { IfOk result (λ _. SplitsByNumber self.now.zones order frame core.old core.new) }
+        ensures lower { IfOk result (λ r. block_laid self.now.zones r.0 ≡ block_at frame (order - 1)) }
+        ensures upper { IfOk result (λ r. block_laid self.now.zones r.1
+            ≡ block_at (frame + 2 ^ (order - 1)) (order - 1)) }
         ensures same { IfErr result (λ e. e ≢ Refusal.NoSlot → core.new ≡ core.old) }
         ensures counted { IfOk result (λ _. slotless.new ≡ slotless.old) }
         ensures refused { IfErr result (IsRefusedSplit order slotless.old slotless.new) }
@@ -121,12 +139,11 @@ impl Memory {
             Ok((lower, upper)) => {
                 let lower_rests = self.lay_down(core, lower);
                 let upper_rests = self.lay_down(core, upper);
-                if lower_rests.is_some() && upper_rests.is_some() {
-                    Ok(())
-                } else {
+                let (Some(lower), Some(upper)) = (lower_rests, upper_rests) else {
                     *slotless = slotless.wrapping_add(1);
-                    Err(Refusal::NoSlot)
-                }
+                    return Err(Refusal::NoSlot);
+                };
+                Ok((lower, upper))
             }
             Err(held) => {
                 self.lay_down(core, held);
@@ -139,7 +156,7 @@ impl Memory {
     // Lays the block down at its slot. Where one rests there, or there is none, the block is given back.
     #[inline]
     fn lay_down(&self, core: &mut ZoneCore, held: ZoneBlock) -> Option<ZoneReceipt>
-        requires out { IsOutIn self.now.zones held }
+        requires out { IsOutOfItsZone self.now.zones held }
         requires core { AreCoresOf self.now.zones core.old }
         ensures core { AreCoresOf self.now.zones core.new }
         ensures rests { IfSome result (λ _. core.new ≡ core.old) }

@@ -46,8 +46,11 @@ impl CoreState {
         ensures last { RemembersLast self.old self.new }
     {
         let first = self.first;
-        self.shared
-            .give_from_slot(first, &mut self.core, frame, order)
+        let given = self
+            .shared
+            .give_from_slot(first, &mut self.core, frame, order)?;
+        self.given = Some(given);
+        Ok(())
     }
 
     /// Splits exactly this block into its halves, where it is held, whichever core took it; any core
@@ -60,6 +63,14 @@ impl CoreState {
         ensures refused { IfErr result (RefusesSplit order self.old self.new) }
         ensures last { RemembersLast self.old self.new }
     {
-        self.shared.split_at_slot(self.first, &mut self.core, &mut self.slotless, frame, order)
+        let halves = self.shared.split_at_slot(
+            self.first,
+            &mut self.core,
+            &mut self.slotless,
+            frame,
+            order,
+        )?;
+        self.halves = Some(halves);
+        Ok(())
     }
 }

@@ -7,7 +7,7 @@ ghost use Rattle.zone_slots.specs.Memories.{IsFirstOf};
 use crate::first_zone::FirstZone;
 use crate::memory::Memory;
 use crate::zone_receipt::ZoneReceipt;
-use frame_zones::ZoneCore;
+use frame_zones::{GivenBlock, ZoneCore};
 use std::alloc::Global;
 use std::sync::Arc;
 
@@ -20,6 +20,10 @@ pub struct CoreState {
     pub(crate) slotless: u64,
     // Of the block that its last take laid down.
     pub(crate) last: Option<ZoneReceipt>,
+    // Of the block that its last give gave.
+    pub(crate) given: Option<GivenBlock>,
+    // Of the halves that its last split laid down, the lower first.
+    pub(crate) halves: Option<(ZoneReceipt, ZoneReceipt)>,
     pub(crate) first: FirstZone,
     // No two cores share a cache line.
     pub(crate) apart: [u64; 14],

@@ -3,7 +3,7 @@
 ghost use Rattle.std.specs.Prelude.{◌≡◌, ◌+◌, ◌<◌, ◌≤◌, MatchBool, IfOk, IfErr, vec_len, length};
 ghost use Rattle.frame_model.specs.Key.{AreRanges};
 ghost use Rattle.zone_slots.specs.Layouts.{end_of, MayBeZone, MayBeLaidOut};
-ghost use Rattle.zone_slots.specs.Cuts.{AreApart, AreIn, AreInside, IsPieceOf, MayBeHeldBack, Meet};
+ghost use Rattle.zone_slots.specs.Cuts.{AreRangesApart, AreIn, AreInside, IsPieceOf, MayBeHeldBack, Meet};
 
 use crate::layouts::ends_at_or_below;
 use core_frames::MOST_RANGES;
@@ -21,7 +21,7 @@ pub fn may_be_held_back(zones: &[(u32, u32)], ranges: &[(u32, u32)]) -> bool
 
 // Is none empty, and does none begin before the one in front of it ends?
 fn are_apart(ranges: &[(u32, u32)]) -> bool
-    ensures { MatchBool result (AreApart ranges.now) (¬ AreApart ranges.now) }
+    ensures { MatchBool result (AreRangesApart ranges.now) (¬ AreRangesApart ranges.now) }
 {
     let mut from = 0;
     for &(first, frames) in ranges {
@@ -36,7 +36,7 @@ fn are_apart(ranges: &[(u32, u32)]) -> bool
 // Does each of their frames lie in a zone? None does in a hole.
 fn are_inside(zones: &[(u32, u32)], ranges: &[(u32, u32)]) -> bool
     requires zones { MayBeLaidOut zones.now }
-    requires ranges { AreApart ranges.now }
+    requires ranges { AreRangesApart ranges.now }
     ensures { MatchBool result (AreInside zones.now ranges.now) (¬ AreInside zones.now ranges.now) }
 {
     let mut from = 0;
@@ -54,7 +54,7 @@ fn are_inside(zones: &[(u32, u32)], ranges: &[(u32, u32)]) -> bool
 
 // Does some frame from one to before another lie in a range?
 fn meet(from: u64, end: u64, ranges: &[(u32, u32)]) -> bool
-    requires { AreApart ranges.now }
+    requires { AreRangesApart ranges.now }
     ensures { MatchBool result (Meet from end ranges.now) (¬ Meet from end ranges.now) }
 {
     if end <= from {
@@ -76,7 +76,7 @@ pub fn pieces_in(
     ranges: &[(u32, u32)],
 ) -> Result<Vec<(u32, u32)>, Fault>
     requires zone { MayBeZone (first, frames) }
-    requires ranges { AreApart ranges.now }
+    requires ranges { AreRangesApart ranges.now }
     ensures pieces { IfOk result (λ pieces. AreIn (first, frames) ranges.now pieces.items) }
     ensures lawful { IfOk result (λ pieces. AreRanges 0 frames pieces.items) }
     ensures count { IfOk result (λ pieces. vec_len pieces ≤ length ranges.now) }

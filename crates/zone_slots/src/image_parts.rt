@@ -5,7 +5,7 @@ ghost use Rattle.zone_slots.specs.Layouts.{MayBeLaidOut};
 ghost use Rattle.frame_slots.specs.Numbers.{child_count_of};
 ghost use Rattle.frame_zones.specs.Zones.{zone_count};
 ghost use Rattle.zone_slots.specs.Calls.{image_numbers_by};
-ghost use Rattle.zone_slots.specs.ImageParts.{numbers_of, numbers_before, AreStarts};
+ghost use Rattle.zone_slots.specs.ImageParts.{image_numbers_of, numbers_before, AreStarts};
 
 use crate::core_state::CoreState;
 use crate::memory::Memory;
@@ -15,7 +15,7 @@ use std::alloc::Global;
 /// How many numbers an image of the zones has.
 pub fn image_numbers(zones: &[(u32, u32)]) -> usize
     requires { MayBeLaidOut zones.now }
-    ensures { result ≡ numbers_of zones.now }
+    ensures { result ≡ image_numbers_of zones.now }
 {
     let mut sum = 0;
     for &(_, frames) in zones {

@@ -1,8 +1,8 @@
 //! Where the zones of a memory lie, whose frames are numbers of 32 bits.
 
 ghost use Rattle.std.specs.Prelude.{◌≡◌, ◌<◌, ◌≤◌, MatchBool, MatchOption, IfOk, IfErr, length};
-ghost use Rattle.zone_slots.specs.Layouts.{most_numbers, stretch_at, LiesIn, LiesInOne, MayBeZone, MayBeLaidOut};
-ghost use Rattle.zone_slots.specs.Layouts.{AreEven, AreNoZonesFor, Ascend, EndAtOrBelow};
+ghost use Rattle.zone_slots.specs.Layouts.{most_numbers, stretch_at, LiesInStretch, LiesInOne, MayBeZone, MayBeLaidOut};
+ghost use Rattle.zone_slots.specs.Layouts.{AreEven, AreNoZonesFor, LieInOrder, EndAtOrBelow};
 
 use frame_words::{CHILD_FRAMES, Fault, MOST_FRAMES};
 use frame_zones::MOST_ZONES;
@@ -65,7 +65,7 @@ pub fn even_zones(alloc: Global, frames: u32) -> Result<Vec<(u32, u32)>, Fault>
 pub fn zone_of(zones: &[(u32, u32)], frame: u32) -> Option<usize>
     requires { MayBeLaidOut zones.now }
     ensures { MatchOption result (¬ LiesInOne frame zones.now)
-        (λ z. (z < length zones.now) × LiesIn frame (stretch_at zones.now z)) }
+        (λ z. (z < length zones.now) × LiesInStretch frame (stretch_at zones.now z)) }
 {
     let behind = ends_at_or_below(zones, u64::from(frame));
     if behind < zones.len() && zones[behind].0 <= frame {
@@ -77,7 +77,7 @@ pub fn zone_of(zones: &[(u32, u32)], frame: u32) -> Option<usize>
 
 /// How many of the stretches, which ascend, end at or below the frame: a bisection.
 pub(crate) fn ends_at_or_below(stretches: &[(u32, u32)], frame: u64) -> usize
-    requires { Ascend stretches.now }
+    requires { LieInOrder stretches.now }
     ensures { EndAtOrBelow frame stretches.now result }
 {
     let mut low = 0;

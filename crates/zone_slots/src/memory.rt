@@ -2,10 +2,10 @@
 
 ghost use Rattle.std.specs.Prelude.{◌≡◌, ◌+◌, ◌<◌, IfOk, IfErr, IfSome};
 ghost use Rattle.frame_zones.specs.FreeCounts.{frames_among};
-ghost use Rattle.frame_zones.specs.Zones.{zone_count, first_frame_of, first_frame_in, IsOutIn};
+ghost use Rattle.frame_zones.specs.Zones.{zone_count, first_frame_of, first_frame_in, IsOutOfItsZone};
 ghost use Rattle.zone_slots.specs.Layouts.{most_numbers};
 ghost use Rattle.frame_zones.specs.Frames.{IsFrameIn};
-ghost use Rattle.zone_slots.specs.Memories.{number_for, AreSlotted, AreNumbered, IsFirstOf, IsOutOfZone};
+ghost use Rattle.zone_slots.specs.Memories.{number_for, AreSlotted, HaveNumbers, IsFirstOf, IsOutOfZone};
 ghost use Rattle.zone_slots.specs.Uses.{IsReceiptOf};
 
 use crate::first_zone::FirstZone;
@@ -29,7 +29,7 @@ pub struct Memory {
     // What is read at each call shares no cache line with what comes behind it in the heap.
     pub(crate) apart: [u64; 8],
     pub(crate) ghost slotted: { AreSlotted zones slots.items },
-    pub(crate) ghost numbered: { AreNumbered zones },
+    pub(crate) ghost numbered: { HaveNumbers zones },
     pub(crate) ghost sized: { frames ≡ frames_among zones },
 }
 
@@ -37,7 +37,7 @@ impl Memory {
     /// These zones, with these slots, of which none was used yet.
     pub(crate) fn of(alloc: Global, zones: Zones, slots: Vec<SlotList>) -> Memory
         requires slots { AreSlotted zones slots.items }
-        requires numbered { AreNumbered zones }
+        requires numbered { HaveNumbers zones }
         ensures zones { result.zones ≡ zones }
         ensures slots { result.slots.items ≡ slots.items }
     {
@@ -98,7 +98,7 @@ impl Memory {
         order: u8,
     ) -> Option<ZoneBlock>
         requires { IsFirstOf self.now.zones known }
-        ensures out { IfSome result (IsOutIn self.now.zones) }
+        ensures out { IfSome result (IsOutOfItsZone self.now.zones) }
         ensures frame { IfSome result (λ b. first_frame_in self.now.zones b ≡ frame) }
         ensures order { IfSome result (λ b. b.block.order ≡ order) }
     {
@@ -135,9 +135,9 @@ impl Memory {
     /// Lays the block down at its slot. Where one rests there, or there is none, it is handed back.
     #[inline(always)]
     pub(crate) fn rest(&self, held: ZoneBlock) -> Result<ZoneReceipt, ZoneBlock>
-        requires { IsOutIn self.now.zones held }
+        requires { IsOutOfItsZone self.now.zones held }
         ensures laid { IfOk result (IsReceiptOf held) }
-        ensures out { IfErr result (IsOutIn self.now.zones) }
+        ensures out { IfErr result (IsOutOfItsZone self.now.zones) }
         ensures zone { IfErr result (λ b. b.zone ≡ held.zone) }
     {
         let ZoneBlock { zone, block } = held;

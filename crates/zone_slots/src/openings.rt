@@ -3,12 +3,13 @@
 ghost use Rattle.std.specs.Prelude.{◌≡◌, ◌+◌, ◌<◌, true, MatchBool, IfOk, IfErr, vec_len, map};
 ghost use Rattle.std.specs.Arc.{arc_value};
 ghost use Rattle.std.specs.List.{All};
-ghost use Rattle.frame_zones.specs.Openings.{AreOpened};
-ghost use Rattle.frame_zones.specs.Spans.{place_of};
+ghost use Rattle.frame_zones.specs.Openings.{AreOpened, HaveHomes};
+ghost use Rattle.frame_zones.specs.Spans.{place_of_span};
 ghost use Rattle.frame_zones.specs.Zones.{zone_count, AreCoresOf};
-ghost use Rattle.zone_slots.specs.Memories.{AreNumbered};
+ghost use Rattle.zone_slots.specs.Memories.{HaveNumbers};
 ghost use Rattle.zone_slots.specs.Openings.{LieAt, Shares, IsListIn, AreListsIn, IsUsedAlike, IsUnusedCore, IsUnusedState};
 ghost use Rattle.zone_slots.specs.Openings.{HasNumbers, MayBeOpened, IsNoOpening, AreUnusedIn, AreAllCoresOf};
+ghost use Rattle.zone_slots.specs.Openings.{parts_from_last, HaveSameHomes};
 
 use crate::core_state::CoreState;
 use crate::layouts::MOST_NUMBERS;
@@ -29,7 +30,7 @@ pub(crate) const LISTS_APART: usize = 2;
 /// lack of memory.
 pub fn open_cores(alloc: Global, cores: u32, spans: &[Span]) -> Result<Vec<CoreState>, Fault>
     ensures cores { IfOk result (λ states.
-        AreAllCoresOf true cores (map place_of spans.now) states.items) }
+        AreAllCoresOf true cores (map place_of_span spans.now) states.items) }
     ensures lawful { IfOk result (λ _. MayBeOpened cores spans.now) }
     ensures refused { IfErr result (IsNoOpening cores spans.now) }
 {
@@ -46,9 +47,10 @@ pub(crate) fn open_memory(
     cores: u32,
     spans: &[Span],
 ) -> Result<(Memory, Vec<ZoneCore>), Fault>
-    ensures zones { IfOk result (λ r. LieAt cores (map place_of spans.now) r.0.zones) }
+    ensures zones { IfOk result (λ r. LieAt cores (map place_of_span spans.now) r.0.zones) }
     ensures slots { IfOk result (λ r. AreListsIn true r.0.zones r.0.slots.items) }
     ensures cores { IfOk result (λ r. AreUnusedIn r.0.zones r.1.items) }
+    ensures homes { IfOk result (λ r. HaveHomes cores (zone_count r.0.zones) r.1.items) }
     ensures count { IfOk result (λ r. vec_len r.1 ≡ cores) }
     ensures lawful { IfOk result (λ _. MayBeOpened cores spans.now) }
     ensures refused { IfErr result (IsNoOpening cores spans.now) }
@@ -64,9 +66,10 @@ pub(crate) fn open_zones(
     cores: u32,
     spans: &[Span],
 ) -> Result<(Zones, Vec<ZoneCore>), Fault>
-    ensures zones { IfOk result (λ r. LieAt cores (map place_of spans.now) r.0) }
-    ensures numbered { IfOk result (λ r. AreNumbered r.0) }
+    ensures zones { IfOk result (λ r. LieAt cores (map place_of_span spans.now) r.0) }
+    ensures numbered { IfOk result (λ r. HaveNumbers r.0) }
     ensures cores { IfOk result (λ r. AreUnusedIn r.0 r.1.items) }
+    ensures homes { IfOk result (λ r. HaveHomes cores (zone_count r.0) r.1.items) }
     ensures count { IfOk result (λ r. vec_len r.1 ≡ cores) }
     ensures lawful { IfOk result (λ _. MayBeOpened cores spans.now) }
     ensures refused { IfErr result (IsNoOpening cores spans.now) }
@@ -106,6 +109,7 @@ fn lists_through(
     requires { AreUnusedIn zones.now parts.old.items }
     ensures lists { IfOk result (λ lists. AreListsIn true zones.now lists.items) }
     ensures cores { IfOk result (λ _. AreUnusedIn zones.now parts.new.items) }
+    ensures homes { IfOk result (λ _. HaveSameHomes parts.old.items parts.new.items) }
     ensures count { IfOk result (λ _. vec_len parts.new ≡ vec_len parts.old) }
     ensures err { IfErr result (λ e. e ≡ Fault.NoMemory) }
 {
@@ -122,6 +126,7 @@ fn lists_through(
 fn lists_of(alloc: Global, zones: &Zones, core: &mut ZoneCore) -> Result<Vec<SlotList>, Fault>
     requires { AreCoresOf zones.now core.old }
     ensures core { AreCoresOf zones.now core.new }
+    ensures home { core.new.home ≡ core.old.home }
     ensures used { IfOk result (λ _. IsUsedAlike zones.now core.old core.new) }
     ensures lists { IfOk result (λ lists. AreListsIn true zones.now lists.items) }
     ensures err { IfErr result (λ e. e ≡ Fault.NoMemory) }
@@ -146,6 +151,7 @@ fn list_in(
     requires core { AreCoresOf zones.now core.old }
     requires zone { zone < zone_count zones.now }
     ensures core { AreCoresOf zones.now core.new }
+    ensures home { core.new.home ≡ core.old.home }
     ensures used { IfOk result (λ _. IsUsedAlike zones.now core.old core.new) }
     ensures list { IfOk result (IsListIn true zones.now zone) }
     ensures err { IfErr result (λ e. e ≡ Fault.NoMemory) }
@@ -167,6 +173,7 @@ pub(crate) fn cores_over(
     ensures shared { IfOk result (λ states. All (Shares (arc_value shared.now)) states.items) }
     ensures unused { All IsUnusedCore cores.items
         → IfOk result (λ states. All IsUnusedState states.items) }
+    ensures order { IfOk result (λ states. parts_from_last states.items ≡ cores.items) }
     ensures count { IfOk result (λ states. vec_len states ≡ vec_len cores) }
     ensures err { IfErr result (λ e. e ≡ Fault.NoMemory) }
 {
@@ -195,6 +202,8 @@ pub(crate) fn state_over(shared: &Arc<Memory, Global>, core: ZoneCore) -> Result
         core,
         slotless: 0,
         last: None,
+        given: None,
+        halves: None,
         first,
         apart: [0; 14],
     })

@@ -1,14 +1,15 @@
 //! The cores of zones of a memory that was in use before.
 
-ghost use Rattle.std.specs.Prelude.{◌≡◌, ℕ, ◌+◌, ◌<◌, IfOk, IfErr, vec_len, map, drop, length};
+ghost use Rattle.std.specs.Prelude.{◌≡◌, ℕ, ◌+◌, ◌<◌, ◌∷◌, true, IfOk, IfErr, vec_len, map, drop, length};
 ghost use Rattle.core_frames.specs.declared.shared.allocator.Allocator.{Allocator};
 ghost use Rattle.core_frames.specs.declared.shared.allocator.Core.{Core};
 ghost use Rattle.core_frames.specs.Cores.{memory_of};
 ghost use Rattle.frame_slots.specs.Reopenings.{KeepsRest, IsNoReplay};
 ghost use Rattle.frame_slots.specs.Slots.{IsUnused, laid_down};
-ghost use Rattle.frame_zones.specs.Spans.{place_of};
+ghost use Rattle.frame_zones.specs.Openings.{HaveHomes};
+ghost use Rattle.frame_zones.specs.Spans.{place_of_span};
 ghost use Rattle.frame_zones.specs.Zones.{zone_count, zone_at, core_at, AreCoresOf};
-ghost use Rattle.zone_slots.specs.Openings.{LieAt, IsUnusedCore, AreUnusedIn};
+ghost use Rattle.zone_slots.specs.Openings.{LieAt, AreListsIn, IsUnusedCore, AreUnusedIn};
 ghost use Rattle.zone_slots.specs.Reopenings.{ChangesIn, KeepsRests, HasLaidIn, HaveLaidDown, AreReopened, IsNoReopening};
 
 use crate::core_state::CoreState;
@@ -35,7 +36,7 @@ pub fn reopen_cores(
 ) -> Result<Vec<CoreState>, Fault>
     requires { length claimed.now ≡ length spans.now }
     ensures cores { IfOk result (λ states.
-        AreReopened cores (map place_of spans.now) numbers.now claimed.now states.items) }
+        AreReopened cores (map place_of_span spans.now) numbers.now claimed.now states.items) }
     ensures err { IfErr result (IsNoReopening cores spans.now) }
 {
     let (memory, parts, keeper) = reopen_memory(alloc, cores, spans, numbers, claimed)?;
@@ -59,7 +60,9 @@ fn reopen_memory(
     claimed: &[Vec<FrameBlock>],
 ) -> Result<(Memory, Vec<ZoneCore>, ZoneCore), Fault>
     requires { length claimed.now ≡ length spans.now }
-    ensures zones { IfOk result (λ r. LieAt cores (map place_of spans.now) r.0.zones) }
+    ensures zones { IfOk result (λ r. LieAt cores (map place_of_span spans.now) r.0.zones) }
+    ensures slots { IfOk result (λ r. AreListsIn true r.0.zones r.0.slots.items) }
+    ensures homes { IfOk result (λ r. HaveHomes cores (zone_count r.0.zones) (r.2 ∷ r.1.items)) }
     ensures cores { IfOk result (λ r. AreUnusedIn r.0.zones r.1.items × AreCoresOf r.0.zones r.2) }
     ensures rest { IfOk result (λ r. KeepsRests numbers.now claimed.now r.0.zones r.2) }
     ensures count { IfOk result (λ r. vec_len r.1 + 1 ≡ cores) }
@@ -67,9 +70,11 @@ fn reopen_memory(
     ensures err { IfErr result (IsNoReopening cores spans.now) }
 {
     let (mut memory, mut parts) = open_memory(alloc, cores, spans)?;
-    let Some(mut part) = parts.pop() else {
+    if parts.is_empty() {
         return Err(Fault::NoMemory);
-    };
+    }
+    // The first core keeps it, which stands last, as an opening has it.
+    let mut part = parts.remove(0);
     memory.replay(alloc, &mut part, numbers, claimed)?;
     Ok((memory, parts, part))
 }
@@ -86,7 +91,9 @@ impl Memory {
         requires core { AreCoresOf self.old.zones core.old × IsUnusedCore core.old }
         requires claimed { length claimed.now ≡ zone_count self.old.zones }
         ensures zones { self.new.zones ≡ self.old.zones }
+        ensures slots { self.new.slots ≡ self.old.slots }
         ensures core { AreCoresOf self.old.zones core.new }
+        ensures home { core.new.home ≡ core.old.home }
         ensures rest { IfOk result (λ _. KeepsRests numbers.now claimed.now self.old.zones core.new) }
         ensures laid { IfOk result (λ _. HaveLaidDown claimed.now self.new) }
         ensures err { IfErr result IsNoReplay }
@@ -117,6 +124,7 @@ impl Memory {
         requires zone { zone < zone_count self.now.zones }
         requires unused { (x : Core) → IsUnused (core_at core.old zone x) }
         ensures core { ChangesIn self.now.zones zone core.old core.new }
+        ensures home { core.new.home ≡ core.old.home }
         ensures rest { IfOk result (λ _. (a : Allocator) (x : Core)
             → KeepsRest (memory_of (zone_at self.now.zones zone a)).frames numbers.now claimed.now
             (core_at core.new zone x)) }

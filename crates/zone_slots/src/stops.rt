@@ -40,6 +40,8 @@ impl CoreState {
             core,
             slotless,
             last,
+            given,
+            halves,
             first,
             apart,
         } = self;
@@ -52,6 +54,8 @@ impl CoreState {
                     core,
                     slotless,
                     last,
+                    given,
+                    halves,
                     first,
                     apart,
                 },

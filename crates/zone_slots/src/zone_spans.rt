@@ -5,7 +5,7 @@ ghost use Rattle.frame_words.specs.Geometry.{most_cores};
 ghost use Rattle.frame_model.specs.Key.{most_ranges};
 ghost use Rattle.zone_slots.specs.Layouts.{MayBeZone};
 ghost use Rattle.zone_slots.specs.Openings.{MayBeOpened};
-ghost use Rattle.zone_slots.specs.Cuts.{AreApart, MayBeHeldBack};
+ghost use Rattle.zone_slots.specs.Cuts.{AreRangesApart, MayBeHeldBack};
 ghost use Rattle.zone_slots.specs.ZoneSpans.{AreNoSpansFor, AreSpansOf, IsSpanOf, MayBeUsed};
 
 use crate::cuts::{may_be_held_back, pieces_in};
@@ -56,7 +56,7 @@ fn span_of(
     requires cores { (1 ≤ cores) × (cores ≤ most_cores) }
     requires zone { MayBeZone (first, frames) }
     requires few { length ranges.now ≤ most_ranges }
-    requires ranges { AreApart ranges.now }
+    requires ranges { AreRangesApart ranges.now }
     ensures { IfOk result (λ span. IsSpanOf cores ranges.now (first, frames) span) }
 {
     let geometry = Geometry::with_frames(frames.div_ceil(CHILD_FRAMES), cores, frames)?;

@@ -3,7 +3,9 @@
 ghost use Rattle.std.specs.Prelude.{◌≡◌, ◌+◌, ◌≤◌};
 ghost use Rattle.frame_words.specs.Geometry.{huge_order};
 ghost use Rattle.core_frames.specs.Bounds.{most_moves, most_in_give};
-ghost use Rattle.core_frames.specs.Cores.{memory_of, moves_by, IsCoreOf, StaysCoreOf, IsOutOf};
+ghost use Rattle.frame_table.specs.Seats.{block_in};
+ghost use Rattle.core_frames.specs.Cores.{memory_of, moves_by, StepsAlone, IsSureOf, IsOutOf};
+ghost use Rattle.core_frames.specs.Cores.{IsCoreOf, StaysCoreOf, RecordsGiveAt};
 ghost use Rattle.core_frames.specs.Found.{IsOutAs};
 ghost use Rattle.core_frames.specs.Uses.{TakesThrough, HasGiven, Gives};
 
@@ -43,6 +45,8 @@ impl Allocator {
         requires block { IsOutOf self.now block }
         ensures core { StaysCoreOf self.now core.old core.new }
         ensures gives { HasGiven core.old core.new }
+        ensures record { RecordsGiveAt (block_in block).frame core.old core.new }
+        ensures sure { StepsAlone self.now core.old → IsSureOf self.now core.new }
         ensures moves { moves_by core.new ≤ moves_by core.old + most_in_give }
     {
         let order = block.order();
@@ -58,7 +62,8 @@ impl Allocator {
     fn give_huge(&self, core: &mut Core, found: Found)
         requires core { IsCoreOf self.now core.old }
         requires found { IsOutAs self.now huge_order found }
-        ensures { Gives self.now core.old core.new }
+        ensures gives { Gives self.now core.old core.new }
+        ensures record { RecordsGiveAt found.frame core.old core.new }
     {
         self.give_of(core, found.with_order(HUGE_ORDER));
     }
@@ -67,7 +72,8 @@ impl Allocator {
     fn give_any(&self, core: &mut Core, found: Found, order: u8)
         requires core { IsCoreOf self.now core.old }
         requires found { IsOutAs self.now order found }
-        ensures { Gives self.now core.old core.new }
+        ensures gives { Gives self.now core.old core.new }
+        ensures record { RecordsGiveAt found.frame core.old core.new }
     {
         self.give_of(core, found.with_order(order));
     }
@@ -76,7 +82,8 @@ impl Allocator {
     fn give_of(&self, core: &mut Core, block: Block)
         requires core { IsCoreOf self.now core.old }
         requires block { IsOutOf self.now block }
-        ensures { Gives self.now core.old core.new }
+        ensures gives { Gives self.now core.old core.new }
+        ensures record { RecordsGiveAt (block_in block).frame core.old core.new }
     {
         let mut m = SharedMoves::new(&self.table, &mut core.seat);
         give_by(&mut m, &mut core.habit, block);

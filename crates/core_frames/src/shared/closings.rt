@@ -11,14 +11,25 @@ use frame_core::Image;
 use frame_table::{CoreSeat, Seated, close_table};
 use frame_words::Fault;
 use std::alloc::Global;
+use std::fmt::{self, Debug, Formatter, Write};
+use thiserror::Error;
 
 /// An allocator that was not closed. It and the cores are as they were.
-#[derive(Drop)]
+#[derive(Drop, Error)]
+#[error("the allocator was not closed: {fault}")]
 pub struct CloseFault {
     /// `MissingCores` or `NoMemory`.
     pub fault: Fault,
     pub allocator: Allocator,
     pub cores: Vec<Core>,
+}
+
+impl Debug for CloseFault {
+    fn fmt<W: Write>(&self, f: &mut Formatter<W>) -> fmt::Result {
+        f.debug_struct("CloseFault")
+            .field("fault", &self.fault)
+            .finish_non_exhaustive()
+    }
 }
 
 impl Seated for Core {

@@ -1,21 +1,21 @@
 //! What a search found, in two numbers.
 
-ghost use Rattle.std.specs.Prelude.{◌≡◌, [], ◌+◌, ◌<◌, ◌≤◌, ◌||◌, nat_lt, MatchBool, IfSome, IfNone, IfOk, IfErr};
+ghost use Rattle.std.specs.Prelude.{◌≡◌, [], None, ◌+◌, ◌<◌, ◌≤◌, ◌||◌, nat_lt, MatchBool, IfSome, IfNone, IfOk, IfErr};
 ghost use Rattle.frame_words.specs.Geometry.{huge_order};
 ghost use Rattle.frame_model.specs.Block.{block as block_at};
 ghost use Rattle.frame_model.specs.View.{holder};
-ghost use Rattle.frame_model.specs.Events.{eye};
+ghost use Rattle.frame_table.specs.Rule.{watch};
 ghost use Rattle.core_frames.specs.Bounds.{most_in_own_tree, most_elsewhere};
-ghost use Rattle.core_frames.specs.Cores.{memory_of, lent_by, losses_by, IsCoreOf, StaysCoreOf};
-ghost use Rattle.core_frames.specs.Found.{Finds, HasFound, HasLooked};
-ghost use Rattle.core_frames.specs.Uses.{HasTaken, HasMovedForEach};
+ghost use Rattle.core_frames.specs.Cores.{memory_of, losses_by, IsCoreOf, StaysCoreOf};
+ghost use Rattle.core_frames.specs.Found.{Finds, HasFound, HasLooked, StaysSureOf, FindsNoneOwn, FindsNoneAtAll};
+ghost use Rattle.core_frames.specs.Uses.{HasTaken};
 
 use crate::search::own_tree::take_own;
 use crate::shared::allocator::{Allocator, Core};
 use crate::takes::search_elsewhere;
 use atomic_table::Seat;
-use frame_core::{Eye, HeldBlock, Moves};
-use frame_table::{Block, SharedMoves};
+use frame_core::{HeldBlock, Moves};
+use frame_table::{Block, SharedMoves, Watch};
 use frame_words::HUGE_ORDER;
 
 /// A block of an order that the caller knows: its first frame, and its seat, which has no bytes.
@@ -24,7 +24,7 @@ use frame_words::HUGE_ORDER;
 #[derive(Drop)]
 pub struct Found {
     pub(crate) frame: u32,
-    pub(crate) seat: Seat<(), Eye>,
+    pub(crate) seat: Seat<(), Watch>,
 }
 
 impl Found {
@@ -42,7 +42,7 @@ impl Found {
     #[inline(always)]
     pub(crate) fn with_order(self, order: u8) -> Block
         requires { self.seat.me
-            ≡ (eye (holder self.seat.me.0.view.about (block_at self.frame order)) [], []) }
+            ≡ (watch (holder self.seat.me.0.view.about (block_at self.frame order)) [] None, []) }
         ensures { (result.frame ≡ self.frame) × (result.order ≡ order) × (result.seat ≡ self.seat) }
     {
         Block::of(self.frame, order, self.seat)
@@ -114,7 +114,8 @@ impl Allocator {
         ensures core { StaysCoreOf self.now core.old core.new }
         ensures looks { HasLooked most_in_own_tree result.1 core.old core.new }
         ensures found { IfSome result.0 (λ b. HasTaken self.now order b core.old core.new) }
-        ensures none { IfNone result.0 (lent_by core.new ≡ lent_by core.old) }
+        ensures none { IfNone result.0 (FindsNoneOwn self.now core.old core.new) }
+        ensures sure { StaysSureOf self.now core.old core.new }
     {
         let mut m = SharedMoves::new(&self.table, &mut core.seat);
         let own = take_own(&mut m, core.habit.core, order);
@@ -131,8 +132,8 @@ impl Allocator {
         ensures looks { HasLooked (most_elsewhere (memory_of self.now))
             (nat_lt (losses_by core.old) (losses_by core.new)) core.old core.new }
         ensures found { IfOk result (λ f. HasFound self.now order f core.old core.new) }
-        ensures none { IfErr result (λ _. HasMovedForEach self.now order core.old core.new
-            × (lent_by core.new ≡ lent_by core.old)) }
+        ensures none { IfErr result (λ _. FindsNoneAtAll self.now order core.old core.new) }
+        ensures sure { StaysSureOf self.now core.old core.new }
         ensures lost { IfErr result (λ n. MatchBool (lost || nat_lt (losses_by core.old)
             (losses_by core.new)) (0 < n) (n ≡ 0)) }
     {
@@ -149,11 +150,11 @@ impl Allocator {
         ensures core { StaysCoreOf self.now core.old core.new }
         ensures looks { HasLooked (most_elsewhere (memory_of self.now)) result.1 core.old core.new }
         ensures found { IfSome result.0 (λ b. HasTaken self.now order b core.old core.new) }
-        ensures none { IfNone result.0 (HasMovedForEach self.now order core.old core.new
-            × (lent_by core.new ≡ lent_by core.old)) }
+        ensures none { IfNone result.0 (FindsNoneAtAll self.now order core.old core.new) }
+        ensures sure { StaysSureOf self.now core.old core.new }
     {
         let mut m = SharedMoves::new(&self.table, &mut core.seat);
-        let held = search_elsewhere(&mut m, core.habit.core, order);
+        let held = search_elsewhere(&mut m, core.habit.core, order, &mut core.habit.trail);
         (held, m.missed())
     }
 }

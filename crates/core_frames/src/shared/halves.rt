@@ -2,7 +2,7 @@
 
 ghost use Rattle.std.specs.Prelude.{◌+◌, ◌≤◌};
 ghost use Rattle.core_frames.specs.Bounds.{most_in_split, most_in_join};
-ghost use Rattle.core_frames.specs.Cores.{moves_by, IsCoreOf, StaysCoreOf, IsOutOf};
+ghost use Rattle.core_frames.specs.Cores.{moves_by, IsCoreOf, StaysCoreOf, KeepsHabit, IsOutOf};
 ghost use Rattle.core_frames.specs.Uses.{SplitsThrough, JoinsThrough};
 
 use crate::joins::join_by;
@@ -16,6 +16,7 @@ impl Allocator {
         requires core { IsCoreOf self.now core.old }
         requires block { IsOutOf self.now block }
         ensures core { StaysCoreOf self.now core.old core.new }
+        ensures habit { KeepsHabit core.old core.new }
         ensures splits { SplitsThrough self.now block result core.old core.new }
         ensures moves { moves_by core.new ≤ moves_by core.old + most_in_split }
     {
@@ -29,6 +30,7 @@ impl Allocator {
         requires core { IsCoreOf self.now core.old }
         requires blocks { IsOutOf self.now lower × IsOutOf self.now upper }
         ensures core { StaysCoreOf self.now core.old core.new }
+        ensures habit { KeepsHabit core.old core.new }
         ensures joins { JoinsThrough self.now lower upper result core.old core.new }
         ensures moves { moves_by core.new ≤ moves_by core.old + most_in_join }
     {

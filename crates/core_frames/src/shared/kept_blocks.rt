@@ -7,7 +7,7 @@ ghost use Rattle.frame_table.specs.Keeping.{HasKept, HasRecalled};
 ghost use Rattle.frame_table.specs.Seats.{block_in};
 ghost use Rattle.core_frames.specs.Bounds.{to_tell_apart};
 ghost use Rattle.core_frames.specs.Cores.{memory_of, view_in, kept_by, lent_by, moves_by};
-ghost use Rattle.core_frames.specs.Cores.{IsOutOf, IsCoreOf, StaysCoreOf};
+ghost use Rattle.core_frames.specs.Cores.{IsOutOf, IsCoreOf, StaysCoreOf, KeepsHabit};
 ghost use Rattle.core_frames.specs.Uses.{IsSameAfter};
 
 use crate::shared::allocator::{Allocator, Core};
@@ -20,6 +20,7 @@ impl Allocator {
         requires core { IsCoreOf self.now core.old }
         requires block { IsOutOf self.now block }
         ensures core { StaysCoreOf self.now core.old core.new }
+        ensures habit { KeepsHabit core.old core.new }
         ensures keeps { HasKept (block_in block) (view_in core.old) (view_in core.new) }
         ensures moves { moves_by core.new ≡ moves_by core.old + 1 }
         ensures answer { block_at result.0 result.1 ≡ block_in block }
@@ -35,6 +36,7 @@ impl Allocator {
         requires core { IsCoreOf self.now core.old }
         requires kept { Contains (kept_by core.old) (block_at frame order) }
         ensures core { StaysCoreOf self.now core.old core.new }
+        ensures habit { KeepsHabit core.old core.new }
         ensures recalls { HasRecalled (block_at frame order) (view_in core.old) (view_in core.new) }
         ensures moves { moves_by core.new ≡ moves_by core.old + 1 }
         ensures block { (block_in result ≡ block_at frame order) × IsOutOf self.now result }
@@ -49,6 +51,7 @@ impl Allocator {
         requires core { IsCoreOf self.now core.old }
         requires blocks { IsOutOf self.now first × IsOutOf self.now second }
         ensures core { StaysCoreOf self.now core.old core.new }
+        ensures habit { KeepsHabit core.old core.new }
         ensures view { IsSameAfter to_tell_apart (view_in core.old) (view_in core.new) }
         ensures same { (block_in result.0 ≡ block_in first) × (block_in result.1 ≡ block_in second) }
         ensures out { IsOutOf self.now result.0 × IsOutOf self.now result.1 }
@@ -65,6 +68,7 @@ impl Allocator {
     pub(crate) fn look(&self, core: &mut Core)
         requires { IsCoreOf self.now core.old }
         ensures core { StaysCoreOf self.now core.old core.new }
+        ensures habit { KeepsHabit core.old core.new }
         ensures kept { kept_by core.new ≡ kept_by core.old }
         ensures lent { lent_by core.new ≡ lent_by core.old }
         ensures view { IsSameAfter 1 (view_in core.old) (view_in core.new) }

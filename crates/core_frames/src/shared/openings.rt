@@ -7,6 +7,7 @@ ghost use Rattle.core_frames.specs.Ranges.{IsUnopenedFor, MayHoldBack};
 
 use crate::ranges::may_hold_back;
 use crate::search::habit::Habit;
+use crate::search::trail::Start;
 use crate::shared::allocator::{Allocator, Core};
 use frame_table::{CoreSeat, open_table_with};
 use frame_words::{Fault, Geometry};
@@ -34,11 +35,26 @@ impl Allocator {
         ensures lawful { IfOk result (λ r. MayHoldBack geometry ranges.now) }
         ensures refused { IfErr result (IsUnopenedFor geometry ranges.now) }
     {
+        Allocator::open_starting(alloc, geometry, ranges, Start::Fixed)
+    }
+
+    /// The same, with this beginning of the cores' passes over all trees. Which block a take finds may
+    /// differ; no contract tells.
+    pub fn open_starting(
+        alloc: Global,
+        geometry: Geometry,
+        ranges: &[(u32, u32)],
+        start: Start,
+    ) -> Result<(Allocator, Vec<Core>), Fault>
+        ensures opened { IfOk result (λ r. IsOpened (sealed_key geometry ranges.now) r.0 r.1.items) }
+        ensures lawful { IfOk result (λ r. MayHoldBack geometry ranges.now) }
+        ensures refused { IfErr result (IsUnopenedFor geometry ranges.now) }
+    {
         if !may_hold_back(&geometry, ranges) {
             return Err(Fault::BadRange);
         }
         let (table, seats) = open_table_with(alloc, &geometry, ranges)?;
-        let cores = numbered(alloc, geometry, seats)?;
+        let cores = numbered(alloc, geometry, seats, start)?;
         Ok((Allocator { table }, cores))
     }
 }
@@ -48,6 +64,7 @@ pub(crate) fn numbered(
     alloc: Global,
     geometry: Geometry,
     seats: Vec<CoreSeat>,
+    start: Start,
 ) -> Result<Vec<Core>, Fault>
     requires { vec_len seats ≤ geometry.cores }
     ensures seats { IfOk result (λ cores. map seat_of cores.items ≡ seats.items) }
@@ -61,7 +78,7 @@ pub(crate) fn numbered(
     for seat in seats {
         cores.push_reserved(Core {
             seat,
-            habit: Habit::of(geometry, number),
+            habit: Habit::starting(geometry, number, start),
         });
         number += 1;
     }

@@ -141,3 +141,38 @@ fn a_huge_frame_is_split_to_the_end(rt: HostRuntime) -> Result<(), Fail> {
     assert!(rt; (image.word(0, 0), image.word(0, 2)) == (1, u64::MAX));
     Ok(())
 }
+
+#[test]
+fn one_core_of_all_keeps_what_they_kept(rt: HostRuntime) -> Result<(), Fail> {
+    let (allocator, mut first, mut second) = open_for_two(rt.alloc(), 8)?;
+    let huge = block(&rt, &allocator, &mut first, 9);
+    allocator.keep(&mut second, huge);
+    let mut cores = Vec::with_capacity(rt.alloc(), 2)?;
+    cores.push_reserved(first);
+    cores.push_reserved(second);
+    let Ok((mut core, room)) = allocator.gather(cores) else {
+        panic!(rt; "a core is missing");
+    };
+    assert!(rt; (core.number(), room.len()) == (1, 0));
+    assert!(rt; allocator.free_frames(&mut core) == 3584);
+    assert!(rt; allocator.free_huge(&mut core) == 7);
+    let cores = allocator.scatter(core, room);
+    assert!(rt; cores.len() == 2);
+    let Ok(image) = allocator.close(rt.alloc(), cores) else {
+        panic!(rt; "a core is missing");
+    };
+    assert!(rt; (image.free(0), image.huge(0)) == (0, true));
+    Ok(())
+}
+
+#[test]
+fn gathering_wants_each_core(rt: HostRuntime) -> Result<(), Fail> {
+    let (allocator, first, _second) = open_for_two(rt.alloc(), 1)?;
+    let mut cores = Vec::with_capacity(rt.alloc(), 1)?;
+    cores.push_reserved(first);
+    let Err(cores) = allocator.gather(cores) else {
+        panic!(rt; "it gathered without a core");
+    };
+    assert!(rt; cores.len() == 1);
+    Ok(())
+}

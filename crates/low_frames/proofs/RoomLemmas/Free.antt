@@ -67,7 +67,7 @@ module _ (key : Key) (ws : List ℕ) (r : AreInRange key ws) where
       (range_gap (held_at key ws) a k n m (λ d l q. held-le d (omega arith)) none)
 
   -- a free block of a child is beside what is held of it
-  held_room : (child order : ℕ) (b : FrameBlock) → child < key.children → IsBlockIn key child order b → IsFreeIn key ws b
+  pub held_room : (child order : ℕ) (b : FrameBlock) → child < key.children → IsBlockIn key child order b → IsFreeIn key ws b
       → held_of key ws child + 2 ^ order ≤ 512
   held_room child order b h is free =
       let ends : b.frame + 2 ^ b.order ≤ 512 * (b.frame / 512) + 512 = within_child b.order b.frame is.is_block.order

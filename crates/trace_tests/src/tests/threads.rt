@@ -7,45 +7,105 @@ const MOST_TURNS: u32 = 1_000_000_000;
 
 const TAKES_AND_GIVES: u32 = 1_000;
 
-// Those of both cores, with the take and the give of the block that is moved.
-const REQUESTS: u64 = 4_002;
+// Those of each core, with the take of the block that is moved, and its give.
+const REQUESTS: u64 = 2_001;
 
-// A gate that counts its calls, and in which the first request of each of two cores from a record on
-// waits until the other core's came too.
+// The numbers of the records of each core's requests, added up.
+const NUMBERS: (u64, u64) = (4_006_001, 4_012_004);
+
+// What a core's calls told: whether one came, the number of the last request, all numbers added up, how many requests
+// began and ended, and how many calls told another number than the one that comes next.
+#[derive(Drop)]
+struct Told {
+    came: AtomicU64,
+    last: AtomicU64,
+    sum: AtomicU64,
+    begun: AtomicU64,
+    ended: AtomicU64,
+    wrong: AtomicU64,
+}
+
+impl Told {
+    fn nothing() -> Told {
+        Told {
+            came: AtomicU64::new(0),
+            last: AtomicU64::new(0),
+            sum: AtomicU64::new(0),
+            begun: AtomicU64::new(0),
+            ended: AtomicU64::new(0),
+            wrong: AtomicU64::new(0),
+        }
+    }
+
+    // Requests begin by rising number.
+    fn begin(&self, line: u64) {
+        if line <= self.last.swap(line, Ordering::SeqCst) {
+            self.wrong.fetch_add(1, Ordering::SeqCst);
+        }
+        self.sum.fetch_add(line, Ordering::SeqCst);
+        self.begun.fetch_add(1, Ordering::SeqCst);
+    }
+
+    // The one that ends is the last that began.
+    fn end(&self, line: u64) {
+        if line != self.last.load(Ordering::SeqCst) {
+            self.wrong.fetch_add(1, Ordering::SeqCst);
+        }
+        self.ended.fetch_add(1, Ordering::SeqCst);
+    }
+
+    fn is_right(&self, sum: u64) -> bool {
+        self.wrong.load(Ordering::SeqCst) == 0
+            && self.sum.load(Ordering::SeqCst) == sum
+            && self.begun.load(Ordering::SeqCst) == REQUESTS
+            && self.ended.load(Ordering::SeqCst) == REQUESTS
+    }
+}
+
+// A gate that keeps what its calls tell of two cores, and in which the first request of each from a record on waits
+// until the other core's came too.
 #[derive(Drop)]
 struct Meeting {
     from: u32,
-    first: AtomicU64,
-    second: AtomicU64,
+    first: Told,
+    second: Told,
     missed: AtomicU64,
-    begun: AtomicU64,
-    ended: AtomicU64,
+}
+
+impl Meeting {
+    // What is told of this core, and of the other one.
+    fn told(&self, core: u32) -> Option<(&Told, &Told)> {
+        match core {
+            0 => Some((&self.first, &self.second)),
+            1 => Some((&self.second, &self.first)),
+            _ => None,
+        }
+    }
 }
 
 impl Gate for Meeting {
     fn before(&self, core: u32, line: u32) {
-        self.begun.fetch_add(1, Ordering::SeqCst);
-        if line < self.from {
+        let Some((own, other)) = self.told(core) else {
+            self.missed.store(1, Ordering::SeqCst);
             return;
-        }
-        let (own, other) = if core == 0 {
-            (&self.first, &self.second)
-        } else {
-            (&self.second, &self.first)
         };
-        if own.swap(1, Ordering::SeqCst) == 1 {
+        own.begin(u64::from(line));
+        if line < self.from || own.came.swap(1, Ordering::SeqCst) == 1 {
             return;
         }
         for _turn in 0..MOST_TURNS {
-            if other.load(Ordering::SeqCst) == 1 {
+            if other.came.load(Ordering::SeqCst) == 1 {
                 return;
             }
         }
         self.missed.store(1, Ordering::SeqCst);
     }
 
-    fn after(&self, _core: u32, _line: u32) {
-        self.ended.fetch_add(1, Ordering::SeqCst);
+    fn after(&self, core: u32, line: u32) {
+        match self.told(core) {
+            Some((own, _)) => own.end(u64::from(line)),
+            None => self.missed.store(1, Ordering::SeqCst),
+        }
     }
 }
 
@@ -82,15 +142,12 @@ fn is_busy<Rt: Threads + Wait + Abort, G: Gate>(
 fn the_requests_of_two_cores_overlap_and_pass_the_gate(rt: HostRuntime) -> Result<(), Fail> {
     let gate = Meeting {
         from: 4,
-        first: AtomicU64::new(0),
-        second: AtomicU64::new(0),
+        first: Told::nothing(),
+        second: Told::nothing(),
         missed: AtomicU64::new(0),
-        begun: AtomicU64::new(0),
-        ended: AtomicU64::new(0),
     };
     is_busy(&rt, rt.alloc(), &gate)?;
     assert!(rt; gate.missed.load(Ordering::SeqCst) == 0);
-    assert!(rt; gate.begun.load(Ordering::SeqCst) == REQUESTS);
-    assert!(rt; gate.ended.load(Ordering::SeqCst) == REQUESTS);
+    assert!(rt; gate.first.is_right(NUMBERS.0) && gate.second.is_right(NUMBERS.1));
     Ok(())
 }

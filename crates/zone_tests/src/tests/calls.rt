@@ -1,6 +1,6 @@
 //! Which blocks are answered, each call with ample memory.
 
-ghost use Rattle.frame_zones.specs.Zones.{AreCoresOf, IsOutIn};
+ghost use Rattle.frame_zones.specs.Zones.{AreCoresOf, IsOutOfItsZone};
 
 use super::memory::{next_core, open_for_two, open_two};
 use frame_words::TakeFault;
@@ -65,10 +65,10 @@ fn halves(
     block: ZoneBlock,
 ) -> (ZoneBlock, ZoneBlock)
     requires core { AreCoresOf zones.now core.old }
-    requires block { IsOutIn zones.now block }
+    requires block { IsOutOfItsZone zones.now block }
     ensures core { AreCoresOf zones.now core.new }
-    ensures lower { IsOutIn zones.now result.0 }
-    ensures upper { IsOutIn zones.now result.1 }
+    ensures lower { IsOutOfItsZone zones.now result.0 }
+    ensures upper { IsOutOfItsZone zones.now result.1 }
 {
     let Ok(both) = zones.split(core, block) else {
         panic!(rt; "it has halves");
@@ -79,9 +79,9 @@ fn halves(
 // The block, kept and handed out again.
 fn recalled(zones: &Zones, core: &mut ZoneCore, block: ZoneBlock) -> ZoneBlock
     requires core { AreCoresOf zones.now core.old }
-    requires block { IsOutIn zones.now block }
+    requires block { IsOutOfItsZone zones.now block }
     ensures core { AreCoresOf zones.now core.new }
-    ensures block { IsOutIn zones.now result }
+    ensures block { IsOutOfItsZone zones.now result }
 {
     let (zone, frame, order) = zones.keep(core, block);
     zones.recall(core, zone, frame, order)

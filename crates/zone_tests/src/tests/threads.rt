@@ -1,7 +1,7 @@
 //! Two threads that share the zones, each with a home of its own.
 
 ghost use Rattle.std.specs.Prelude.{IfSome};
-ghost use Rattle.frame_zones.specs.Zones.{AreCoresOf, IsOutIn};
+ghost use Rattle.frame_zones.specs.Zones.{AreCoresOf, IsOutOfItsZone};
 
 use super::closings::held_once_closed;
 use super::memory::open_for_two;
@@ -13,7 +13,7 @@ use std::thread::{Threads, join};
 fn work(zones: &Zones, mut core: ZoneCore, order: u8) -> (ZoneCore, Option<ZoneBlock>)
     requires { AreCoresOf zones.now core }
     ensures core { AreCoresOf zones.entry.now result.0 }
-    ensures block { IfSome result.1 (IsOutIn zones.entry.now) }
+    ensures block { IfSome result.1 (IsOutOfItsZone zones.entry.now) }
 {
     for _i in 0..1000u32 {
         if let Ok(block) = zones.take(&mut core, order) {
@@ -29,7 +29,7 @@ fn work(zones: &Zones, mut core: ZoneCore, order: u8) -> (ZoneCore, Option<ZoneB
 // Gives what the other thread has in hand.
 fn give_other(zones: &Zones, mut core: ZoneCore, block: Option<ZoneBlock>) -> ZoneCore
     requires core { AreCoresOf zones.now core }
-    requires block { IfSome block (IsOutIn zones.now) }
+    requires block { IfSome block (IsOutOfItsZone zones.now) }
     ensures { AreCoresOf zones.entry.now result }
 {
     if let Some(block) = block {
@@ -56,24 +56,24 @@ fn both<R: Threads + Sync>(
         move || -> (ZoneCore, Option<ZoneBlock>)
             requires { AreCoresOf zones.now first }
             ensures core { AreCoresOf zones.entry.now result.0 }
-            ensures block { IfSome result.1 (IsOutIn zones.entry.now) }
+            ensures block { IfSome result.1 (IsOutOfItsZone zones.entry.now) }
         { work(zones, first, order) },
         move || -> (ZoneCore, Option<ZoneBlock>)
             requires { AreCoresOf zones.now second }
             ensures core { AreCoresOf zones.entry.now result.0 }
-            ensures block { IfSome result.1 (IsOutIn zones.entry.now) }
+            ensures block { IfSome result.1 (IsOutOfItsZone zones.entry.now) }
         { work(zones, second, order) },
     );
     join(
         rt,
         move || -> ZoneCore
             requires core { AreCoresOf zones.now first }
-            requires block { IfSome other (IsOutIn zones.now) }
+            requires block { IfSome other (IsOutOfItsZone zones.now) }
             ensures { AreCoresOf zones.entry.now result }
         { give_other(zones, first, other) },
         move || -> ZoneCore
             requires core { AreCoresOf zones.now second }
-            requires block { IfSome one (IsOutIn zones.now) }
+            requires block { IfSome one (IsOutOfItsZone zones.now) }
             ensures { AreCoresOf zones.entry.now result }
         { give_other(zones, second, one) },
     )

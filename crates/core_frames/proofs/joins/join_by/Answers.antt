@@ -97,11 +97,11 @@ returns-clause-joins g c =
         is_out = out.is_out;
         view = whole_out m.key low high is_low is_high are M.tick m.view n.view w.view c.requires.idle.own both
             (out_as M.tick n.view w.view (block c.frame-frame.result (c.order-order.result + 1)) (both_of low) whole out.view);
-        alone = λ a.
+        alone = λ so a.
             still_same m.words w.words
             (out.words (g.met.M.Moves.stays_alone c.hand_in-2.new.self (second.keeps.stays_alone (first.keeps.stays_alone a)))
-            ∙ second.words (g.met.M.Moves.stays_alone c.hand_in.new.self (first.keeps.stays_alone a))
-            ∙ first.words (g.met.M.Moves.stays_alone c.args.m.now a));
+            ∙ second.words (first.stays_so so) (g.met.M.Moves.stays_alone c.hand_in.new.self (first.keeps.stays_alone a))
+            ∙ first.words so (g.met.M.Moves.stays_alone c.args.m.now a));
       };
       err = tt;
     }

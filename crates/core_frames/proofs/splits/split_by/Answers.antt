@@ -36,12 +36,12 @@ returns-clause-splits g c =
         first_out = out.first_out;
         second_out = out.second_out;
         view = lent;
-        alone = λ a.
+        alone = λ so a.
             halved_words m.key w.key b (block_of c.hand_out_halves.result.0) (block_of c.hand_out_halves.result.1) m.view w.view m.is_alone
             w.is_alone m.words u.words w.words (out.brings.keeps.same_key ∙ came.keeps.same_key)
             (g.met.M.Moves.outs_are_blocks c.args.m.now c.args.held c.requires.held) are c.requires.idle lent a
             (out.brings.keeps.stays_alone (came.keeps.stays_alone a)) (g.met.M.Moves.fits c.args.m.now)
-            (g.met.M.Moves.fits c.hand_out_halves.new.m) (came.alone a) (out.brings.alone (came.keeps.stays_alone a));
+            (g.met.M.Moves.fits c.hand_out_halves.new.m) (came.alone so a) (out.brings.alone (came.keeps.stays_alone a));
       };
       err = tt;
     }

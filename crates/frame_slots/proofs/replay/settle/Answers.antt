@@ -3,7 +3,7 @@ use Rattle.frame_model.specs.declared.block.FrameBlock.{FrameBlock}
 use Rattle.frame_model.specs.Block.{block}
 use Rattle.frame_table.specs.Seats.{block_in}
 use Rattle.core_frames.specs.Cores.{memory_of}
-use Rattle.frame_slots.specs.Numbers.{IsFreeIn, AreAllHeld}
+use Rattle.frame_slots.specs.Numbers.{IsFreeInImage, AreAllHeld}
 use Rattle.frame_slots.specs.Reopenings.{HasHalved, HasLaid, IsFollowing}
 use Rattle.frame_slots.proofs.Replaying.{on_ok, laid_following, given_following, kept_following, halved_following}
 use Rattle.frame_slots.proofs.replay.settle.Goals as goal
@@ -24,7 +24,7 @@ returns-in-Free-clause-follows c =
     ap (λ (x : ℕ). block x c.order.result) c.frame.ensures ∙ ap (λ (n : ℕ). block c.args.held.frame n) c.order.ensures in
     given_following (memory_of c.args.allocator.now).frames c.args.numbers.now c.args.held c.args.pending.now.items
     c.args.receipts.now.items c.args.core.now c.requires.follows c.give.new.core c.give.ensures.gives
-    (subst (λ (b : FrameBlock). IsFreeIn c.args.numbers.now b) same (c.use_of.ensures.free c.in-Free.is))
+    (subst (λ (b : FrameBlock). IsFreeInImage c.args.numbers.now b) same (c.use_of.ensures.free c.in-Free.is))
 
 pub returns-in-Held-clause-follows : goal.returns-in-Held-clause-follows
 returns-in-Held-clause-follows c =

@@ -6,11 +6,24 @@ use Rattle.frame_core.specs.Image.{Contents}
 use Rattle.frame_model.specs.Laws.{AddsUp, HoldsJust}
 use Rattle.frame_core.specs.Moves.{HasSizes}
 use Rattle.frame_table.specs.Seats.{key_at, IsIdleSeat}
-use Rattle.frame_table.specs.Closing.{IsClosed}
-use Rattle.frame_table.proofs.Gathering.{closed_as}
+use Rattle.std.specs.List.{All}
+use Rattle.atomic_table.proofs.Lists.{at_map}
+use Rattle.frame_model.specs.declared.view.Eye.{Eye}
+use Rattle.frame_model.specs.Events.{views_of}
+use Rattle.frame_table.specs.declared.seats.CoreSeat.{CoreSeat}
+use Rattle.frame_table.specs.declared.table.FrameTable.{FrameTable}
+use Rattle.frame_table.specs.Closing.{share_through, kept_through, IsClosed}
+use Rattle.frame_table.proofs.Gathering.{closed_as, some_each}
 use Rattle.frame_table.proofs.Imaged.{closed_image}
+use Rattle.frame_table.proofs.Left.{left_once_rebuilt}
 use Rattle.frame_table.proofs.Kept.{kept_blocks, kept_held, kept_apart, just_kept}
 use Rattle.frame_table.proofs.closings.close_table.Goals as goal
+
+-- each seat has a share
+all_shares : {S : Type 0} (seat_of : S → CoreSeat) (t : FrameTable) (xs : List S) → All (λ x. IsIdleSeat t (seat_of x)) xs
+    → length (map seat_of xs) ≤ share_through (map seat_of xs)
+all_shares seat_of t xs all =
+    some_each (map seat_of xs) (λ k d h. (All-map (IsIdleSeat t) seat_of xs all k d h).sits.some)
 
 pub of_words-requires : goal.of_words-requires
 of_words-requires g c =
@@ -23,7 +36,7 @@ of_words-requires g c =
     closed_image (key_at t) t.geometry seats c.read_words-words.result.items t.sizes
     (subst (IsClosed (key_at t) seats) (sym c.read_words-words.ensures)
     (closed_as t.grid.shared.key all.id all.me.0 (slots_items c.close_with.result.words) (slots_items c.close_with.result.slots)
-    seats c.close_with.ensures.values.2 c.gather-all.ensures.gathered enough))
+    seats c.close_with.ensures.values.2 c.gather-all.ensures.gathered (omega (arith, enough, all_shares g.S.Seated.seat_of t c.args.seats.items c.requires))))
 
 pub returns-clause-ok : goal.returns-clause-ok
 returns-clause-ok g c =
@@ -38,12 +51,13 @@ returns-clause-ok g c =
     let words = ap (λ (i : Contents). i.words) c.of_words.ensures ∙ c.read_words-words.ensures in
     let z : IsClosed key seats ws = subst (IsClosed key seats) (sym words)
     (closed_as t.grid.shared.key all.id all.me.0 (slots_items c.close_with.result.words) (slots_items c.close_with.result.slots)
-    seats c.close_with.ensures.values.2 c.gather-all.ensures.gathered enough) in
+    seats c.close_with.ensures.values.2 c.gather-all.ensures.gathered (omega (arith, enough, all_shares g.S.Seated.seat_of t c.args.seats.items c.requires))) in
     let law = c.every_closing_adds_up.ensures in
     let idle = z.gathered.idle in
     let blocks = kept_blocks t seats (All-map (IsIdleSeat t) S.seat_of c.args.seats.items c.requires) in
+    let sizes = subst (HasSizes key) (sym (ap (λ (i : Contents). i.geometry) c.of_words.ensures)) t.sizes in
     record {
-      sizes = subst (HasSizes key) (sym (ap (λ (i : Contents). i.geometry) c.of_words.ensures)) t.sizes;
+      sizes = sizes;
       is_image = search rules;
       enough = enough;
       closed = z;
@@ -55,4 +69,7 @@ returns-clause-ok g c =
             (subst (λ us. HoldsJust key us z.eye.view.kept) z.words
             (law.held key key.cores z.state z.id z.eye z.fits z.at idle z.share sealed (z.gathered.lent ∙ none)));
       };
+      kept_left = left_once_rebuilt key z.state.words (views_of z.state) z.id z.eye.view z.fits
+          (at_map (λ (e : Eye). e.view) z.state.eyes z.id z.eye z.at) z.gathered.not_ground c.of_words.result sizes z.words
+          (kept_through seats) z.gathered.smalls z.gathered.wholes blocks;
     }

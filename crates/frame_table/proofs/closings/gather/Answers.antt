@@ -1,7 +1,7 @@
 use Rattle.std.proofs.Common.{map, ap, sym, subst, rules}
 use Rattle.std.proofs.lemmas.List.{nil_from_length}
 use Rattle.atomic_table.specs.Table.{Me}
-use Rattle.frame_model.specs.declared.view.Eye.{Eye}
+use Rattle.frame_table.specs.declared.rule.Watch.{Watch}
 use Rattle.frame_model.specs.declared.view.View.{View}
 use Rattle.frame_model.specs.Steps.{next}
 use Rattle.frame_model.specs.Seats.{join_idle, joined_by}
@@ -25,7 +25,7 @@ loop-next-init g c =
     record {
       at = subst (λ (s : CoreSeat). IsSeat (id_of t) (key_at t) s.seat.table_id s.seat.me) same idle.sits.at;
       gathering = subst (λ (s : CoreSeat). IsGathering (map S.seat_of all) (map S.seat_of ys) (view_of s)) same
-          (gather_first (map S.seat_of all) (map S.seat_of all) (map S.seat_of ys) (S.seat_of x) idle.sits.one
+          (gather_first (map S.seat_of all) (map S.seat_of all) (map S.seat_of ys) (S.seat_of x) idle.sits.not_ground
           (last_of S.seat_of all ys x e) idle.idle);
       others = all_front (λ s. IsIdleSeat t (S.seat_of s)) all ys x e c.requires.idle;
     }
@@ -65,14 +65,14 @@ loop-next-preserved g c =
     let e = c.in-Some-pop.ensures.items in
     let inv = c.loop-next.invariant in
     let idle : IsIdleSeat t (S.seat_of x) = all_last (λ s. IsIdleSeat t (S.seat_of s)) xs ys x e inv.others in
-    let V : Me (Unit {0}) Eye → View = λ me. me.0.view in
+    let V : Me (Unit {0}) Watch → View = λ me. me.0.view in
     let was : View = V c.loop-next.all.me in
     record {
       at = c.join_seat.ensures.seat;
       gathering = subst (IsGathering all (map S.seat_of ys)) (sym (ap V c.join_seat.ensures.both))
           (subst (λ (s : CoreSeat). IsGathering all (map S.seat_of ys) (joined_by next join_idle was (view_of s)))
           (sym c.into_seat-seat.ensures)
-          (gather_more all (map S.seat_of xs) (map S.seat_of ys) (S.seat_of x) idle.sits.one was inv.gathering
+          (gather_more all (map S.seat_of xs) (map S.seat_of ys) (S.seat_of x) idle.sits.not_ground was inv.gathering
           (last_of S.seat_of xs ys x e)));
       others = all_front (λ s. IsIdleSeat t (S.seat_of s)) xs ys x e inv.others;
     }

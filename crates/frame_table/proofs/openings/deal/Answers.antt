@@ -21,11 +21,13 @@ loop-core-preserved c =
       sits = new.0;
       moves = omega (arith, ap (λ (u : View). u.moves) new.1);
       view = new.1 ∙ ap (λ n. moved n (idle (key_at t) 1)) (sym (ap (λ (u : View). u.moves) new.1));
+      knows = λ one. absurd (omega (arith, one, t.sizes.1, t.geometry.some_cores, c.loop-core-test.true));
     } in record {
       at = c.part_share_off.ensures.seat;
       moves = omega (arith, inv.moves, ap (λ (u : View). u.moves) c.part_share_off.ensures.view);
       view = dealt (key_at t) v.moves (cores - c.loop-core._core) (cores - (c.loop-core._core + 1)) v w inv.view
           c.part_share_off.ensures.view (omega arith);
+      knows = λ none. absurd (omega (arith, none));
       count = omega (arith, inv.count, c.push_reserved.ensures.len);
       room = omega (arith, inv.room, c.push_reserved.ensures.capacity);
       new = subst (All (IsNew t)) (sym c.push_reserved.ensures.items)
@@ -48,8 +50,9 @@ returns-clause-new c =
     let is : v ≡ moved v.moves (idle (key_at t) 1) = inv.view ∙ ap (λ n. moved v.moves (idle (key_at t) n)) last in
     let seat : CoreSeat = record { seat = c.loop-core.seat } in
     let fresh : IsNew t seat = record {
-      sits = record { at = inv.at; one = ap (λ (u : View). u.share) is; not_ground = ap (λ (u : View). u.is_ground) is };
+      sits = record { at = inv.at; some = omega (arith, ap (λ (u : View). u.share) is); not_ground = ap (λ (u : View). u.is_ground) is };
       moves = omega (arith, inv.moves, t.sizes.1, t.geometry.few_cores, t.geometry.some_cores, c.loop-core.auto._core-end);
       view = is;
+      knows = λ one. inv.knows (omega (arith, one, last, c.loop-core.auto._core-end, t.sizes.1, t.geometry.some_cores));
     } in
     subst (All (IsNew t)) (sym c.push_reserved-2.ensures.items) (All-push (IsNew t) c.loop-core.seats.items seat inv.new fresh)

@@ -1,7 +1,7 @@
 use Rattle.std.proofs.Common.{◌≡◌, ◌+◌, ◌≤◌, ℕ, List, map, drop, sym, subst, ap, ◌∙◌}
 use Rattle.std.proofs.lemmas.List.{length-map}
 use Rattle.frame_words.specs.declared.geometry.Geometry.{Geometry}
-use Rattle.frame_zones.specs.Spans.{most_zones, AreSpans, MayLie, end_at, end_of, place_at}
+use Rattle.frame_zones.specs.Spans.{most_zones, AreSpans, MayLie, end_at, end_of_place, place_at}
 use Rattle.frame_zones.specs.declared.image.ZoneImage.{ZoneImage}
 use Rattle.frame_zones.proofs.Lying.{next_read, rest_read, with_read, none_read}
 use Rattle.frame_zones.proofs.spans.may_be_zones_again.Goals as goal
@@ -22,7 +22,7 @@ loop-zone-preserved c =
     let items : List ZoneImage = c.args.images.now in
     let s : ZoneImage = c.zone-item.result in
     let inv = c.loop-zone.invariant in
-    let ends : c.end_of-from.result ≡ end_of (place_at s) =
+    let ends : c.end_of-from.result ≡ end_of_place (place_at s) =
     c.end_of-from.ensures ∙ ap (λ (g : Geometry). end_at s.first g.children) c.geometry-geometry.ensures.value in
     record {
       some = inv.some;

@@ -1,12 +1,12 @@
 use Rattle.std.proofs.Common.{◌≡◌, ℕ, ◌<◌, length}
 use Rattle.frame_slots.specs.Numbers.{IsImageOf}
-use Rattle.zone_slots.specs.ImageParts.{numbers_of}
+use Rattle.zone_slots.specs.ImageParts.{image_numbers_of}
 use Rattle.zone_slots.specs.Layouts.{stretch_at}
 use Rattle.llfree_c.specs.ZoneClaims.{own_numbers}
 use Rattle.llfree_c.proofs.zone_claims.are_images.Given as goal
 
 abbrev pub invariant-loop-zone : goal.invariant-loop-zone
 invariant-loop-zone l = record {
-  count : length l.numbers ≡ numbers_of l.zones;
+  count : length l.numbers ≡ image_numbers_of l.zones;
   each : (z : ℕ) → z < l.zone → IsImageOf (stretch_at l.zones z).1 (own_numbers l.zones l.numbers z);
 }

@@ -3,7 +3,7 @@ use Rattle.frame_model.specs.declared.block.FrameBlock.{FrameBlock}
 use Rattle.frame_slots.specs.Claims.{IsHeldAs}
 use Rattle.zone_slots.specs.Layouts.{Stretch, stretch_at}
 use Rattle.zone_slots.specs.ZoneClaims.{block_within}
-use Rattle.llfree_c.specs.ZoneClaims.{numbers_at}
+use Rattle.llfree_c.specs.ZoneClaims.{numbers_of_zone}
 use Rattle.llfree_c.proofs.ClaimedZones.{held_here}
 use Rattle.llfree_c.proofs.zone_claims.is_held_in.Goals as goal
 
@@ -13,7 +13,7 @@ returns-then-not-is_held_as c =
     let zones : List Stretch = c.args.zones.now in
     let numbers : List ℕ = c.args.numbers.now in
     let b : FrameBlock = c.args.block.now in
-    let from : c.behind.result.now ≡ numbers_at zones numbers z =
+    let from : c.behind.result.now ≡ numbers_of_zone zones numbers z =
     c.behind.ensures ∙ ap (λ n. drop n numbers) (c.requires.starts.each z c.in-Some.ensures.0) in
     λ held. c.if-not-is_held_as.ensures
     (subst (λ (l : List ℕ). IsHeldAs (stretch_at zones z).1 l (block_within (stretch_at zones z) b)) (sym from)

@@ -82,9 +82,10 @@ returns-then-order-eq-HUGE_ORDER g c =
       back = huge_back M.tick m.key (Some m.key) b m.view n.view is c.requires.charged c.requires.own taken.view
           (M.at c.give_huge.new.self).view c.frame-frame.result c.order-order.result c.child_of.result c.frame-frame.ensures
           c.order-order.ensures c.if-order-eq-HUGE_ORDER.true c.child_of.ensures given.view;
-      sure = sure_both (sure_in (still c.args.m.now) taken) (sure_make (still c.hand_in.new.self) given);
-      alone_given = λ h.
-          let flight = taken.words (still c.args.m.now h) in
+      sure = λ so. sure_both (sure_in (still c.args.m.now) taken so) (sure_make (still c.hand_in.new.self) given);
+      knows = given.knows;
+      alone_given = λ so h.
+          let flight = taken.words so (still c.args.m.now h) in
           let can = can_give_huge M.tick m.key (Some m.key) b m.view n.view is c.requires.charged c.requires.own taken.view n.key
           c.frame-frame.result c.order-order.result c.child_of.result taken.keeps.same_key c.frame-frame.ensures c.order-order.ensures
           c.if-order-eq-HUGE_ORDER.true c.child_of.ensures (g.met.M.Moves.fills_own c.args.m.now c.requires.own) c.requires.paid in
@@ -115,8 +116,9 @@ returns-else-order-eq-HUGE_ORDER g c =
           c.frame-frame.result c.order-order.result c.child_of-else-order-eq-HUGE_ORDER.result c.frames_of.result c.frame-frame.ensures
           c.order-order.ensures c.child_of-else-order-eq-HUGE_ORDER.ensures c.frames_of.ensures.value l.view released.view
           (M.at c.refund.new.self).view back.view;
-      sure = sure_both (sure_in (still c.args.m.now) taken) (sure_both released.sure (sure_make (still c.release_block.new.m) back));
-      alone_given = λ h.
+      sure = λ so. sure_both (sure_in (still c.args.m.now) taken so) (sure_both released.sure (sure_make (still c.release_block.new.m) back));
+      knows = back.knows;
+      alone_given = λ so h.
           let alone = taken.keeps.stays_alone h in
           let same = released.keeps.same_key ∙ taken.keeps.same_key in
           let can = can_refund_then M.tick m.key (Some m.key) b m.view n.view is c.requires.charged c.requires.own taken.view
@@ -126,6 +128,6 @@ returns-else-order-eq-HUGE_ORDER g c =
           ap (λ f. block f c.order-order.result) c.frame-frame.ensures ∙ ap (block b.frame) c.order-order.ensures in
           small_given l.key n.key m.key l.view l.is_alone b (block c.frame-frame.result c.order-order.result)
           c.child_of-else-order-eq-HUGE_ORDER.result c.frames_of.result m.words n.words l.words (M.at c.refund.new.self).words same
-          taken.keeps.same_key whole (taken.words (still c.args.m.now h)) can (g.met.M.Moves.fits c.release_block.new.m)
+          taken.keeps.same_key whole (taken.words so (still c.args.m.now h)) can (g.met.M.Moves.fits c.release_block.new.m)
           (released.alone alone) (back.words (still c.release_block.new.m (released.keeps.stays_alone alone)));
     }

@@ -1,7 +1,12 @@
 use Rattle.std.proofs.Common.{◌≡◌, ◌∙◌, length, true, rules, arith}
 use Rattle.std.specs.Result.{is_ok}
-use Rattle.trace_text.proofs.Parsing.{read_all, read_refused, reads_more}
+use Rattle.trace_text.proofs.Parsing.{read_all, read_refused, reads_more, reads_none}
 use Rattle.trace_text.proofs.parser.parse_trace.Goals as goal
+
+pub loop-ranges-init : goal.loop-ranges-init
+loop-ranges-init c =
+    rw (c.in_ok-lines.ensures.items, c.new-ranges.ensures.items, c.new-records.ensures.rows)
+    (reads_none c.cores-cores.result c.args.text.now)
 
 pub returns-then-not-found-clause-found : goal.returns-then-not-found-clause-found
 returns-then-not-found-clause-found c =

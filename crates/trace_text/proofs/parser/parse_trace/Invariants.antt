@@ -1,5 +1,5 @@
 use Rattle.std.proofs.Common.{length}
-use Rattle.trace_text.specs.PlainRows.{IsReadTo}
+use Rattle.trace_text.specs.TraceText.{IsReadTo}
 use Rattle.trace_text.proofs.parser.parse_trace.Given as goal
 
 abbrev pub invariant-loop-ranges : goal.invariant-loop-ranges

@@ -1,4 +1,4 @@
-use Rattle.std.proofs.Common.{rules, ℕ, ◌+◌, ◌<◌, List, slice_index_or, sym, subst}
+use Rattle.std.proofs.Common.{rules, ℕ, ◌+◌, ◌<◌, List, slice_index_or, sym, ◌∙◌, subst}
 use Rattle.std.specs.Prelude.{true}
 use Rattle.frame_slots.specs.declared.slots.SlotList.{SlotList}
 use Rattle.zone_slots.specs.Openings.{IsListIn}
@@ -10,6 +10,7 @@ loop-zone-preserved c =
     let inv = c.loop-zone.invariant in
     record {
       are_cores = c.list_in.ensures.core;
+      home = c.list_in.ensures.home ∙ inv.home;
       used = used_then c.args.zones.now c.args.core.now c.loop-zone.core c.list_in.new.core inv.used c.in_ok-list.ensures.used;
       count = search rules;
       each = subst (λ (l : List SlotList). (z : ℕ) (list : SlotList) → z < c.loop-zone.zone + 1

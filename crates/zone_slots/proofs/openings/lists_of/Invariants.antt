@@ -8,6 +8,7 @@ use Rattle.zone_slots.proofs.openings.lists_of.Given as goal
 abbrev pub invariant-loop-zone : goal.invariant-loop-zone
 invariant-loop-zone l = record {
   are_cores : AreCoresOf l.zones l.core;
+  home : l.core.home ≡ l.fn.core.home;
   used : IsUsedAlike l.zones l.fn.core l.core;
   count : length l.lists.items ≡ l.zone;
   each : (z : ℕ) (list : SlotList) → z < l.zone → IsListIn true l.zones z (slice_index_or l.lists.items z list);

@@ -1,5 +1,5 @@
-use Rattle.std.proofs.Common.{sym, subst}
-use Rattle.std.proofs.lemmas.List.Elements.{All-pop}
+use Rattle.std.proofs.Common.{sym, subst, arith}
+use Rattle.zone_slots.proofs.Reopened.{All-remove_first}
 use Rattle.frame_zones.specs.Zones.{AreCoresOf}
 use Rattle.frame_zones.specs.declared.zones.Zones.{Zones}
 use Rattle.zone_slots.specs.Openings.{IsUnusedCore, AreUnusedIn}
@@ -9,16 +9,16 @@ use Rattle.zone_slots.proofs.reopenings.reopen_memory.Goals as goal
 pub returns-clause-cores : goal.returns-clause-cores
 returns-clause-cores c =
     let kept = sym c.replay.ensures.zones in
-    let unused : AreUnusedIn c.in_ok-memory.memory.zones c.pop.new.self.items =
+    let unused : AreUnusedIn c.in_ok-memory.memory.zones c.remove-part.new.self.items =
     record {
       are_cores =
-          (All-pop (AreCoresOf c.in_ok-memory.memory.zones) c.in_ok-memory.parts.items c.pop.new.self.items c.pop.result
-          c.pop.ensures.items c.in_ok-memory.ensures.cores.are_cores).0;
+          (All-remove_first (AreCoresOf c.in_ok-memory.memory.zones) c.in_ok-memory.parts.items c.remove-part.new.self.items c.remove-part.result
+          c.remove-part.ensures.items c.remove-part.ensures.value (omega arith) c.in_ok-memory.ensures.cores.are_cores).0;
       unused =
-          (All-pop IsUnusedCore c.in_ok-memory.parts.items c.pop.new.self.items c.pop.result c.pop.ensures.items
-          c.in_ok-memory.ensures.cores.unused).0;
+          (All-remove_first IsUnusedCore c.in_ok-memory.parts.items c.remove-part.new.self.items c.remove-part.result
+          c.remove-part.ensures.items c.remove-part.ensures.value (omega arith) c.in_ok-memory.ensures.cores.unused).0;
     } in (
-      subst (λ (zs : Zones). AreUnusedIn zs c.pop.new.self.items) kept unused,
+      subst (λ (zs : Zones). AreUnusedIn zs c.remove-part.new.self.items) kept unused,
       subst (λ (zs : Zones). AreCoresOf zs c.replay.new.core) kept c.replay.ensures.core,
     )
 

@@ -17,7 +17,7 @@ drain_stays : (c : goal.After-drain) → c.drain.new.m.geometry ≡ c.self.insid
 drain_stays c =
     let m = c.self.inside.moves in
     let n = c.drain.new.m in
-    same_geometry n.geometry m.geometry n.sealed m.sealed c.drain.ensures.keeps.same_key
+    same_geometry n.geometry m.geometry n.sealed m.sealed c.drain.ensures.brings.keeps.same_key
 
 pub invariant_of-self : goal.invariant_of-self
 invariant_of-self c =
@@ -26,7 +26,7 @@ invariant_of-self c =
     let n = c.drain.new.m in
     moved m.geometry n.geometry a.ranges.items (sym (drain_stays c))
     (drained (sealed_key m.geometry a.ranges.items) _ _ m.words.items n.words.items a.starts.items a.habits.items a.refused
-    c.self.invariant refl _ _ c.drain.ensures)
+    c.self.invariant refl _ _ c.drain.ensures.brings)
 
 pub returns-then-order-le-HUGE_ORDER-clause-quiet : goal.returns-then-order-le-HUGE_ORDER-clause-quiet
 returns-then-order-le-HUGE_ORDER-clause-quiet c =

@@ -3,7 +3,7 @@ use Rattle.low_frames.proofs.Sure.{sure_both}
 use Rattle.low_frames.proofs.TakeLemmas.{then_counts, wider, keeps_both}
 use Rattle.core_frames.specs.Bounds.{most_to_drain}
 use Rattle.core_frames.proofs.Carried.{before_twice}
-use Rattle.core_frames.proofs.AloneSearch.{drained_more, drained_all}
+use Rattle.core_frames.proofs.AloneSearch.{drained_more, drained_all, leaves_twice, or_left, or_right}
 use Rattle.core_frames.proofs.search.drain.drain.Goals as goal
 
 pub loop-core-preserved : goal.loop-core-preserved
@@ -11,24 +11,28 @@ loop-core-preserved g c =
     let M = g.M.Moves in
     let m = M.at c.args.m.now in
     let u = M.at c.loop-core.m in
-    let w = M.at c.drain_core.new.m in
+    let w = M.at c.drain_core-some.new.m in
     let was = c.loop-core.invariant.brings in
-    let now = c.drain_core.ensures in
+    let now = c.drain_core-some.ensures in
     let k = c.loop-core.core in
     record {
       brings = record {
-        keeps = keeps_both was.keeps now.keeps;
-        counts = then_counts M.tick M.is_exact g.met.M.Moves.ticks (most_to_drain * k) most_to_drain (most_to_drain * (k + 1)) (omega arith) was.counts now.counts;
-        sure = sure_both was.sure now.sure;
-        view = before_twice m.view u.view w.view was.view now.view;
+        keeps = keeps_both was.keeps now.brings.keeps;
+        counts = then_counts M.tick M.is_exact g.met.M.Moves.ticks (most_to_drain * k) most_to_drain (most_to_drain * (k + 1)) (omega arith) was.counts now.brings.counts;
+        sure = sure_both was.sure now.brings.sure;
+        view = before_twice m.view u.view w.view was.view now.brings.view;
         alone = λ alone.
             drained_more m.key u.key k m.words u.words w.words was.keeps.same_key
-            (was.alone alone) (now.alone (was.keeps.stays_alone alone));
+            (was.alone alone) (now.brings.alone (was.keeps.stays_alone alone));
       };
+      nothing = λ e alone.
+          leaves_twice m.words u.words w.words
+          (c.loop-core.invariant.nothing (or_left c.loop-core.some c.drain_core-some.result e) alone)
+          (now.nothing (or_right c.loop-core.some c.drain_core-some.result e) (was.keeps.stays_alone alone));
     }
 
-pub returns : goal.returns
-returns g c =
+pub returns-clause-brings : goal.returns-clause-brings
+returns-clause-brings g c =
     let M = g.M.Moves in
     let m = M.at c.args.m.now in
     let u = M.at c.loop-core.m in

@@ -1,7 +1,7 @@
-use Rattle.std.proofs.Common.{◌*◌}
+use Rattle.std.proofs.Common.{◌≡◌, ◌*◌, false}
 use Rattle.low_frames.specs.Takes.{IsAsBefore}
 use Rattle.core_frames.specs.Bounds.{most_to_drain}
-use Rattle.core_frames.specs.Searches.{Brings}
+use Rattle.core_frames.specs.Searches.{Brings, LeavesWords}
 use Rattle.core_frames.proofs.AloneSearch.{IsDrainedBelow}
 use Rattle.core_frames.proofs.search.drain.drain.Given as goal
 
@@ -10,4 +10,5 @@ invariant-loop-core g l =
     let M = g.M.Moves in
     record {
       brings : Brings M.is_exact (most_to_drain * l.core) IsAsBefore (IsDrainedBelow (M.at l.fn.m).key l.core) (M.at l.fn.m) (M.at l.m);
+      nothing : l.some ≡ false → LeavesWords (M.at l.fn.m) (M.at l.m);
     }

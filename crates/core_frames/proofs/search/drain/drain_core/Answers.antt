@@ -11,7 +11,7 @@ use Rattle.low_frames.proofs.TakeLemmas.{counts_none, load_then, make_then, then
 use Rattle.core_frames.specs.Bounds.{most_to_drain}
 use Rattle.core_frames.proofs.Carried.{loaded, idle_still, before_twice, put_down_idle, swapped_none, swapped_some, can_take_out}
 use Rattle.core_frames.proofs.Carried.{can_unreserve, unreserved}
-use Rattle.core_frames.proofs.AloneSearch.{is_nothing, nothing_there, loaded_then, emptied, drained_then, swap_changes}
+use Rattle.core_frames.proofs.AloneSearch.{is_nothing, nothing_there, loaded_then, emptied, drained_then, swap_changes, seen_leaves}
 use Rattle.core_frames.proofs.SureSteps.{sure_swap}
 use Rattle.core_frames.proofs.SearchSteps.{swap_counts}
 use Rattle.core_frames.proofs.search.drain.drain_core.Goals as goal
@@ -42,8 +42,8 @@ unreserve-requires g c =
           c.in-Some.ensures.keeps.same_key c.in-Some.ensures.is_rest.0 holds;
     }
 
-pub returns-then-is_none : goal.returns-then-is_none
-returns-then-is_none g c =
+pub returns-then-is_none-clause-brings : goal.returns-then-is_none-clause-brings
+returns-then-is_none-clause-brings g c =
     let M = g.M.Moves in
     let ticks = g.met.M.Moves.ticks in
     let m = M.at c.args.m.now in
@@ -59,8 +59,8 @@ returns-then-is_none g c =
           (c.load-seen.ensures.words (g.met.M.Moves.stays_alone c.args.m.now alone));
     }
 
-pub returns-in_default : goal.returns-in_default
-returns-in_default g c =
+pub returns-in_default-clause-brings : goal.returns-in_default-clause-brings
+returns-in_default-clause-brings g c =
     let M = g.M.Moves in
     let ticks = g.met.M.Moves.ticks in
     let m = M.at c.args.m.now in
@@ -87,8 +87,8 @@ returns-in_default g c =
           (c.in_default.ensures.words (g.met.M.Moves.stays_alone c.load-seen.new.self (c.load-seen.ensures.keeps.stays_alone alone)))));
     }
 
-pub returns : goal.returns
-returns g c =
+pub returns-clause-brings : goal.returns-clause-brings
+returns-clause-brings g c =
     let M = g.M.Moves in
     let ticks = g.met.M.Moves.ticks in
     let m = M.at c.args.m.now in
@@ -125,3 +125,8 @@ returns g c =
           (c.in-Some.ensures.words (g.met.M.Moves.stays_alone c.load-seen.new.self mid)))))
           (c.unreserve.ensures.words (g.met.M.Moves.stays_alone c.swap_local.new.self (c.in-Some.ensures.keeps.stays_alone mid)));
     }
+
+pub returns-then-is_none-clause-nothing : goal.returns-then-is_none-clause-nothing
+returns-then-is_none-clause-nothing g c e alone =
+    seen_leaves (local_place (g.M.Moves.at c.args.m.now).key c.args.core) c.load-seen.result (g.M.Moves.at c.args.m.now).words
+    (g.M.Moves.at c.load-seen.new.self).words (c.load-seen.ensures.words (g.met.M.Moves.stays_alone c.args.m.now alone))

@@ -1,5 +1,4 @@
-use Rattle.std.proofs.Common.{◌≡◌, ◌≤◌, ℕ, ◌*◌, ◌-◌, List, refl, ap, arith}
-use Rattle.frame_words.specs.Geometry.{trees_for}
+use Rattle.std.proofs.Common.{◌≡◌, ◌≤◌, ℕ, ◌*◌, ◌-◌, List, refl, arith}
 use Rattle.frame_model.specs.Key.{tree_count}
 use Rattle.low_frames.specs.Alone.{FindsOf}
 use Rattle.low_frames.proofs.TakeLemmas.{wider}
@@ -12,16 +11,13 @@ use Rattle.core_frames.proofs.AloneSearch.{tried_all}
 use Rattle.core_frames.proofs.search.trees.take_anywhere.Goals as goal
 
 pub take_onward-requires : goal.take_onward-requires
-take_onward-requires g c =
-    let m = g.M.Moves.at c.args.m.now in
-    let all : trees_for c.geometry-geometry.result.children ≡ tree_count m.key = ap trees_for c.geometry-geometry.ensures.0 in
-    record {
-      core = c.requires.core;
-      order = c.requires.order;
-      begins = omega (arith, c.first_tree-start.ensures, all);
-      ends = omega arith;
-      idle = c.requires.idle;
-    }
+take_onward-requires g c = record {
+  core = c.requires.search.core;
+  order = c.requires.search.order;
+  begins = c.requires.start;
+  ends = omega arith;
+  idle = c.requires.search.idle;
+}
 
 pub returns-in-Some : goal.returns-in-Some
 returns-in-Some g c =
@@ -30,7 +26,7 @@ returns-in-Some g c =
     let now = c.in-Some.ensures in
     record {
       keeps = now.keeps;
-      counts = wider M.tick M.is_exact g.met.M.Moves.ticks (most_visit * (tree_count m.key - c.first_tree-start.result)) (most_in_pass m.key)
+      counts = wider M.tick M.is_exact g.met.M.Moves.ticks (most_visit * (tree_count m.key - c.args.start)) (most_in_pass m.key)
           (omega arith) now.counts;
       sure = now.sure;
       some = now.some;
@@ -44,10 +40,9 @@ returns g c =
     let u = M.at c.take_onward.new.m in
     let w = M.at c.take_between.new.m in
     let E = c.args.pass ≡ AnyFree in
-    let start = c.first_tree-start.result in
+    let start = c.args.start in
     let trees = tree_count m.key in
-    let all : trees_for c.geometry-geometry.result.children ≡ tree_count m.key = ap trees_for c.geometry-geometry.ensures.0 in
-    let low : start ≤ trees = omega (arith, c.first_tree-start.ensures, all) in
+    let low : start ≤ trees = c.requires.start in
     let one = c.in_default.ensures in
     searched_twice g.met.M.Moves.ticks {a = m} {b = u} {c = w} (trees - start)
     (start - 0) trees (most_visit * (trees - start)) (most_visit * (start - 0))

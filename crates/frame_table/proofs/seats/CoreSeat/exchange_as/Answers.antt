@@ -1,7 +1,8 @@
 use Rattle.std.proofs.Common.{◌≡◌, ℕ, Bool, true, false, eqb, Some, None, arith, ◌∙◌, ap, sym, subst, refl, eq-eqb}
 use Rattle.std.specs.Prelude.{MatchBool}
 use Rattle.atomic_table.specs.Table.{Allows, step}
-use Rattle.frame_model.specs.Steps.{effect, after_loss, next}
+use Rattle.std.proofs.lemmas.Map.Views.{exact_unsigned_eq}
+use Rattle.frame_model.specs.Steps.{turned, effect, after_loss, next}
 use Rattle.frame_model.specs.Events.{last_seen}
 use Rattle.frame_table.specs.Rule.{Holds, IsExchangedAs}
 use Rattle.frame_table.specs.Seats.{key_at, id_of, view_of}
@@ -27,16 +28,18 @@ compare_exchange-found-requires g c =
       sits.table,
       omega (arith, t.words, c.requires.may.word, inside),
       subst At (sym c.requires.may.word)
-          (exchange_allows t.grid.shared.key slots seat.id seat.me sits.bare sits.about kind (omega (arith, c.requires.may.sits.one))
+          (exchange_allows t.grid.shared.key slots seat.id seat.me sits.bare sits.about kind c.requires.may.sits.some
           c.requires.may.may c.args.seen c.args.left c.requires.seen c.requires.left),
     )
 
 abbrev After : (g : given.Over) (c : goal.After-compare_exchange-found g) → Bool → Type 0
 After g c won = MatchBool won
     (Stepped (id_of c.args.table.now) (key_at c.args.table.now) c.compare_exchange-found.new.seat.table_id c.args.self.now.seat.me
-    c.compare_exchange-found.new.seat.me c.args.word None (effect next g.P.Stepping.kind c.args.seen (view_of c.args.self.now)))
+    c.compare_exchange-found.new.seat.me c.args.word c.compare_exchange-found.result c.args.left None
+    (effect next g.P.Stepping.kind c.args.seen (view_of c.args.self.now)))
     (Stepped (id_of c.args.table.now) (key_at c.args.table.now) c.compare_exchange-found.new.seat.table_id c.args.self.now.seat.me
-    c.compare_exchange-found.new.seat.me c.args.word (Some c.compare_exchange-found.result) (after_loss next (view_of c.args.self.now)))
+    c.compare_exchange-found.new.seat.me c.args.word c.compare_exchange-found.result c.compare_exchange-found.result
+    (Some c.compare_exchange-found.result) (after_loss next (view_of c.args.self.now)))
 
 after : (g : given.Over) (c : goal.After-compare_exchange-found g) (won : Bool) → eqb c.compare_exchange-found.result c.args.seen ≡ won
     → After g c won
@@ -55,14 +58,21 @@ returns g c = by (eqb c.compare_exchange-found.result c.args.seen) refl (after g
         (record { seat = c.compare_exchange-found.new.seat })
     by true is a = let kind = g.P.Stepping.kind in let old = c.args.self.now in record {
       stays = stays c.args.table.now old c.requires.may.sits kind c.args.word c.requires.may.word c.compare_exchange-found.new.seat
-          None (effect next kind c.args.seen (view_of old)) (untouched next kind c.args.seen (view_of old)).share
-          (untouched next kind c.args.seen (view_of old)).is_ground a;
+          c.compare_exchange-found.result (turned kind c.args.seen) None (effect next kind c.args.seen (view_of old)) (untouched next kind c.args.seen (view_of old)).share
+          (untouched next kind c.args.seen (view_of old)).is_ground
+          (subst (λ left. Stepped (id_of c.args.table.now) (key_at c.args.table.now) c.compare_exchange-found.new.seat.table_id
+          old.seat.me c.compare_exchange-found.new.seat.me c.args.word c.compare_exchange-found.result left None
+          (effect next kind c.args.seen (view_of old))) (sym c.requires.left) a);
+      found = c.compare_exchange-found.result;
+      is_made = exact_unsigned_eq c.compare_exchange-found.result c.args.seen is;
       view = a.view;
       lost = λ e. absurd (cc);
     }
     by false is a = let found : ℕ = c.compare_exchange-found.result in record {
       stays = stays c.args.table.now c.args.self.now c.requires.may.sits g.P.Stepping.kind c.args.word c.requires.may.word
-          c.compare_exchange-found.new.seat (Some found) (after_loss next (view_of c.args.self.now)) refl refl a;
+          c.compare_exchange-found.new.seat found found (Some found) (after_loss next (view_of c.args.self.now)) refl refl a;
+      found = found;
+      is_made = λ (same : found ≡ c.args.seen). (let won : eqb found c.args.seen ≡ true = eq-eqb found c.args.seen same in absurd (cc));
       view = a.view;
       lost = λ e. (
         found,

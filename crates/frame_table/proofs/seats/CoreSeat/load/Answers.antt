@@ -17,7 +17,7 @@ load-requires c =
     )
 
 after : (c : goal.After-load) → Stepped (id_of c.args.table.now) (key_at c.args.table.now) c.load.new.seat.table_id c.args.self.now.seat.me
-    c.load.new.seat.me c.args.word (Some c.load.result) (after_load next (view_of c.args.self.now))
+    c.load.new.seat.me c.args.word c.load.result c.load.result (Some c.load.result) (after_load next (view_of c.args.self.now))
 after c =
     let t = c.args.table.now in
     let seat = c.args.self.now.seat in
@@ -31,7 +31,7 @@ returns c =
     record {
       sits = record {
         at = a.sits;
-        one = ap (λ (v : View). v.share) a.view ∙ sits.one;
+        some = omega (arith, ap (λ (v : View). v.share) a.view, sits.some);
         not_ground = ap (λ (v : View). v.is_ground) a.view ∙ sits.not_ground;
       };
       view = a.view;
@@ -39,4 +39,5 @@ returns c =
       here = a.here;
       reads = a.others;
       apart = a.apart;
+      learns = a.learns;
     }

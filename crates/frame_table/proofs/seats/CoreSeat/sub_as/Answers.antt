@@ -1,6 +1,6 @@
 use Rattle.std.proofs.Common.{ℕ, ◌+◌, ◌-◌, ◌%◌, ◌^◌, None, arith, sym, subst}
 use Rattle.atomic_table.specs.Table.{Allows, step}
-use Rattle.frame_model.specs.Steps.{effect, next}
+use Rattle.frame_model.specs.Steps.{turned, effect, next}
 use Rattle.frame_table.specs.Rule.{Holds, IsChangedAs, IsFoundIn}
 use Rattle.frame_table.specs.Seats.{key_at, id_of, view_of}
 use Rattle.frame_model.proofs.Steps.Untouched.{untouched}
@@ -24,13 +24,14 @@ fetch_sub-requires g c =
       sits.table,
       omega (arith, t.words, c.requires.may.word, inside),
       subst At (sym c.requires.may.word)
-          (change_allows t.grid.shared.key slots seat.id seat.me sits.bare sits.about kind (omega (arith, c.requires.may.sits.one))
+          (change_allows t.grid.shared.key slots seat.id seat.me sits.bare sits.about kind c.requires.may.sits.some
           c.requires.may.may c.args.n turn c.requires.always c.requires.left),
     )
 
 after : (g : given.Over) (c : goal.After-fetch_sub g)
     → Stepped (id_of c.args.table.now) (key_at c.args.table.now) c.fetch_sub.new.seat.table_id c.args.self.now.seat.me
-    c.fetch_sub.new.seat.me c.args.word None (effect next g.P.Stepping.kind c.fetch_sub.result (view_of c.args.self.now))
+    c.fetch_sub.new.seat.me c.args.word c.fetch_sub.result (turned g.P.Stepping.kind c.fetch_sub.result) None
+    (effect next g.P.Stepping.kind c.fetch_sub.result (view_of c.args.self.now))
 after g c =
     let t = c.args.table.now in
     let seat = c.args.self.now.seat in
@@ -44,7 +45,7 @@ returns g c =
     let a = after g c in
     let found = c.fetch_sub.result in
     let old = c.args.self.now in record {
-      stays = stays t old c.requires.may.sits kind c.args.word c.requires.may.word c.fetch_sub.new.seat None
+      stays = stays t old c.requires.may.sits kind c.args.word c.requires.may.word c.fetch_sub.new.seat found (turned kind found) None
           (effect next kind found (view_of old)) (untouched next kind found (view_of old)).share
           (untouched next kind found (view_of old)).is_ground a;
       view = a.view;

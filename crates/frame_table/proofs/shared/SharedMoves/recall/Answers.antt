@@ -1,4 +1,4 @@
-use Rattle.std.proofs.Common.{arith, refl, ap, sym, subst, ◌∙◌, rules}
+use Rattle.std.proofs.Common.{refl, ap, sym, subst, ◌∙◌, rules}
 use Rattle.std.proofs.lemmas.List.Elements.{All-contains}
 use Rattle.frame_model.specs.Block.{block, IsBlock}
 use Rattle.frame_model.proofs.Steps.SeatViews.{blocks_are}
@@ -14,7 +14,7 @@ cut_as-seat-requires-clause-may c =
     let kept = (view_of m.seat.now).kept in
     let blocks = (blocks_are key (view_of m.seat.now) m.sits.at.is_view).1 in
     record {
-      share = omega (arith, m.sits.one);
+      share = m.sits.some;
       not_ground = m.sits.not_ground;
       is_kept = c.requires;
       is_block = All-contains (IsBlock key) kept b blocks c.requires;

@@ -3,7 +3,7 @@ use Rattle.std.proofs.lemmas.List.{length-map}
 use Rattle.core_frames.specs.declared.shared.allocator.Allocator.{Allocator}
 use Rattle.frame_model.specs.declared.key.Key.{Key}
 use Rattle.frame_zones.specs.Sizes.{AreSized}
-use Rattle.frame_zones.specs.Spans.{Place, place_of}
+use Rattle.frame_zones.specs.Spans.{Place, place_of_span}
 use Rattle.frame_zones.specs.declared.spans.Span.{Span}
 use Rattle.frame_zones.proofs.Begun.{IsOpening, opening_one, opening_all, laid_out, have_cores, holds_one, sized_one}
 use Rattle.frame_zones.proofs.Lying.{one_read, place_read}
@@ -13,7 +13,7 @@ pub deal-requires : goal.deal-requires
 deal-requires c =
     let s : Span = c.span-item.result in
     let same : s.geometry.cores ≡ c.args.cores =
-    (one_read c.args.cores 0 place_of c.args.spans.now c.loop-span.span-index s c.loop-span-test.true c.span-item.is
+    (one_read c.args.cores 0 place_of_span c.args.spans.now c.loop-span.span-index s c.loop-span-test.true c.span-item.is
     c.loop-span.invariant.lawful.apart).same_cores in
     omega (
       arith,
@@ -27,14 +27,14 @@ deal-requires c =
 pub loop-span-preserved : goal.loop-span-preserved
 loop-span-preserved c =
     let spans : List Span = c.args.spans.now in
-    let places : List Place = map place_of spans in
+    let places : List Place = map place_of_span spans in
     let s : Span = c.span-item.result in
-    let p : Place = place_of s in
+    let p : Place = place_of_span s in
     let inv = c.loop-span.invariant in
     let read : p ≡ slice_index_or places c.loop-span.span-index p =
-    place_read place_of spans c.loop-span.span-index s c.loop-span-test.true c.span-item.is in
+    place_read place_of_span spans c.loop-span.span-index s c.loop-span-test.true c.span-item.is in
     let same : s.geometry.cores ≡ c.args.cores =
-    (one_read c.args.cores 0 place_of spans c.loop-span.span-index s c.loop-span-test.true c.span-item.is inv.lawful.apart).same_cores in
+    (one_read c.args.cores 0 place_of_span spans c.loop-span.span-index s c.loop-span-test.true c.span-item.is inv.lawful.apart).same_cores in
     record {
       lawful = inv.lawful;
       opening = subst (λ (l : List Allocator). IsOpening (length spans) c.args.cores places l c.push_reserved-in-loop-span.new.self.items c.deal.new.cores.items)
@@ -45,7 +45,7 @@ loop-span-preserved c =
           inv.opening
           c.in_ok-zone.ensures.opened
           (read ∙ ap (λ i. slice_index_or places i p) (sym inv.count))
-          (omega (arith, inv.count, c.loop-span-test.true, length-map spans place_of))
+          (omega (arith, inv.count, c.loop-span-test.true, length-map spans place_of_span))
           (c.in_ok-zone.ensures.opened.count ∙ same ∙ sym inv.opening.as_many)
           c.in_ok-deal.ensures.dealt));
       holds = holds_one spans c.loop-span.span-index s c.loop-span-test.true c.span-item.is inv.holds c.in_ok-zone.ensures.lawful;
@@ -62,10 +62,10 @@ loop-span-preserved c =
 
 pub invariant_of-result : goal.invariant_of-result
 invariant_of-result c =
-    let places : List Place = map place_of c.args.spans.now in
+    let places : List Place = map place_of_span c.args.spans.now in
     let inv = c.loop-span.invariant in
     let whole : length c.of.result.items ≡ length places =
-    omega (arith, inv.count, c.loop-span.auto.span-index-end, c.loop-span-test.false, length-map c.args.spans.now place_of, ap length c.of.ensures) in
+    omega (arith, inv.count, c.loop-span.auto.span-index-end, c.loop-span-test.false, length-map c.args.spans.now place_of_span, ap length c.of.ensures) in
     let opening : IsOpening (length c.args.spans.now) c.args.cores places c.of.result.items c.loop-span.firsts.items c.loop-span.all.items =
     subst (λ (l : List Allocator). IsOpening (length c.args.spans.now) c.args.cores places l c.loop-span.firsts.items c.loop-span.all.items)
     (sym c.of.ensures) inv.opening in
@@ -77,14 +77,14 @@ invariant_of-result c =
 
 pub returns-clause-opened : goal.returns-clause-opened
 returns-clause-opened c =
-    let places : List Place = map place_of c.args.spans.now in
+    let places : List Place = map place_of_span c.args.spans.now in
     let inv = c.loop-span.invariant in
     let whole : length c.of.result.items ≡ length c.args.spans.now =
     omega (arith, inv.count, c.loop-span.auto.span-index-end, c.loop-span-test.false, ap length c.of.ensures) in
     opening_all _ _ _ _ _ inv.lawful
     (subst (λ (l : List Allocator). IsOpening (length c.args.spans.now) c.args.cores places l c.loop-span.firsts.items c.loop-span.all.items)
     (sym c.of.ensures) inv.opening)
-    whole (whole ∙ sym (length-map c.args.spans.now place_of)) refl
+    whole (whole ∙ sym (length-map c.args.spans.now place_of_span)) refl
 
 pub returns-clause-lawful : goal.returns-clause-lawful
 returns-clause-lawful c = λ k s within. c.loop-span.invariant.holds k s (omega (arith, within, c.loop-span-test.false))

@@ -1,13 +1,20 @@
 use Rattle.std.proofs.Common.{◌≡◌, ◌<◌, false, refl, sym, subst, inr, arith}
 use Rattle.frame_zones.specs.Uses.{HadNone}
-use Rattle.frame_zones.proofs.Rounds.{stay_on, none_yet, one_more_none, round_taken}
+use Rattle.frame_zones.proofs.Rounds.{stay_on, stay_at_all, stay_there, are_there, none_there, one_more_none, round_taken}
 use Rattle.frame_zones.proofs.Sums.{within_all}
 use Rattle.frame_zones.proofs.zones.Zones.take.Goals as goal
 
+pub take_in-requires-clause-core : goal.take_in-requires-clause-core
+take_in-requires-clause-core c = are_there _ _ _ c.requires
+
+pub returns-in-Ok-clause-core : goal.returns-in-Ok-clause-core
+returns-in-Ok-clause-core c =
+    stay_on _ _ _ _ (stay_there _ _ _ _ (stay_at_all _ _ c.requires)) c.in-Ok.ensures.core
+
 pub returns-in-Ok-clause-takes : goal.returns-in-Ok-clause-takes
 returns-in-Ok-clause-takes c =
-    round_taken _ (λ k. k < 0) _ false _ _ _ _ _ c.requires.home
-    (none_yet _ (λ k. k < 0) _ _ c.requires (λ z is. omega (arith, is)))
+    round_taken _ (λ k. k < 0) _ false _ _ _ _ _ (omega (arith, c.first_zone-first.ensures, c.len.ensures))
+    (none_there _ (λ k. k < 0) _ _ _ c.requires (λ z is. omega (arith, is)))
     c.in-Ok.ensures.takes (λ is. omega (arith, is))
 
 pub returns-in-Ok-clause-all_moves : goal.returns-in-Ok-clause-all_moves
@@ -15,15 +22,16 @@ returns-in-Ok-clause-all_moves c =
     within_all _ _ _ c.requires c.in-Ok.ensures.core.are_cores (returns-in-Ok-clause-takes c).moves
 
 pub returns-in-Err-clause-core : goal.returns-in-Err-clause-core
-returns-in-Err-clause-core c = stay_on _ _ _ _ c.in-Err.ensures.core c.take_elsewhere.ensures.core
+returns-in-Err-clause-core c =
+    stay_on _ _ _ _ (stay_on _ _ _ _ (stay_there _ _ _ _ (stay_at_all _ _ c.requires)) c.in-Err.ensures.core) c.take_elsewhere.ensures.core
 
 pub returns-in-Err-clause-takes : goal.returns-in-Err-clause-takes
 returns-in-Err-clause-takes c =
     c.take_elsewhere.ensures.takes c.args.core.now
-    (subst (λ b. HadNone c.args.self.now (λ z. z ≡ c.args.core.now.home) c.args.order b c.args.core.now c.take_in.new.core)
+    (subst (λ b. HadNone c.args.self.now (λ z. z ≡ c.first_zone-first.result) c.args.order b c.args.core.now c.take_in.new.core)
     (sym c.or_contended.ensures)
-    (one_more_none _ (λ k. k < 0) (λ z. z ≡ c.args.core.now.home) _ false _ c.args.core.now.home _ _ _ (omega arith) c.requires.home
-    (none_yet _ (λ k. k < 0) _ _ c.requires (λ z is. omega (arith, is)))
+    (one_more_none _ (λ k. k < 0) (λ z. z ≡ c.first_zone-first.result) _ false _ c.first_zone-first.result _ _ _ (omega arith) (omega (arith, c.first_zone-first.ensures, c.len.ensures))
+    (none_there _ (λ k. k < 0) _ _ _ c.requires (λ z is. omega (arith, is)))
     c.in-Err.ensures.core c.in-Err.ensures.takes
     (λ is. omega (arith, is)) refl (λ k is. inr is) (λ k is. absurd (omega (arith, is)))))
 

@@ -1,7 +1,7 @@
 use Rattle.std.proofs.Common.{◌≡◌, ◌<◌, ◌≤◌, ◌+◌, ◌⊎◌, ℕ, inl, inr, sym, subst, arith, ⊎_elim}
 use Rattle.std.proofs.lemmas.Bool.{cases_eq, cases_lt}
 use Rattle.frame_zones.specs.Uses.{HadNone}
-use Rattle.frame_zones.proofs.Rounds.{stay_on, stay_at_all, one_more_none, same_none, round_taken, round_ends}
+use Rattle.frame_zones.proofs.Rounds.{stay_on, stay_at_all, stay_there, one_more_none, same_none, round_taken, taken_there, round_ends}
 use Rattle.frame_zones.proofs.zones.Zones.take_elsewhere.Goals as goal
 
 all_seen : (home zone : ℕ) → home ≤ zone → (k : ℕ) → (home ≤ k) ⊎ (k < zone)
@@ -13,34 +13,35 @@ all_seen home zone past k = elim (cases_lt k home) as (λ _. (home ≤ k) ⊎ (k
 pub loop-zone-init : goal.loop-zone-init
 loop-zone-init c = (
   stay_at_all _ _ c.requires.core,
-  λ d was. same_none _ (λ z. z ≡ d.home) (λ k. (c.args.core.now.home ≤ k) × (k < c.args.core.now.home + 1)) _ _ d _ was
-      (λ k within is. omega (arith, is.0, is.1, was.stay.same_home))
-      (λ k within not is. not (omega (arith, is, was.stay.same_home), omega (arith, is, was.stay.same_home))),
+  λ d was. same_none _ (λ z. z ≡ c.args.first) (λ k. (c.args.first ≤ k) × (k < c.args.first + 1)) _ _ d _ was
+      (λ k within is. omega (arith, is.0, is.1))
+      (λ k within not is. not (omega (arith, is), omega (arith, is))),
 )
 
 pub take_in-requires-clause-core : goal.take_in-requires-clause-core
 take_in-requires-clause-core c = c.loop-zone.invariant.0.are_cores
 
 pub returns-in-Ok-clause-core : goal.returns-in-Ok-clause-core
-returns-in-Ok-clause-core c = stay_on _ _ _ _ c.loop-zone.invariant.0 c.in-Ok.ensures.core
+returns-in-Ok-clause-core c = stay_there _ _ _ _
+    (stay_on _ _ _ _ c.loop-zone.invariant.0 c.in-Ok.ensures.core)
 
 pub returns-in-Ok-clause-takes : goal.returns-in-Ok-clause-takes
-returns-in-Ok-clause-takes c d was =
-    round_taken _ (λ k. (c.args.core.now.home ≤ k) × (k < c.loop-zone.zone)) _ _ _ c.loop-zone.zone _ _ _
+returns-in-Ok-clause-takes c d was = taken_there _ _ _ _ _ _
+    (round_taken _ (λ k. (c.args.first ≤ k) × (k < c.loop-zone.zone)) _ _ _ c.loop-zone.zone _ _ _
     (omega (arith, c.loop-zone-test.true, c.len-count.ensures))
-    (c.loop-zone.invariant.1 d was) c.in-Ok.ensures.takes (λ is. omega (arith, is.1))
+    (c.loop-zone.invariant.1 d was) c.in-Ok.ensures.takes (λ is. omega (arith, is.1)))
 
 pub loop-zone-preserved : goal.loop-zone-preserved
 loop-zone-preserved c = (
   stay_on _ _ _ _ c.loop-zone.invariant.0 c.in-Err.ensures.core,
-  λ d was. subst (λ b. HadNone c.args.self.now (λ k. (c.args.core.now.home ≤ k) × (k < c.loop-zone.zone + 1)) c.args.order b d c.take_in.new.core)
+  λ d was. subst (λ b. HadNone c.args.self.now (λ k. (c.args.first ≤ k) × (k < c.loop-zone.zone + 1)) c.args.order b d c.take_in.new.core)
       (sym c.or_contended-contended.ensures)
-      (one_more_none _ (λ k. (c.args.core.now.home ≤ k) × (k < c.loop-zone.zone)) (λ k. (c.args.core.now.home ≤ k) × (k < c.loop-zone.zone + 1))
+      (one_more_none _ (λ k. (c.args.first ≤ k) × (k < c.loop-zone.zone)) (λ k. (c.args.first ≤ k) × (k < c.loop-zone.zone + 1))
       _ _ _ c.loop-zone.zone _ _ _ c.requires.order
       (omega (arith, c.loop-zone-test.true, c.len-count.ensures))
       (c.loop-zone.invariant.1 d was) c.in-Err.ensures.core c.in-Err.ensures.takes
       (λ is. omega (arith, is.1)) (omega arith, omega arith)
-      (λ k is. elim (cases_eq k c.loop-zone.zone) as (λ _. ((c.args.core.now.home ≤ k) × (k < c.loop-zone.zone)) ⊎ (k ≡ c.loop-zone.zone)) [
+      (λ k is. elim (cases_eq k c.loop-zone.zone) as (λ _. ((c.args.first ≤ k) × (k < c.loop-zone.zone)) ⊎ (k ≡ c.loop-zone.zone)) [
         | inl same ↦ inr same
         | inr other ↦ inl (is.0, omega (arith, is.1, other))
       ])
@@ -51,34 +52,35 @@ pub take_in-requires-in-loop-zone-2-clause-core : goal.take_in-requires-in-loop-
 take_in-requires-in-loop-zone-2-clause-core c = c.loop-zone-2.invariant.0.are_cores
 
 pub returns-in-Ok-take_in-clause-core : goal.returns-in-Ok-take_in-clause-core
-returns-in-Ok-take_in-clause-core c = stay_on _ _ _ _ c.loop-zone-2.invariant.0 c.in-Ok-take_in.ensures.core
+returns-in-Ok-take_in-clause-core c = stay_there _ _ _ _
+    (stay_on _ _ _ _ c.loop-zone-2.invariant.0 c.in-Ok-take_in.ensures.core)
 
 pub returns-in-Ok-take_in-clause-takes : goal.returns-in-Ok-take_in-clause-takes
-returns-in-Ok-take_in-clause-takes c d was =
-    round_taken _ (λ k. (c.args.core.now.home ≤ k) ⊎ (k < c.loop-zone-2.zone)) _ _ _ c.loop-zone-2.zone _ _ _
-    (omega (arith, c.loop-zone-2-test.true, c.requires.core.home))
+returns-in-Ok-take_in-clause-takes c d was = taken_there _ _ _ _ _ _
+    (round_taken _ (λ k. (c.args.first ≤ k) ⊎ (k < c.loop-zone-2.zone)) _ _ _ c.loop-zone-2.zone _ _ _
+    (omega (arith, c.loop-zone-2-test.true, c.requires.first))
     (c.loop-zone-2.invariant.1 d was) c.in-Ok-take_in.ensures.takes
-    (⊎_elim (λ above. omega (arith, above, c.loop-zone-2-test.true)) (λ below. omega (arith, below)))
+    (⊎_elim (λ above. omega (arith, above, c.loop-zone-2-test.true)) (λ below. omega (arith, below))))
 
 pub loop-zone-2-preserved : goal.loop-zone-2-preserved
 loop-zone-2-preserved c = (
   stay_on _ _ _ _ c.loop-zone-2.invariant.0 c.in-Err-take_in.ensures.core,
-  λ d was. subst (λ b. HadNone c.args.self.now (λ k. (c.args.core.now.home ≤ k) ⊎ (k < c.loop-zone-2.zone + 1)) c.args.order b d c.take_in-in-loop-zone-2.new.core)
+  λ d was. subst (λ b. HadNone c.args.self.now (λ k. (c.args.first ≤ k) ⊎ (k < c.loop-zone-2.zone + 1)) c.args.order b d c.take_in-in-loop-zone-2.new.core)
       (sym c.or_contended-contended-in-Err-take_in.ensures)
-      (one_more_none _ (λ k. (c.args.core.now.home ≤ k) ⊎ (k < c.loop-zone-2.zone)) (λ k. (c.args.core.now.home ≤ k) ⊎ (k < c.loop-zone-2.zone + 1))
+      (one_more_none _ (λ k. (c.args.first ≤ k) ⊎ (k < c.loop-zone-2.zone)) (λ k. (c.args.first ≤ k) ⊎ (k < c.loop-zone-2.zone + 1))
       _ _ _ c.loop-zone-2.zone _ _ _ c.requires.order
-      (omega (arith, c.loop-zone-2-test.true, c.requires.core.home))
+      (omega (arith, c.loop-zone-2-test.true, c.requires.first))
       (c.loop-zone-2.invariant.1 d was) c.in-Err-take_in.ensures.core c.in-Err-take_in.ensures.takes
       (⊎_elim (λ above. omega (arith, above, c.loop-zone-2-test.true)) (λ below. omega (arith, below)))
       (inr (omega arith))
-      (λ k is. elim is as (λ _. ((c.args.core.now.home ≤ k) ⊎ (k < c.loop-zone-2.zone)) ⊎ (k ≡ c.loop-zone-2.zone)) [
+      (λ k is. elim is as (λ _. ((c.args.first ≤ k) ⊎ (k < c.loop-zone-2.zone)) ⊎ (k ≡ c.loop-zone-2.zone)) [
         | inl above ↦ inl (inl above)
-        | inr below ↦ elim (cases_eq k c.loop-zone-2.zone) as (λ _. ((c.args.core.now.home ≤ k) ⊎ (k < c.loop-zone-2.zone)) ⊎ (k ≡ c.loop-zone-2.zone)) [
+        | inr below ↦ elim (cases_eq k c.loop-zone-2.zone) as (λ _. ((c.args.first ≤ k) ⊎ (k < c.loop-zone-2.zone)) ⊎ (k ≡ c.loop-zone-2.zone)) [
           | inl same ↦ inr same
           | inr other ↦ inl (inr (omega (arith, below, other)))
         ]
       ])
-      (λ k is. elim is as (λ _. (c.args.core.now.home ≤ k) ⊎ (k < c.loop-zone-2.zone + 1)) [
+      (λ k is. elim is as (λ _. (c.args.first ≤ k) ⊎ (k < c.loop-zone-2.zone + 1)) [
         | inl above ↦ inl above
         | inr below ↦ inr (omega (arith, below))
       ])),
@@ -87,9 +89,9 @@ loop-zone-2-preserved c = (
 pub returns-else-contended-clause-takes : goal.returns-else-contended-clause-takes
 returns-else-contended-clause-takes c d was =
     let done = c.loop-zone-2.invariant.1 d was in
-    let each : (k : ℕ) → (c.args.core.now.home ≤ k) ⊎ (k < c.loop-zone-2.zone) =
-    all_seen c.args.core.now.home c.loop-zone-2.zone (omega (arith, c.loop-zone-2-test.false)) in
-    round_ends _ (λ k. (c.args.core.now.home ≤ k) ⊎ (k < c.loop-zone-2.zone)) _ _ _ _ _ done (λ k within. each k) (
+    let each : (k : ℕ) → (c.args.first ≤ k) ⊎ (k < c.loop-zone-2.zone) =
+    all_seen c.args.first c.loop-zone-2.zone (omega (arith, c.loop-zone-2-test.false)) in
+    round_ends _ (λ k. (c.args.first ≤ k) ⊎ (k < c.loop-zone-2.zone)) _ _ _ _ _ done (λ k within. each k) (
       (λ z a x within. done.seen z a x (each z) within),
       done.calm c.if-contended.false,
     )
@@ -97,7 +99,7 @@ returns-else-contended-clause-takes c d was =
 pub loop-zone-2-init : goal.loop-zone-2-init
 loop-zone-2-init c = (
   c.loop-zone.invariant.0,
-  λ d was. same_none _ (λ k. (c.args.core.now.home ≤ k) × (k < c.loop-zone.zone)) (λ k. (c.args.core.now.home ≤ k) ⊎ (k < 0)) _ _ d _
+  λ d was. same_none _ (λ k. (c.args.first ≤ k) × (k < c.loop-zone.zone)) (λ k. (c.args.first ≤ k) ⊎ (k < 0)) _ _ d _
       (c.loop-zone.invariant.1 d was)
       (λ k within. ⊎_elim (λ above. (above, omega (arith, within, c.loop-zone-test.false, c.len-count.ensures)))
       (λ below. absurd (omega (arith, below))))
@@ -107,9 +109,9 @@ loop-zone-2-init c = (
 pub returns-then-contended-clause-takes : goal.returns-then-contended-clause-takes
 returns-then-contended-clause-takes c d was =
     let done = c.loop-zone-2.invariant.1 d was in
-    let each : (k : ℕ) → (c.args.core.now.home ≤ k) ⊎ (k < c.loop-zone-2.zone) =
-    all_seen c.args.core.now.home c.loop-zone-2.zone (omega (arith, c.loop-zone-2-test.false)) in
-    round_ends _ (λ k. (c.args.core.now.home ≤ k) ⊎ (k < c.loop-zone-2.zone)) _ _ _ _ _ done (λ k within. each k) (
+    let each : (k : ℕ) → (c.args.first ≤ k) ⊎ (k < c.loop-zone-2.zone) =
+    all_seen c.args.first c.loop-zone-2.zone (omega (arith, c.loop-zone-2-test.false)) in
+    round_ends _ (λ k. (c.args.first ≤ k) ⊎ (k < c.loop-zone-2.zone)) _ _ _ _ _ done (λ k within. each k) (
       (λ z a x within. done.seen z a x (each z) within),
       done.missed c.if-contended.true,
     )

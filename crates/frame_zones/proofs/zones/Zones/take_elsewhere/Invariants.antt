@@ -7,11 +7,11 @@ use Rattle.frame_zones.proofs.zones.Zones.take_elsewhere.Given as goal
 abbrev pub invariant-loop-zone : goal.invariant-loop-zone
 invariant-loop-zone l =
     StayCoresOf l.self l.fn.core l.core
-    × ((c : ZoneCore) → HadNone l.self (λ z. z ≡ c.home) l.order l.lost c l.fn.core
-    → HadNone l.self (λ k. (l.home ≤ k) × (k < l.zone)) l.order l.contended c l.core)
+    × ((c : ZoneCore) → HadNone l.self (λ z. z ≡ l.first) l.order l.lost c l.fn.core
+    → HadNone l.self (λ k. (l.first ≤ k) × (k < l.zone)) l.order l.contended c l.core)
 
 abbrev pub invariant-loop-zone-2 : goal.invariant-loop-zone-2
 invariant-loop-zone-2 l =
     StayCoresOf l.self l.fn.core l.core
-    × ((c : ZoneCore) → HadNone l.self (λ z. z ≡ c.home) l.order l.lost c l.fn.core
-    → HadNone l.self (λ k. (l.home ≤ k) ⊎ (k < l.zone)) l.order l.contended c l.core)
+    × ((c : ZoneCore) → HadNone l.self (λ z. z ≡ l.first) l.order l.lost c l.fn.core
+    → HadNone l.self (λ k. (l.first ≤ k) ⊎ (k < l.zone)) l.order l.contended c l.core)

@@ -3,7 +3,7 @@ use denote.Struct.Owning.{shape, fields, to}
 use denote.Param.Send.{IsSend, AllSend, owning_send, struct_send}
 use Rattle.std_alloc.proofs.SendSync.{quiet}
 use Rattle.atomic_table.proofs.Sent.{badge_keyless}
-use Rattle.frame_model.specs.contracts.view.Eye as eye
+use Rattle.frame_table.specs.contracts.rule.Watch as eye
 use Rattle.llfree_c.specs.contracts.block_right.BlockRight.{the_row, the_type}
 
 pub send : IsSend the_row

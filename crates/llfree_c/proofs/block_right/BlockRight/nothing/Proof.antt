@@ -4,7 +4,7 @@ use Rattle.atomic_table.proofs.Names.{◌⊛◌, ◌$◌, ◌∵◌, !, qed, by,
 use Rattle.atomic_table.proofs.Names.{enter, alloc_all, pass_all, free_all, look_at, sets, agg, tables}
 use Rattle.atomic_table.proofs.Names.{owns, types_at, nothing, alive, Stays, walk_of, fact, fact_i}
 use Rattle.atomic_table.proofs.Walks.{proved, leaves}
-use Rattle.frame_model.specs.declared.view.Eye.{Eye}
+use Rattle.frame_table.specs.declared.rule.Watch.{Watch}
 use Rattle.atomic_table.specs.declared.badge.Badge.{Badge}
 use Rattle.llfree_c.proofs.BlockRights.{right_in}
 use Rattle.llfree_c.specs.contracts.block_right.BlockRight.nothing.{ended, clauses}
@@ -17,7 +17,7 @@ nothing_spec 𝓤 𝓛 𝓜 𝓡 wired =
     let H = 𝓛.H in let 𝓣 = tables 𝓤 H 𝓜 𝓡 𝓡.env in let En = ended in let c = clauses 𝓛 𝓜.mem 𝓡.returns in let fn : Fn = code.function in
     let hs : Stays En.signature.params En.kept = tt in
     proved 𝓛 En hs c 𝓜 𝓡 tt #self fn (code.unfolded 𝓤 H 𝓜 𝓡 wired) (λ κs. tt) (λ κs. tt) (λ κs qs bounds a gh are.
-    let b : Badge Eye = record {
+    let b : Badge Watch = record {
       marker = record {};
       table_id = record {
         words = 0;

@@ -7,8 +7,8 @@ use Rattle.atomic_table.proofs.Names.{look_at, sets, tables, RattleType, owns, t
 use Rattle.atomic_table.proofs.Names.{Stays, walk_of, fact, fact_i, mut_vals, mut_Tells, opens, closes}
 use Rattle.atomic_table.proofs.Names.{stay_ref, Goes-ref}
 use Rattle.atomic_table.proofs.Walks.{proved, leaves}
-use Rattle.frame_model.specs.declared.view.Eye.{Eye}
-use Rattle.frame_model.specs.contracts.view.Eye as eye
+use Rattle.frame_table.specs.declared.rule.Watch.{Watch}
+use Rattle.frame_table.specs.contracts.rule.Watch as eye
 use Rattle.atomic_table.specs.declared.badge.Badge.{Badge}
 use Rattle.atomic_table.specs.contracts.badge.Badge as badge
 use Rattle.llfree_c.proofs.BlockRights.{Right}
@@ -32,7 +32,7 @@ trade_spec 𝓤 𝓛 𝓜 𝓡 wired =
       ),
     )) (λ κs qs bounds a gh are.
     let b : ℕ = a.0.ref_ptr.0 in let o : ℕ = a.0.ref_ptr.1 in let d : ℕ = a.1.0.ref_ptr.0 in let e : ℕ = a.1.0.ref_ptr.1 in
-    let mine' : Right.Denot = record { badge = a.1.0.now } in let theirs' : Badge Eye = a.0.now.badge in
+    let mine' : Right.Denot = record { badge = a.1.0.now } in let theirs' : Badge Watch = a.0.now.badge in
     let Told : Type 0 = (mine'.badge ≡ a.1.0.now) × (theirs' ≡ a.0.now.badge) in
     let y : (walk_of 𝓛 En hs c).Ghost = (
       (

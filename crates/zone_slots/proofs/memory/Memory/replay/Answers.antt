@@ -13,7 +13,7 @@ use Rattle.frame_zones.specs.declared.zones.Zones.{Zones}
 use Rattle.frame_zones.specs.declared.zones.ZoneCore.{ZoneCore}
 use Rattle.frame_zones.proofs.Parted.{some_of}
 use Rattle.zone_slots.specs.ImageParts.{numbers_from}
-use Rattle.zone_slots.specs.Reopenings.{claimed_in, KeepsRestIn, HasLaidIn}
+use Rattle.zone_slots.specs.Reopenings.{claims_in, KeepsRestIn, HasLaidIn}
 use Rattle.zone_slots.proofs.Reopened.{rest_more, unused_more, laid_more, children_of, before_more}
 use Rattle.zone_slots.proofs.memory.Memory.replay.Goals as goal
 
@@ -27,13 +27,13 @@ loop-zone-preserved c =
     let d : ZoneCore = c.replay_in.new.core in
     let within : i < zone_count zs = omega (arith, c.loop-zone-test.true, c.count-zone-end.ensures) in
     let a : Allocator = some_of zs.zones.items (omega (arith, within)) in
-    let blocks : (v : Vec FrameBlock Global) → c.deref.result.now ≡ claimed_in claimed i v =
+    let blocks : (v : Vec FrameBlock Global) → c.deref.result.now ≡ claims_in claimed i v =
     λ v. c.deref.ensures.value
     ∙ ap (λ (w : Vec FrameBlock Global). w.items) (c.index-claimed-zone.is
     ∙ get_or_default claimed i c.index-claimed-zone.result v (omega (arith, within, c.requires.claimed))) in
     let from : c.behind.result.now ≡ numbers_from zs numbers i = c.behind.ensures ∙ ap (λ n. drop n numbers) inv.from in
     let here : KeepsRestIn numbers claimed zs d i =
-    λ b x v. subst (λ (l : List ℕ). KeepsRest (memory_of (zone_at zs i b)).frames l (claimed_in claimed i v) (core_at d i x)) from
+    λ b x v. subst (λ (l : List ℕ). KeepsRest (memory_of (zone_at zs i b)).frames l (claims_in claimed i v) (core_at d i x)) from
     (subst (λ (bs : List FrameBlock). KeepsRest (memory_of (zone_at zs i b)).frames c.behind.result.now bs (core_at d i x)) (blocks v)
     (c.in_ok-row.ensures.rest b x)) in
     let frames : c.index.result.now ≡ (memory_of (zone_at zs i a)).frames =
@@ -44,6 +44,7 @@ loop-zone-preserved c =
     let few = (table_sizes (zone_at zs i a).table).few_children in
     record {
       are_cores = c.replay_in.ensures.core.are_cores;
+      home = c.replay_in.ensures.home ∙ inv.home;
       rest = rest_more numbers claimed zs c.loop-zone.core d i within inv.rest c.replay_in.ensures.core.others here;
       unused = unused_more zs c.loop-zone.core d i c.replay_in.ensures.core.others inv.unused;
       laid = subst (λ (l : List (Vec Receipt Global)). (z : ℕ) → z < i + 1 → HasLaidIn claimed l z)

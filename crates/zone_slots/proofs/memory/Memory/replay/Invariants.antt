@@ -9,6 +9,7 @@ use Rattle.zone_slots.proofs.memory.Memory.replay.Given as goal
 abbrev pub invariant-loop-zone : goal.invariant-loop-zone
 invariant-loop-zone l = record {
   are_cores : AreCoresOf l.self.zones l.core;
+  home : l.core.home ≡ l.fn.core.home;
   rest : (z : ℕ) → z < l.zone → KeepsRestIn l.numbers l.claimed l.self.zones l.core z;
   unused : (k : ℕ) (x : Core) → l.zone ≤ k → k < zone_count l.self.zones → IsUnused (core_at l.core k x);
   laid : (z : ℕ) → z < l.zone → HasLaidIn l.claimed l.rows.items z;

@@ -29,4 +29,5 @@ returns-clause-core c =
         number = c.requires.number;
       };
       same_number = refl;
+      stays_alone = search rules;
     }

@@ -6,7 +6,7 @@ returns-in-Ok-clause-takes c =
     let same = c.with_order.ensures in
     record {
       kept = found.kept;
-      same_habit = found.same_habit;
+      same_gives = found.same_gives;
       ok = found.ok.taken c.with_order.result same.0 same.1 same.2;
       err = tt;
     }

@@ -4,11 +4,13 @@ use Rattle.frame_model.specs.declared.view.View.{View}
 use Rattle.frame_model.specs.Block.{block}
 use Rattle.frame_core.specs.Movers.{sizes_of}
 use Rattle.frame_model.specs.Without.{without}
+use Rattle.frame_model.proofs.Steps.SeatViews.{blocks_are}
 use Rattle.frame_table.specs.Openings.{ground_view, IsLeft}
 use Rattle.core_frames.specs.Cores.{memory_of}
-use Rattle.core_frames.specs.Left.{left_blocks}
+use Rattle.core_frames.specs.Left.{left_blocks, StayLeft}
 use Rattle.core_frames.specs.LeftFrames.{Shows, IsShown}
 use Rattle.core_frames.proofs.LeftLemmas.{shown_is_left, left_is_shown, shows_without}
+use Rattle.core_frames.proofs.Adopting.{stay_left}
 use Rattle.core_frames.proofs.shared.survivors.Survivors.adopt.Goals as goal
 
 pub returns-then-not-shows-clause-adopts : goal.returns-then-not-shows-clause-adopts
@@ -23,6 +25,7 @@ returns-then-not-shows-clause-adopts c =
     (left_is_shown key (sizes_of key s.geometry is.sizes) s.left.bits.items s.left.huge.items (left_blocks s) is.shown b l) in
     record {
       ok = tt;
+      others = tt;
       err = (inr (refl, omega (arith, c.if-order-gt-HUGE_ORDER.false), λ l. c.if-not-shows.ensures (shown l)), refl);
     }
 
@@ -68,10 +71,13 @@ returns-clause-adopts c =
     let was = shown_is_left key (sizes_of key s.geometry is.sizes) s.left.bits.items s.left.huge.items (left_blocks s) is.shown b
     (omega (arith, c.if-order-gt-HUGE_ORDER.false))
     (subst (λ n. IsShown n s.left.bits.items s.left.huge.items b) frames c.if-not-shows.ensures) in
+    let own : (ground_view c.part.new.self).own ≡ without b (left_blocks s) = ap (λ (v : View). v.own) c.part.ensures.view in
     record {
       ok = (
         record { was_left = was; is_block = c.part.ensures.block.0; is_out = c.part.ensures.block.1 },
-        ap (λ (v : View). v.own) c.part.ensures.view,
+        own,
       );
+      others = subst (StayLeft key b (left_blocks s)) (sym own)
+          (stay_left key b (left_blocks s) (blocks_are key (ground_view s.seat) is.seat.at.is_view).0 was);
       err = tt;
     }

@@ -45,7 +45,8 @@ returns c =
           ∙ ap (λ i. out_count (set m.outs.items i 0) + 1) (sym f))
           (sym (c.push_front_reserved.ensures.items ∙ (λ i. block (f i) (o i) ∷ m.own.items))) (sym c.saturating_add-self.ensures));
       reads = refl;
-      words = λ u. refl;
+      stays_so = λ r. r;
+      words = λ r u. refl;
     }
 
 pub invariant_of-self-clause-agrees : goal.invariant_of-self-clause-agrees

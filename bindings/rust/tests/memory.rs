@@ -1,0 +1,235 @@
+//! The binding over the library: threads, pools, refusals, zones, images. What is out is also kept by hand, a byte a
+//! frame, so that a frame in two hands is seen whatever the library answers.
+use llfree::{image_words, Block, Checked, Claim, Core, Form, Frames, Pool, Processor, Range, Refused, Unchecked};
+use std::sync::atomic::{AtomicU8, Ordering};
+use std::sync::{mpsc, Barrier};
+use std::thread;
+
+const FRAMES: u32 = 8 * 4096;
+
+/// A byte a frame: 1 where it is out.
+struct Owners(Vec<AtomicU8>);
+
+impl Owners {
+    fn new() -> Owners {
+        Owners((0..FRAMES).map(|_| AtomicU8::new(0)).collect())
+    }
+
+    fn turn<F: Form>(&self, block: &Block<F>, to: u8) {
+        for frame in block.frame()..block.frame() + block.frames() {
+            assert_eq!(self.0[frame as usize].swap(to, Ordering::SeqCst), 1 - to, "frame {frame}");
+        }
+    }
+}
+
+fn step(x: &mut u64) -> u64 {
+    *x ^= *x << 13;
+    *x ^= *x >> 7;
+    *x ^= *x << 17;
+    *x
+}
+
+fn give<F: Form>(owners: &Owners, core: &mut Core<F>, block: Block<F>) {
+    owners.turn(&block, 0);
+    core.give(block).map_err(|(refused, _)| refused).expect("a block that is out is given");
+}
+
+/// Four threads with a core each: blocks go back where they were taken, in halves, or by another thread.
+fn blocks_wander<F: Form>() {
+    let kept = [Range { first: 0, frames: 16 }];
+    let cores: [Core<F>; 4] = Core::open(FRAMES, &kept).expect("a memory");
+    let owners = Owners::new();
+    let (ends, inboxes): (Vec<_>, Vec<_>) = (0..4).map(|_| mpsc::channel::<Block<F>>()).unzip();
+    let together = Barrier::new(4);
+    let mut back: Vec<_> = thread::scope(|scope| {
+        let run = |number: u64, mut core: Core<F>, inbox: mpsc::Receiver<Block<F>>| {
+            let (ends, owners, together) = (ends.clone(), &owners, &together);
+            move || {
+                together.wait();
+                let mut x = 88_172_645_463_325_252 + number;
+                let (mut mine, mut taken) = (Vec::new(), 0);
+                for _ in 0..100_000 {
+                    let r = step(&mut x);
+                    match (r & 1, mine.pop()) {
+                        (1, Some(block)) if r & 2 == 0 => {
+                            let _ = ends[(r >> 16) as usize % 4].send(block);
+                        }
+                        (1, Some(block)) if r & 4 == 0 && block.order() > 0 => {
+                            let (lower, upper) = core.split(block).expect("a half");
+                            mine.extend([lower, upper]);
+                        }
+                        (1, Some(block)) => give(owners, &mut core, block),
+                        (_, popped) => {
+                            mine.extend(popped);
+                            if let Ok(block) = core.take((r >> 8) as u8 % 10) {
+                                owners.turn(&block, 1);
+                                mine.push(block);
+                                taken += 1;
+                            }
+                        }
+                    }
+                    for block in inbox.try_iter() {
+                        give(owners, &mut core, block);
+                    }
+                }
+                assert!(taken > 1_000, "only {taken} takes");
+                mine.into_iter().for_each(|block| give(owners, &mut core, block));
+                drop(ends);
+                (core, inbox)
+            }
+        };
+        let threads: Vec<_> = (0..).zip(cores).zip(inboxes).map(|((number, core), inbox)| scope.spawn(run(number, core, inbox))).collect();
+        drop(ends.clone());
+        threads.into_iter().map(|thread| thread.join().expect("a thread")).collect()
+    });
+    drop(ends);
+    for (core, inbox) in &mut back {
+        inbox.iter().for_each(|block| give(&owners, core, block));
+    }
+    assert_eq!(back[0].0.free_frames(), FRAMES - 16);
+    assert_eq!(back[3].0.free_huge(), FRAMES / 512 - 1);
+}
+
+#[test]
+fn checked_blocks_wander() {
+    blocks_wander::<Checked>();
+}
+
+#[test]
+fn unchecked_blocks_wander() {
+    blocks_wander::<Unchecked>();
+}
+
+struct Cpu;
+
+impl Processor for Cpu {
+    fn now() -> usize {
+        extern "C" {
+            fn sched_getcpu() -> i32;
+        }
+        // SAFETY: it has no condition.
+        unsafe { sched_getcpu() as usize }
+    }
+}
+
+/// A hundred threads on eight cores; frames that are dropped, halved, or given by hand.
+#[test]
+fn a_hundred_threads_share_eight_cores() {
+    let pool: Pool<Cpu, 8> = Pool::of(Core::open(FRAMES, &[]).expect("a memory"));
+    let owners = Owners::new();
+    thread::scope(|scope| {
+        for number in 0..100 {
+            let (pool, owners) = (&pool, &owners);
+            scope.spawn(move || {
+                let mut x = 88_172_645_463_325_252 + number;
+                let mut mine: Vec<Frames<'_, Cpu, 8>> = Vec::new();
+                for _ in 0..2_000 {
+                    let r = step(&mut x);
+                    if r & 1 == 0 && mine.len() < 20 {
+                        if let Ok(frames) = pool.take((r >> 8) as u8 % 6) {
+                            owners.turn(&frames, 1);
+                            mine.push(frames);
+                        }
+                    } else if let Some(frames) = mine.pop() {
+                        if r & 6 == 6 && frames.order() > 0 {
+                            let (lower, upper) = frames.split().map_err(|(refused, _)| refused).expect("halves");
+                            mine.extend([lower, upper]);
+                        } else {
+                            owners.turn(&frames, 0);
+                        }
+                    }
+                }
+                mine.iter().for_each(|frames| owners.turn(frames, 0));
+            });
+        }
+    });
+    assert_eq!(pool.with(|core| core.free_frames()), FRAMES);
+    let block = pool.take(9).expect("a huge frame").into_block();
+    let [mut core, ..] = pool.into_cores();
+    assert_eq!(core.free_huge(), FRAMES / 512 - 1);
+    core.give(block).expect("given by hand");
+}
+
+fn refuses<F: Form>() {
+    let [mut a, mut b]: [Core<F>; 2] = Core::open(512, &[]).expect("a memory");
+    let [mut other]: [Core<F>; 1] = Core::open(512, &[]).expect("another memory");
+    let huge = a.take(9).expect("all of it");
+    assert_eq!(b.take(0).unwrap_err(), Refused::NoBlock);
+    assert_eq!(b.take_retry(0, 3).unwrap_err(), Refused::NoBlock);
+    assert_eq!(b.take(10).unwrap_err(), Refused::BadOrder);
+    let (refused, huge) = other.give(huge).expect_err("of another memory");
+    assert_eq!((refused, huge.frame(), huge.order()), (Refused::OtherMemory, 0, 9));
+    let (refused, huge) = other.split(huge).expect_err("of another memory");
+    assert_eq!(refused, Refused::OtherMemory);
+    assert_eq!((other.free_frames(), a.free_frames(), a.frames()), (512, 0, 512));
+    let (lower, upper) = b.split(huge).expect("halves");
+    assert_eq!((lower.frame(), upper.frame(), upper.order(), upper.bytes()), (0, 256, 8, 1 << 20));
+    b.give(upper).expect("given");
+    a.give(lower).expect("given");
+    let (refused, frame) = { let frame = a.take(0).expect("a frame"); b.split(frame).expect_err("no halves") };
+    assert_eq!(refused, Refused::BadOrder);
+    b.give(frame).expect("given");
+    assert_eq!(a.free_frames(), 512);
+    assert_eq!(Core::<F>::open::<0>(512, &[]).err(), Some(Refused::BadGeometry));
+    assert_eq!(Core::<F>::open::<1>(0, &[]).err(), Some(Refused::BadGeometry));
+    assert_eq!(Core::<F>::open::<1>(512, &[Range { first: 512, frames: 1 }]).err(), Some(Refused::BadRange));
+}
+
+#[test]
+fn what_is_refused() {
+    refuses::<Checked>();
+    refuses::<Unchecked>();
+}
+
+/// Zones of one child each, the second at 16 GiB.
+const ZONES: [Range; 2] = [Range { first: 0, frames: 512 }, Range { first: 4_194_304, frames: 512 }];
+
+fn takes_of_zones<F: Form>() {
+    let [mut core]: [Core<F>; 1] = Core::open_zones(&ZONES, &[]).expect("zones");
+    let (one, two) = (core.take(9).expect("one"), core.take(9).expect("two"));
+    assert_eq!([one.frame(), two.frame()], [0, 4_194_304]);
+    assert_eq!(core.take(0).unwrap_err(), Refused::NoBlock);
+    core.give(two).expect("given");
+    core.give(one).expect("given");
+    assert_eq!(core.free_huge(), 2);
+}
+
+#[test]
+fn zones_have_holes() {
+    takes_of_zones::<Checked>();
+    takes_of_zones::<Unchecked>();
+}
+
+/// A block is kept over a closing and an opening of the same zones.
+#[test]
+fn a_claimed_block_outlives_its_memory() {
+    let mut words = [0; 18];
+    assert_eq!(ZONES.iter().map(|zone| image_words(zone.frames)).sum::<usize>(), words.len());
+    let [mut core, second]: [Core; 2] = Core::open_zones(&ZONES, &[]).expect("zones");
+    let kept = core.take(4).expect("sixteen frames").keep();
+    let (refused, core) = core.close_image(&mut words).expect_err("another core is open");
+    assert_eq!(refused, Refused::CoresOpen);
+    drop(second);
+    let (refused, core) = core.close_image(&mut words[..17]).expect_err("the buffer is short");
+    assert_eq!(refused, Refused::NoRoom);
+    core.close_image(&mut words).expect("an image");
+    assert_eq!(words.map(u64::count_ones)[1..9].iter().sum::<u32>(), 16, "sixteen bits are set");
+
+    let wrong = Claim { frame: kept.frame + 16, order: 4 };
+    let refused = Core::reopen_zones::<1>(&ZONES, &words, &[wrong], |_| unreachable!()).unwrap_err();
+    assert_eq!(refused, Refused::NotHeld);
+    let mut claimed = Vec::new();
+    let [mut core] = Core::reopen_zones::<1>(&ZONES, &words, &[kept], |block| claimed.push(block)).expect("reopened");
+    assert_eq!((core.free_frames(), claimed.len()), (1_024 - 16, 1));
+    core.give(claimed.remove(0)).expect("the claimed block is out");
+    assert_eq!(core.free_frames(), 1_024);
+
+    let refused = Core::reopen::<1>(512, &words[..8], &[], |_| unreachable!()).unwrap_err();
+    assert_eq!(refused, Refused::BadImage);
+}
+
+#[test]
+fn a_status_is_told_in_a_sentence() {
+    assert_eq!(Refused::NotHeld.to_string(), "no such block is held");
+    assert!(Refused::Contended.may_pass() && !Refused::NoMemory.may_pass());
+}

@@ -1,0 +1,10 @@
+//! A core with single frames at hand, which are taken and given without a step of the allocator.
+#![tactic(auto)]
+
+mod cached_core;
+mod gives;
+mod openings;
+mod rests;
+mod takes;
+
+pub use cached_core::{CachedCore, MOST_CACHED};

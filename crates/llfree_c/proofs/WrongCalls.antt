@@ -1,0 +1,51 @@
+-- What no exported call answers.
+use Rattle.std.proofs.Common.{◌≡◌, ℕ, ◌<◌, Option, Some, None, ⊎_elim, subst, arith}
+use Rattle.core_frames.specs.declared.shared.allocator.Allocator.{Allocator}
+use Rattle.core_frames.specs.declared.shared.allocator.Core.{Core}
+use Rattle.zone_slots.proofs.WrongTakes.{fewer_moves_unsought, loss_unsought, number_in_no_zone, taken_from_a_hole}
+use Rattle.zone_slots.specs.Calls.{zones_of}
+use Rattle.zone_slots.specs.Uses.{FindsNothingAnywhere}
+use Rattle.zone_slots.specs.WrongTakes.{SkipsTrees, LosesSome}
+use Rattle.zone_slots.specs.declared.core_state.CoreState.{CoreState}
+use Rattle.llfree_c.specs.WrongCalls.{NumberIsOfAHole, NoBlockIsUnsought, CountIsTooHigh}
+
+pub number_is_of_a_hole : NumberIsOfAHole
+number_is_of_a_hole order frame x h s t none = (
+  λ lies takes. taken_from_a_hole order frame x s t none lies takes,
+  λ lies takes. number_in_no_zone order h.frame x s t none lies takes.taken,
+)
+
+-- a search that was made is none that skipped trees or lost an exchange
+skipped : (order : ℕ) (s t : CoreState) → SkipsTrees s t → ¬ FindsNothingAnywhere (zones_of s) order s.core t.core
+skipped order s t skips none = fewer_moves_unsought order s t skips none
+
+lost : (order : ℕ) (s t : CoreState) → LosesSome s t → ¬ FindsNothingAnywhere (zones_of s) order s.core t.core
+lost order s t loses none = loss_unsought order s t loses none
+
+pub no_block_is_unsought : NoBlockIsUnsought
+no_block_is_unsought order h s t = (
+  λ skips why. ⊎_elim (λ other. absurd (omega (arith, other.0)))
+      (λ rest. ⊎_elim (λ found. skipped order s t skips found.1.in_each) (λ other. absurd (omega (arith, other.0))) rest) why,
+  λ loses why. ⊎_elim (λ other. absurd (omega (arith, other.0)))
+      (λ rest. ⊎_elim (λ found. lost order s t loses found.1.in_each) (λ other. absurd (omega (arith, other.0))) rest) why,
+  λ skips why. ⊎_elim (λ other. absurd (omega (arith, other.0)))
+      (λ rest. ⊎_elim (λ other. absurd (omega (arith, other.0)))
+      (λ last. ⊎_elim (λ found. skipped order s t skips found.1.in_each) (λ other. absurd (omega (arith, other.0))) last) rest) why,
+  λ loses why. ⊎_elim (λ other. absurd (omega (arith, other.0)))
+      (λ rest. ⊎_elim (λ other. absurd (omega (arith, other.0)))
+      (λ last. ⊎_elim (λ found. lost order s t loses found.1.in_each) (λ other. absurd (omega (arith, other.0))) last) rest) why,
+)
+
+pub count_is_too_high : CountIsTooHigh
+count_is_too_high n s None = (
+  λ over counts. counts,
+  λ over counts. counts,
+  λ some counts. absurd (omega (arith, some, counts.0)),
+  λ some counts. absurd (omega (arith, some, counts.0)),
+)
+count_is_too_high n s (Some t) = (
+  λ over counts. absurd (omega (arith, over, counts.counts.few)),
+  λ over counts. absurd (omega (arith, over, counts.counts.few)),
+  λ some counts. absurd (omega (arith, some, counts.0)),
+  λ some counts. absurd (omega (arith, some, counts.0)),
+)

@@ -1,0 +1,9 @@
+use Rattle.llfree_c.proofs.WrongCalls.{number_is_of_a_hole, no_block_is_unsought, count_is_too_high}
+use Rattle.llfree_c.proofs.laws.wrong_answers_are_not_given.Goals as goal
+
+pub returns : goal.returns
+returns c = record {
+  holes = number_is_of_a_hole;
+  unsought = no_block_is_unsought;
+  counts = count_is_too_high;
+}

@@ -1,0 +1,38 @@
+-- Answers of exported calls that would be wrong.
+use Rattle.std.specs.Prelude.{ℕ, ◌*◌, ◌<◌, Option, Some, None}
+use Rattle.frame_words.specs.Geometry.{child_frames}
+use Rattle.frame_zones.specs.Frames.{IsInNoZone}
+use Rattle.zone_slots.specs.Calls.{zones_of, TakesFor, frames_by}
+use Rattle.zone_slots.specs.FreeCounts.{CountsFrames, CountsHuge}
+use Rattle.zone_slots.specs.WrongTakes.{LiesFrom, SkipsTrees, LosesSome}
+use Rattle.zone_slots.specs.declared.core_state.CoreState.{CoreState}
+use Rattle.llfree_c.specs.Blocks.{TakesHeld}
+use Rattle.llfree_c.specs.FreeCounts.{CountsBehind}
+use Rattle.llfree_c.specs.RefusedCalls.{RefusesTakeAs, RefusesBlockAs}
+use Rattle.llfree_c.specs.SeenCores.{OnCores}
+use Rattle.llfree_c.specs.Status.{no_block}
+use Rattle.llfree_c.specs.declared.block_handle.BlockHandle.{BlockHandle}
+
+-- no take answers the number of a block with a frame that no zone has, in a hole or past the end, and none
+-- puts such a block into a struct
+abbrev pub NumberIsOfAHole : Type 0
+NumberIsOfAHole = (order frame x : ℕ) (h : BlockHandle) (s t : CoreState) → IsInNoZone (zones_of s) x
+    → (LiesFrom frame order x → ¬ OnCores (TakesFor order frame) (Some s) (Some t))
+    × (LiesFrom h.frame order x → ¬ OnCores (TakesHeld order h) (Some s) (Some t))
+
+-- no take says that it found no block after fewer moves in some zone than it has trees, or with a lost
+-- exchange
+abbrev pub NoBlockIsUnsought : Type 0
+NoBlockIsUnsought = (order : ℕ) (h : BlockHandle) (s t : CoreState)
+    → (SkipsTrees s t → ¬ OnCores (RefusesTakeAs order no_block) (Some s) (Some t))
+    × (LosesSome s t → ¬ OnCores (RefusesTakeAs order no_block) (Some s) (Some t))
+    × (SkipsTrees s t → ¬ OnCores (RefusesBlockAs order h no_block) (Some s) (Some t))
+    × (LosesSome s t → ¬ OnCores (RefusesBlockAs order h no_block) (Some s) (Some t))
+
+-- no count is above all frames, and none is above 0 where nothing is behind the handle
+abbrev pub CountIsTooHigh : Type 0
+CountIsTooHigh = (n : ℕ) (s : CoreState) (later : Option CoreState)
+    → (frames_by s < n → ¬ CountsBehind CountsFrames n (Some s) later)
+    × (frames_by s < child_frames * n → ¬ CountsBehind CountsHuge n (Some s) later)
+    × (0 < n → ¬ CountsBehind CountsFrames n None later)
+    × (0 < n → ¬ CountsBehind CountsHuge n None later)

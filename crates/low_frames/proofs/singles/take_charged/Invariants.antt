@@ -1,0 +1,15 @@
+use Rattle.std.proofs.Common.{◌≡◌, ◌+◌, ◌*◌, ◌/◌, ◌≤◌, vec_len, vec_capacity}
+use Rattle.low_frames.specs.Bounds.{attempt}
+use Rattle.low_frames.specs.Singles.{TakesSingles, HasTakenSome}
+use Rattle.low_frames.proofs.singles.take_charged.Given as goal
+
+abbrev pub invariant-loop-i : goal.invariant-loop-i
+invariant-loop-i g l =
+    let M = g.M.Moves in
+    record {
+      takes : TakesSingles g.M.Held.HeldBlock.block_of M.is_exact (l.fn.child / 8) (attempt * (l.got + l.i) + l.got)
+          (HasTakenSome l.fn.child l.got) l.got l.fn.out.items l.out.items (M.at l.fn.m) (M.at l.m);
+      few : l.got ≤ l.fn.n;
+      len : vec_len l.out ≡ vec_len l.fn.out + l.got;
+      cap : vec_capacity l.out ≡ vec_capacity l.fn.out;
+    }

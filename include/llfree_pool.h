@@ -1,0 +1,127 @@
+/* Cores for any number of threads, which come and go: each core stands at a desk, and a call sits down at the desk of
+ * its processor, or at the next one that is not taken. So a handle has one call at a time, whoever calls. A call waits
+ * only while all desks are taken. For GCC and clang.
+ *
+ *     static llfree_desk desks[8];
+ *     llfree_core cores[8] = { LLFREE_CLOSED, .. };
+ *     if (llfree_open(cores, 8, frames, NULL, 0) == LLFREE_OK)
+ *         llfree_seat_all(desks, cores, 8);
+ *     llfree_pool_take(desks, 8, 3, &frame), llfree_pool_give(desks, 8, frame, 3);
+ *
+ * A program that forks while other threads run takes all desks before it, and leaves them after it on both sides:
+ * pthread_atfork with functions that call llfree_sit_at_all and llfree_leave_all. A child that was forked without
+ * has the desks as they were: one where a thread sat stays taken for good. */
+#ifndef LLFREE_POOL_H
+#define LLFREE_POOL_H
+
+#include "llfree.h"
+
+/* Which desk a call asks first. Any number is right; the processor's keeps threads apart. */
+#ifndef llfree_pool_here
+#include <sched.h>
+#ifdef __cplusplus
+extern "C"
+#else
+extern
+#endif
+int sched_getcpu(void);
+#define llfree_pool_here() ((size_t)(unsigned)sched_getcpu())
+#endif
+
+enum { LLFREE_POOL_TRIES = 20 }; /* how often a take is made where other cores are in its way */
+
+/* A core with cache lines of its own. It starts with all bytes 0. */
+typedef struct llfree_desk {
+    llfree_core core;
+    unsigned char is_taken;
+} __attribute__((aligned(128))) llfree_desk;
+
+/* Moves the cores behind open handles to as many desks; the handles are closed then. */
+static inline void llfree_seat_all(llfree_desk *desks, llfree_core *handles, size_t count)
+{
+    const llfree_core closed = LLFREE_CLOSED;
+    for (size_t i = 0; i < count; i++) {
+        desks[i].core = handles[i];
+        handles[i] = closed;
+        __atomic_store_n(&desks[i].is_taken, 0, __ATOMIC_RELEASE);
+    }
+}
+
+/* Sits down at a desk, whose core nobody else calls through until llfree_leave. There is at least one desk. */
+static inline llfree_desk *llfree_sit(llfree_desk *desks, size_t count)
+{
+    for (size_t at = llfree_pool_here();; at++) {
+        llfree_desk *desk = &desks[at % count];
+        if (!__atomic_exchange_n(&desk->is_taken, 1, __ATOMIC_ACQUIRE))
+            return desk;
+        __builtin_ia32_pause();
+    }
+}
+
+static inline void llfree_leave(llfree_desk *desk)
+{
+    __atomic_store_n(&desk->is_taken, 0, __ATOMIC_RELEASE);
+}
+
+/* Sits down at all desks, one after another, for instance before a fork. */
+static inline void llfree_sit_at_all(llfree_desk *desks, size_t count)
+{
+    for (size_t i = 0; i < count; i++)
+        while (__atomic_exchange_n(&desks[i].is_taken, 1, __ATOMIC_ACQUIRE))
+            __builtin_ia32_pause();
+}
+
+static inline void llfree_leave_all(llfree_desk *desks, size_t count)
+{
+    for (size_t i = 0; i < count; i++)
+        llfree_leave(&desks[i]);
+}
+
+/* llfree_take through a desk, again where other cores are in the way. */
+LLFREE_NODISCARD
+static inline enum llfree_status llfree_pool_take(llfree_desk *desks, size_t count, uint8_t order, uint32_t *frame)
+{
+    llfree_desk *desk = llfree_sit(desks, count);
+    enum llfree_status status = llfree_take_retry(&desk->core, order, frame, LLFREE_POOL_TRIES);
+    llfree_leave(desk);
+    return status;
+}
+
+/* llfree_give through a desk. */
+static inline enum llfree_status llfree_pool_give(llfree_desk *desks, size_t count, uint32_t frame, uint8_t order)
+{
+    llfree_desk *desk = llfree_sit(desks, count);
+    enum llfree_status status = llfree_give(&desk->core, frame, order);
+    llfree_leave(desk);
+    return status;
+}
+
+/* llfree_split through a desk. */
+LLFREE_NODISCARD
+static inline enum llfree_status llfree_pool_split(llfree_desk *desks, size_t count, uint32_t frame, uint8_t order)
+{
+    llfree_desk *desk = llfree_sit(desks, count);
+    enum llfree_status status = llfree_split(&desk->core, frame, order);
+    llfree_leave(desk);
+    return status;
+}
+
+/* llfree_close for each desk, once no thread calls any more. */
+static inline void llfree_pool_close(llfree_desk *desks, size_t count)
+{
+    for (size_t i = 0; i < count; i++)
+        llfree_close(&desks[i].core);
+}
+
+/* The address of a frame of a region, whose frame 0 lies at base, and back. */
+static inline void *llfree_address(void *base, uint32_t frame)
+{
+    return (char *)base + (size_t)4096 * frame;
+}
+
+static inline uint32_t llfree_frame_at(const void *base, const void *address)
+{
+    return (uint32_t)((size_t)((const char *)address - (const char *)base) / 4096);
+}
+
+#endif

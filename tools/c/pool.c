@@ -1,0 +1,130 @@
+/* Desks: a hundred threads, which come and go, on eight cores, with an owner byte a frame; children that are forked
+ * while others are in calls, and take what is left; addresses. */
+#define _GNU_SOURCE
+#include "check.h"
+#include "llfree_pool.h"
+#include <pthread.h>
+#include <stdatomic.h>
+#include <sys/wait.h>
+#include <unistd.h>
+
+enum { DESKS = 8, FRAMES = 16 * 4096, THREADS = 100, RUNNING = 20, ROUNDS = 1000, HELD = 16, FORKS = 20 };
+
+static llfree_desk desks[DESKS];
+static _Atomic unsigned char owner[FRAMES];
+
+static void turn(uint32_t frame, uint8_t order, unsigned char to)
+{
+    for (uint32_t i = frame; i < frame + (1u << order); i++)
+        CHECK(atomic_exchange(&owner[i], to) == !to);
+}
+
+static void give(uint32_t frame, uint8_t order)
+{
+    turn(frame, order, 0);
+    CHECK(llfree_pool_give(desks, DESKS, frame, order) == LLFREE_OK);
+}
+
+static void *work(void *number)
+{
+    uint64_t x = 88172645463325252u + (uint64_t)(size_t)number;
+    uint32_t frames[HELD];
+    uint8_t orders[HELD];
+    int held = 0, taken = 0;
+
+    for (int round = 0; round < ROUNDS; round++) {
+        uint64_t r = next_random(&x);
+        if (r & 1 && held < HELD - 1) {
+            uint8_t order = r >> 8 & 7;
+            if (llfree_pool_take(desks, DESKS, order, &frames[held]) != LLFREE_OK)
+                continue;
+            turn(frames[held], order, 1);
+            orders[held++] = order;
+            taken++;
+        } else if (held > 0 && held < HELD && r & 2 && orders[held - 1] > 0) {
+            CHECK(llfree_pool_split(desks, DESKS, frames[held - 1], orders[held - 1]) == LLFREE_OK);
+            orders[held] = --orders[held - 1];
+            frames[held] = frames[held - 1] + (1u << orders[held]);
+            held++;
+        } else if (held > 0) {
+            held--;
+            give(frames[held], orders[held]);
+        }
+    }
+    while (held > 0) {
+        held--;
+        give(frames[held], orders[held]);
+    }
+    CHECK(taken > ROUNDS / 8);
+    return NULL;
+}
+
+static void sit_at_all(void)
+{
+    llfree_sit_at_all(desks, DESKS);
+}
+
+static void leave_all(void)
+{
+    llfree_leave_all(desks, DESKS);
+}
+
+/* The child takes all that is left, and finds no frame that a thread holds; all that it gives it may take again. */
+static int child(void)
+{
+    uint32_t frame, free = llfree_free_frames(&desks[0].core), taken = 0;
+    while (llfree_pool_take(desks, DESKS, 0, &frame) == LLFREE_OK) {
+        if (atomic_exchange(&owner[frame], 2) != 0)
+            return 1;
+        taken++;
+    }
+    return taken == free ? 0 : 2;
+}
+
+static void *forks(void *count)
+{
+    for (int i = 0; i < *(int *)count; i++) {
+        int status;
+        pid_t pid = fork();
+        CHECK(pid >= 0);
+        if (pid == 0)
+            _exit(child());
+        CHECK(waitpid(pid, &status, 0) == pid && WIFEXITED(status) && WEXITSTATUS(status) == 0);
+    }
+    return NULL;
+}
+
+int main(void)
+{
+    static llfree_core cores[DESKS];
+    pthread_t threads[RUNNING], forking;
+    int fork_count = FORKS;
+    uint32_t frame;
+
+    CHECK(llfree_open(cores, DESKS, FRAMES, NULL, 0) == LLFREE_OK);
+    llfree_seat_all(desks, cores, DESKS);
+    CHECK(llfree_free_frames(&cores[0]) == 0 && llfree_free_frames(&desks[7].core) == FRAMES);
+#ifdef __SANITIZE_THREAD__
+    fork_count = 0; /* it does not follow a fork of a program with threads */
+#endif
+    CHECK(pthread_atfork(sit_at_all, leave_all, leave_all) == 0);
+    for (size_t done = 0; done < THREADS; done += RUNNING) {
+        CHECK(pthread_create(&forking, NULL, forks, &fork_count) == 0);
+        for (size_t i = 0; i < RUNNING; i++)
+            CHECK(pthread_create(&threads[i], NULL, work, (void *)(done + i)) == 0);
+        for (size_t i = 0; i < RUNNING; i++)
+            CHECK(pthread_join(threads[i], NULL) == 0);
+        CHECK(pthread_join(forking, NULL) == 0);
+    }
+    CHECK(llfree_free_frames(&desks[3].core) == FRAMES && llfree_free_huge(&desks[0].core) == FRAMES / 512);
+
+    CHECK(llfree_pool_take(desks, DESKS, 9, &frame) == LLFREE_OK);
+    CHECK(llfree_frame_at(owner, llfree_address(owner, frame)) == frame);
+    CHECK((char *)llfree_address(owner, 3) - (char *)owner == 12288);
+    CHECK(llfree_pool_give(desks, DESKS, frame, 9) == LLFREE_OK);
+    CHECK(llfree_pool_give(desks, DESKS, frame, 9) == LLFREE_NOT_HELD);
+    llfree_pool_close(desks, DESKS);
+    CHECK(llfree_free_frames(&desks[0].core) == 0);
+    puts("ok");
+    return 0;
+}

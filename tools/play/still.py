@@ -1,0 +1,123 @@
+"""A moment of a recording as an SVG, for tools/play.py: where frames lie in LLFree, behind lists for each processor, and in
+the recorded machine."""
+import math
+from xml.sax.saxutils import escape
+
+CHILD_FRAMES, NOBODY = 512, 255
+PANELS = (0, 1, 3)
+PANEL, GAP, MARGIN = 272, 20, 14
+# a memory of few tiles shows each frame, one of many how its tiles are shared: their size in points, with an edge of one
+FRAMES, SHARES = (32, 16), (16, 8)
+MOST_WITH_FRAMES = 160
+LIGHT = ('#2f6fb0', '#e08a1e', '#3f8f52', '#8a54b0', '#c43c5a', '#5d6672', '#0f8b8d', '#a06a2c')
+DARK = ('#6cb0f0', '#f2b04c', '#7fd08f', '#c79bf0', '#ff8fa3', '#9ca3af', '#4fd1c5', '#d6a46a')
+
+
+def style():
+    def colours(made):
+        return ''.join(f'.p{place}{{stroke:{colour}}}.k{place}{{fill:{colour}}}' for place, colour in enumerate(made))
+    return ('<style>text{fill:#24292f;font-family:system-ui,"DejaVu Sans",Verdana,sans-serif}.soft{fill:#59636e}.free{fill:#eef1f4}'
+            f'.edge{{fill:#d0d7de}}{colours(LIGHT)}@media (prefers-color-scheme:dark){{text{{fill:#e6edf3}}.soft{{fill:#9198a1}}'
+            f'.free{{fill:#1c2128}}.edge{{fill:#30363d}}{colours(DARK)}}}</style>')
+
+
+def across(children, size):
+    """How many tiles stand side by side, in eights, so that a memory is about twice as wide as high."""
+    best = math.sqrt(2 * children * (size[1] + 1) / (size[0] + 1))
+    low = max(8, int(best // 8) * 8)
+    return low + 8 if best / low > (low + 8) / best else low
+
+
+def runs_of_frames(who, child, left, top):
+    """Runs of one colour in the rows of a tile: colour, from where, and how long."""
+    for row in range(FRAMES[1]):
+        at = child * CHILD_FRAMES + row * FRAMES[0]
+        points, place = who[at:at + FRAMES[0]], 0
+        while place < FRAMES[0]:
+            end = place + 1
+            while end < FRAMES[0] and points[end] == points[place]:
+                end += 1
+            if points[place] != NOBODY:
+                yield points[place] % len(LIGHT), left + place, top + row + 0.5, end - place
+            place = end
+
+
+def runs_of_shares(who, child, left, top):
+    """A tile is filled from the left by those who use it, each by at least a point."""
+    frames = who[child * CHILD_FRAMES:(child + 1) * CHILD_FRAMES]
+    place = 0
+    for processor in sorted(set(frames) - {NOBODY}):
+        wide = max(1, round(frames.count(processor) * SHARES[0] / CHILD_FRAMES))
+        wide = min(wide, SHARES[0] - place)
+        if wide > 0:
+            yield processor % len(LIGHT), left + place, top + SHARES[1] / 2, wide
+        place += wide
+
+
+def panel(who, children):
+    """A memory at its corner, and how high it is."""
+    who = who.tobytes()
+    size, runs = (FRAMES, runs_of_frames) if children <= MOST_WITH_FRAMES else (SHARES, runs_of_shares)
+    many = across(children, size)
+    pitch = size[0] + 1, size[1] + 1
+    paths = {}
+    for child in range(children):
+        left, top = child % many * pitch[0] + 1, child // many * pitch[1] + 1
+        for colour, x, y, wide in runs(who, child, left, top):
+            paths.setdefault(colour, []).append(f'M{x} {y:g}h{wide}')
+    scale = PANEL / (many * pitch[0] + 1)
+    rows = -(-children // many)
+    high = rows * pitch[1] + 1
+    points = 'stroke-width="1" shape-rendering="crispEdges"' if size == FRAMES else f'stroke-width="{size[1]}"'
+    made = [f'<g transform="scale({scale:.4f})" {points}>']
+    made.append(f'<path class="free" d="M0 0h{many * pitch[0] + 1}v{high}h-{many * pitch[0] + 1}z"/>')
+    made.append(edges(children, many, pitch))
+    made += [f'<path class="p{colour}" d="{"".join(path)}"/>' for colour, path in sorted(paths.items())]
+    return made + ['</g>'], high * scale
+
+
+def edges(children, many, pitch):
+    """The lines between tiles, where there are few."""
+    if children > MOST_WITH_FRAMES:
+        return ''
+    wide, high = many * pitch[0] + 1, -(-children // many) * pitch[1] + 1
+    lines = [f'M{x} 0h1v{high}h-1z' for x in range(0, wide, pitch[0])] + [f'M0 {y}h{wide}v1h-{wide}z' for y in range(0, high, pitch[1])]
+    return f'<path class="edge" d="{"".join(lines)}"/>'
+
+
+def shares(who, children):
+    """Of the huge frames in use, how many have frames of several processors."""
+    users = [len(set(who[child * CHILD_FRAMES:(child + 1) * CHILD_FRAMES]) - {NOBODY}) for child in range(children)]
+    return sum(many > 1 for many in users), sum(many > 0 for many in users)
+
+
+def svg(replay, given, names, until):
+    wide = 2 * MARGIN + len(PANELS) * PANEL + (len(PANELS) - 1) * GAP
+    body, bottom = [], 0
+    for place, one in enumerate(PANELS):
+        left, top = MARGIN + place * (PANEL + GAP), 106
+        who = replay.state(one, until)[0]
+        made, high = panel(who, replay.children[one])
+        shared, used = shares(who.tobytes(), replay.children[one])
+        body.append(f'<text x="{left}" y="{top - 8}" font-size="15" font-weight="600">{names[one]}</text>')
+        body += [f'<g transform="translate({left} {top})">', *made, '</g>']
+        body.append(f'<text x="{left}" y="{top + high + 23:.0f}" font-size="17" font-weight="700">{shared:,} of {used:,}'
+                    f'<tspan dx="6" font-size="13.5" font-weight="400">huge frames shared</tspan></text>')
+        bottom = max(bottom, top + high + 36)
+    words = (f'{given.title}, after {given.still:g} s: {replay.held(until) / 256:,.0f} MiB held, each frame in the colour of the '
+             'processor that took it')
+    yield (f'<svg xmlns="http://www.w3.org/2000/svg" width="{wide}" height="{bottom:.0f}" viewBox="0 0 {wide} {bottom:.0f}" '
+           'role="img" fill="none">')
+    yield f'<title>{escape(words)}</title>'
+    yield style()
+    yield f'<text x="{MARGIN}" y="26" font-size="17" font-weight="600">Where a kernel’s page frames lie</text>'
+    yield f'<text class="soft" x="{MARGIN}" y="47" font-size="13">{escape(words)}</text>'
+    right = MARGIN
+    for processor in range(min(replay.processors, len(LIGHT))):
+        yield f'<rect class="k{processor}" x="{right}" y="58" width="11" height="11"/>'
+        yield f'<text class="soft" x="{right + 16}" y="68" font-size="12">CPU {processor}</text>'
+        right += 70
+    yield f'<rect class="free" x="{right}" y="58" width="11" height="11"/>'
+    yield f'<text class="soft" x="{right + 16}" y="68" font-size="12">free</text>'
+    yield from body
+    yield '</svg>'
