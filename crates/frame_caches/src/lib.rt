@@ -6,5 +6,6 @@ mod gives;
 mod openings;
 mod rests;
 mod takes;
+mod through;
 
 pub use cached_core::{CachedCore, MOST_CACHED};

@@ -1,7 +1,10 @@
 -- What a record may be answered, from a run that answers it.
-use Rattle.std.proofs.Common.{◌≡◌, ◌≤◌, ◌<◌, ◌∙◌, ◌⊎◌, inl, inr, ℕ, List, [], ◌∷◌, ◌++◌, Bool, true, false, nat_le}
+use Rattle.std.proofs.Common.{◌≡◌, ◌≢◌, ◌≤◌, ◌<◌, ◌+◌, ◌∙◌, ◌⊎◌, inl, inr, ℕ, List, [], ◌∷◌, ◌++◌, Bool, true, false, nat_le}
+use Rattle.std.proofs.Common.{length, replicate, slice_set}
 use Rattle.std.proofs.Common.{refl, sym, ap, subst, arith, Result, Ok, Err}
 use Rattle.std.proofs.lemmas.Grind.{common_steps}
+use Rattle.std.proofs.lemmas.List.{get_or-replicate, get_or-set_other, get_or-set_same, length-replicate}
+use Rattle.std.proofs.Math.Seq.{lt-length-set}
 use Rattle.std.proofs.lemmas.List.Elements.{All-head, All-tail}
 use Rattle.frame_model.specs.Block.{block}
 use Rattle.frame_model.specs.Holding.{IsHolding}
@@ -9,16 +12,19 @@ use Rattle.frame_model.specs.declared.block.FrameBlock.{FrameBlock}
 use Rattle.frame_model.specs.declared.key.Key.{Key}
 use Rattle.frame_words.specs.declared.fault.Fault.{Fault}
 use Rattle.frame_words.specs.declared.fault.Fault.TheVariants as fault
-use Rattle.held_blocks.specs.Desk.{blocks_of, GivesExactly, GivesFirst, TakesUnder, pair_block}
+use Rattle.held_blocks.specs.Desk.{blocks_of, GivesExactly, GivesFirst, GivesOldest, TakesUnder, pair_block}
 use Rattle.held_blocks.specs.LabelledBlocks.{HasNone, IsTheBlock, IsUnder, TakesFirst}
 use Rattle.held_blocks.specs.declared.labelled_block.LabelledBlock.{LabelledBlock}
 use Rattle.held_blocks.proofs.HeldLemmas.{all_split}
-use Rattle.llfree_trace.specs.Outcome.{DeskStep, Moves, Runs, core_list}
-use Rattle.llfree_trace.specs.WrongRuns.{GiveIsRefused, IsOfKind, IsReason, ListOverlaps}
-use Rattle.llfree_trace.specs.WrongRuns.{OtherBlockIsGiven, OtherKind, TakeIsRefused, WrongBlockIsTaken, refusing}
+use Rattle.llfree_trace.specs.Outcome.{DeskStep, Moves, Runs, SaysGiven, core_list, put_last}
+use Rattle.llfree_trace.specs.WrongRuns.{EachGivesItsOwn, FirstTakenIsGivenFirst, GiveIsRefused, IsOfKind, IsReason}
+use Rattle.llfree_trace.specs.WrongRuns.{ListOverlaps, OtherBlockIsGiven, OtherKind, TakeIsRefused, WhatMovedIsGiven}
+use Rattle.llfree_trace.specs.WrongRuns.{WrongBlockIsTaken, refusing}
+use Rattle.trace_text.specs.declared.line.Line.{Line}
 use Rattle.trace_text.specs.declared.line.Line.TheVariants as line
 use Rattle.trace_text.specs.declared.line.Request.{Request}
 use Rattle.trace_text.specs.declared.line.Request.TheVariants as request
+use Rattle.trace_text.specs.declared.reply.Answer.{Answer}
 use Rattle.trace_text.specs.declared.reply.Reply.{Reply}
 use Rattle.trace_text.specs.declared.reply.Reply.TheVariants as reply
 
@@ -256,3 +262,155 @@ list_overlaps alone key old core x twice = (
         absurd (omega (arith, twice, holding.disjoint x)),
   ),
 )
+
+-- Worked runs.
+
+abbrev entry : List ℕ → ℕ → ℕ → LabelledBlock
+entry label frame order = record { label = label; block = block frame order }
+
+-- a block that was taken goes last
+taken : (refuses : Key → List FrameBlock → ℕ → Fault → Type 0) (key : Key) (number : ℕ) (old : List (List LabelledBlock))
+    (core : ℕ) (label : List ℕ) (p frame o n : ℕ) (lines : List Line) (answers : List Answer) (new : List (List LabelledBlock))
+    → Runs refuses key number old (line.Ask core (request.Take label p) ∷ lines)
+    (record { line = n; core = core; reply = reply.Taken frame o } ∷ answers) new
+    → Runs refuses key (number + 1) (put_last old core (entry label frame o)) lines answers new
+unfolding Runs DeskStep TakesUnder
+taken refuses key number old core label p frame o n lines answers new run =
+    subst (λ (list : List LabelledBlock). Runs refuses key (number + 1) (slice_set old core list) lines answers new)
+    run.3.0.last run.5
+
+list_put : (lists : List (List LabelledBlock)) (core : ℕ) (e : LabelledBlock) → core < length lists
+    → core_list (put_last lists core e) core ≡ core_list lists core ++ e ∷ []
+list_put lists core e inside = get_or-set_same lists core (core_list lists core ++ e ∷ []) [] inside
+
+list_beside : (lists : List (List LabelledBlock)) (core other : ℕ) (list : List LabelledBlock) → core ≢ other
+    → core_list (slice_set lists core list) other ≡ core_list lists other
+list_beside lists core other list differ = get_or-set_other lists core other list [] (λ same. differ (sym same))
+
+abbrev no_lists : ℕ → List (List LabelledBlock)
+no_lists cores = replicate cores []
+
+no_list : (cores core : ℕ) → core < cores → core_list (no_lists cores) core ≡ []
+no_list cores core inside = get_or-replicate cores core [] [] inside
+
+has_list : (cores core : ℕ) → core < cores → core < length (no_lists cores)
+has_list cores core inside =
+    let same : length (no_lists cores) ≡ cores = length-replicate cores [] in
+    subst (λ n. core < n) (sym same) inside
+
+none_at_all : (P : LabelledBlock → Type 0) → HasNone P []
+none_at_all P k d inside = absurd (omega (arith, inside))
+
+-- one entry stands under the label, in front
+head_first : (label : List ℕ) (frame order : ℕ) (rest : List LabelledBlock)
+    → TakesFirst (IsUnder label) (entry label frame order ∷ rest) (entry label frame order) rest
+head_first label frame order rest = record { front = []; back = rest; was = refl; stays = refl; holds = refl; first = none_at_all (IsUnder label) }
+
+gives_head : (label : List ℕ) (frame order : ℕ) (rest : List LabelledBlock) (r : Reply) (new : List LabelledBlock)
+    → SaysGiven (λ o. GivesOldest (entry label frame order ∷ rest) label o new) r → r ≡ reply.Given frame order
+gives_head label frame order rest (reply.Given g q) new step =
+    ap (λ (b : FrameBlock). reply.Given b.frame b.order)
+    (sym (given_first (IsUnder label) (entry label frame order ∷ rest) (entry label frame order) rest (g, q) new
+    (head_first label frame order rest) step))
+gives_head label frame order rest (reply.Refused f) new step =
+    absurd (not_none (IsUnder label) (entry label frame order ∷ rest) (entry label frame order) rest
+    (head_first label frame order rest)
+    (give_refused (IsUnder label) (entry label frame order ∷ rest) f new step).1)
+gives_head label frame order rest _ new step = absurd step
+
+gives_none : (label : List ℕ) (r : Reply) (new : List LabelledBlock)
+    → SaysGiven (λ o. GivesOldest [] label o new) r → r ≡ reply.Refused fault.NotHeld
+unfolding GivesFirst
+gives_none label (reply.Given g q) new step = absurd (not_none (IsUnder label) [] step.0 new step.2 (none_at_all (IsUnder label)))
+gives_none label (reply.Refused f) new step = ap (λ (t : Fault). reply.Refused t) (give_refused (IsUnder label) [] f new step).0
+gives_none label _ new step = absurd step
+
+-- what a give at the end of a run answers
+last_give : (refuses : Key → List FrameBlock → ℕ → Fault → Type 0) (key : Key) (number : ℕ) (old : List (List LabelledBlock))
+    (core : ℕ) (label : List ℕ) (k : ℕ) (r : Reply) (new : List (List LabelledBlock)) (list : List LabelledBlock)
+    → core_list old core ≡ list
+    → Runs refuses key number old (line.Ask core (request.Give label) ∷ [])
+    (record { line = k; core = core; reply = r } ∷ []) new
+    → (left : List LabelledBlock) × SaysGiven (λ o. GivesOldest list label o left) r
+unfolding Runs DeskStep
+last_give refuses key number old core label k r new list is run =
+    (run.2, subst (λ (l : List LabelledBlock). SaysGiven (λ o. GivesOldest l label o run.2) r) is run.3)
+
+pub first_taken_first : FirstTakenIsGivenFirst
+first_taken_first alone key cores core label p q frame order other o n m k r inside run =
+    let none = no_lists cores in
+    let one = put_last none core (entry label frame order) in
+    let two = put_last one core (entry label other o) in
+    let there : core < length none = has_list cores core inside in
+    let still : core < length one = lt-length-set none core (core_list none core ++ entry label frame order ∷ []) there in
+    let is : core_list two core ≡ entry label frame order ∷ entry label other o ∷ [] =
+    list_put one core (entry label other o) still
+    ∙ ap (λ (l : List LabelledBlock). l ++ entry label other o ∷ []) (list_put none core (entry label frame order) there)
+    ∙ ap (λ (l : List LabelledBlock). (l ++ entry label frame order ∷ []) ++ entry label other o ∷ []) (no_list cores core inside) in
+    let after = taken (refusing alone) key (run.0 + 1) one core label q other o m _ _ run.1
+    (taken (refusing alone) key run.0 none core label p frame order n _ _ run.1 run.2) in
+    let given = last_give (refusing alone) key (run.0 + 1 + 1) two core label k r run.1 _ is after in
+    gives_head label frame order (entry label other o ∷ []) r given.0 given.1
+
+pub each_gives_its_own : EachGivesItsOwn
+each_gives_its_own alone key cores core giver label p frame order n m r inside there differ run =
+    let none = no_lists cores in
+    let one = put_last none core (entry label frame order) in
+    let is : core_list one giver ≡ [] =
+    list_beside none core giver (core_list none core ++ entry label frame order ∷ []) differ ∙ no_list cores giver there in
+    let after = taken (refusing alone) key run.0 none core label p frame order n _ _ run.1 run.2 in
+    let given = last_give (refusing alone) key (run.0 + 1) one giver label m r run.1 _ is after in
+    gives_none label r given.0 given.1
+
+-- what a move of the only block answers, and what its new core has then
+moved_there : (old : List (List LabelledBlock)) (core giver : ℕ) (label : List ℕ) (frame order : ℕ) (r : Reply)
+    (new : List (List LabelledBlock)) → core_list old core ≡ entry label frame order ∷ [] → core_list old giver ≡ []
+    → giver < length old → core ≢ giver → Moves old core label giver r new
+    → (r ≡ reply.Moved frame order) × (core_list new giver ≡ entry label frame order ∷ [])
+unfolding Moves
+moved_there old core giver label frame order (reply.Moved g q) new has none inside differ step =
+    let same : step.entry ≡ entry label frame order =
+    first_is_one (IsUnder label) (entry label frame order ∷ []) step.entry (entry label frame order) step.left []
+    (subst (λ (l : List LabelledBlock). TakesFirst (IsUnder label) l step.entry step.left) has step.leaves)
+    (head_first label frame order []) in (
+      ap (λ (b : FrameBlock). reply.Moved b.frame b.order)
+          (sym step.is_block ∙ ap (λ (e : LabelledBlock). e.block) same),
+      ap (λ (lists : List (List LabelledBlock)). core_list lists giver) step.goes_last
+          ∙ list_put (slice_set old core step.left) giver step.entry (lt-length-set old core step.left inside)
+          ∙ ap (λ (l : List LabelledBlock). l ++ step.entry ∷ []) (list_beside old core giver step.left differ ∙ none)
+          ∙ ap (λ (e : LabelledBlock). e ∷ []) same,
+    )
+moved_there old core giver label frame order (reply.Refused f) new has none inside differ step =
+    absurd (not_none (IsUnder label) (entry label frame order ∷ []) (entry label frame order) []
+    (head_first label frame order [])
+    (subst (λ (l : List LabelledBlock). HasNone (IsUnder label) l) has
+    (move_refused old core label giver f new step).1))
+moved_there old core giver label frame order _ new has none inside differ step = absurd step
+
+-- the lists behind a move
+behind_move : (refuses : Key → List FrameBlock → ℕ → Fault → Type 0) (key : Key) (number : ℕ) (old : List (List LabelledBlock))
+    (core giver : ℕ) (label : List ℕ) (m : ℕ) (r : Reply) (lines : List Line) (answers : List Answer)
+    (new : List (List LabelledBlock))
+    → Runs refuses key number old (line.Move core label giver ∷ lines)
+    (record { line = m; core = core; reply = r } ∷ answers) new
+    → (lists : List (List LabelledBlock)) × Moves old core label giver r lists
+    × Runs refuses key (number + 1) lists lines answers new
+unfolding Runs
+behind_move refuses key number old core giver label m r lines answers new run = (run.2, run.3, run.6)
+
+pub what_moved : WhatMovedIsGiven
+what_moved alone key cores core giver label p frame order n m k r s inside there differ run =
+    let none = no_lists cores in
+    let one = put_last none core (entry label frame order) in
+    let has : core_list one core ≡ entry label frame order ∷ [] =
+    list_put none core (entry label frame order) (has_list cores core inside)
+    ∙ ap (λ (l : List LabelledBlock). l ++ entry label frame order ∷ []) (no_list cores core inside) in
+    let beside : core_list one giver ≡ [] =
+    list_beside none core giver (core_list none core ++ entry label frame order ∷ []) differ ∙ no_list cores giver there in
+    let room : giver < length one =
+    lt-length-set none core (core_list none core ++ entry label frame order ∷ []) (has_list cores giver there) in
+    let behind = behind_move (refusing alone) key (run.0 + 1) one core giver label m r _ _ run.1
+    (taken (refusing alone) key run.0 none core label p frame order n _ _ run.1 run.2) in
+    let moved = moved_there one core giver label frame order r behind.0 has beside room differ behind.1 in
+    let given = last_give (refusing alone) key (run.0 + 1 + 1) behind.0 giver label k s run.1 _ moved.1 behind.2 in
+    (moved.0, gives_head label frame order [] s given.0 given.1)

@@ -1,5 +1,5 @@
 -- Runs and outcomes that would be wrong.
-use Rattle.std.specs.Prelude.{ℕ, ◌+◌, ◌≡◌, ◌≢◌, ◌<◌, ◌≤◌, ◌⊎◌, Bool, true, false, List, [], ◌∷◌, ◌++◌, map}
+use Rattle.std.specs.Prelude.{ℕ, ◌+◌, ◌≡◌, ◌≢◌, ◌<◌, ◌≤◌, ◌⊎◌, Bool, true, false, List, [], ◌∷◌, ◌++◌, map, replicate}
 use Rattle.std.specs.List.{sum_by}
 use Rattle.frame_model.specs.Block.{IsBlock, block, covers}
 use Rattle.frame_model.specs.Holding.{IsFreeBlock, holders}
@@ -127,6 +127,41 @@ ListOverlaps = (alone : Bool) (key : Key) (old : List (List LabelledBlock)) (cor
     × ((label : List ℕ) (other : ℕ) (f : Fault)
     → IsNeverAnswered alone key old (line.Move core label other) (reply.Refused f)
     × IsNeverAnswered alone key old (line.Move other label core) (reply.Refused f))
+
+-- Worked runs.
+
+-- the run of these records from empty lists is answered so, with any numbers
+abbrev pub IsRun : Bool → Key → ℕ → List Line → List Answer → Type 0
+IsRun alone key cores lines answers =
+    (number : ℕ) × (new : List (List LabelledBlock)) × Runs (refusing alone) key number (replicate cores []) lines answers new
+
+-- of two blocks that a core takes under one label, a give under it is answered the one that was taken first
+abbrev pub FirstTakenIsGivenFirst : Type 0
+FirstTakenIsGivenFirst = (alone : Bool) (key : Key) (cores core : ℕ) (label : List ℕ) (p q : ℕ)
+    (frame order other o n m k : ℕ) (r : Reply) → core < cores
+    → IsRun alone key cores
+    (line.Ask core (request.Take label p) ∷ line.Ask core (request.Take label q) ∷ line.Ask core (request.Give label) ∷ [])
+    (record { line = n; core = core; reply = reply.Taken frame order }
+    ∷ record { line = m; core = core; reply = reply.Taken other o } ∷ record { line = k; core = core; reply = r } ∷ [])
+    → r ≡ reply.Given frame order
+
+-- a core gives back nothing that another took under the label
+abbrev pub EachGivesItsOwn : Type 0
+EachGivesItsOwn = (alone : Bool) (key : Key) (cores core giver : ℕ) (label : List ℕ) (p frame order n m : ℕ) (r : Reply)
+    → core < cores → giver < cores → core ≢ giver
+    → IsRun alone key cores (line.Ask core (request.Take label p) ∷ line.Ask giver (request.Give label) ∷ [])
+    (record { line = n; core = core; reply = reply.Taken frame order } ∷ record { line = m; core = giver; reply = r } ∷ [])
+    → r ≡ reply.Refused fault.NotHeld
+
+-- but what has moved to its list, it gives
+abbrev pub WhatMovedIsGiven : Type 0
+WhatMovedIsGiven = (alone : Bool) (key : Key) (cores core giver : ℕ) (label : List ℕ) (p frame order n m k : ℕ) (r s : Reply)
+    → core < cores → giver < cores → core ≢ giver
+    → IsRun alone key cores
+    (line.Ask core (request.Take label p) ∷ line.Move core label giver ∷ line.Ask giver (request.Give label) ∷ [])
+    (record { line = n; core = core; reply = reply.Taken frame order }
+    ∷ record { line = m; core = core; reply = r } ∷ record { line = k; core = giver; reply = s } ∷ [])
+    → (r ≡ reply.Moved frame order) × (s ≡ reply.Given frame order)
 
 -- Outcomes.
 

@@ -1,8 +1,8 @@
 //! What would be wrong, and is told: laws, proved as contracts of functions that do nothing.
 
-ghost use Rattle.llfree_trace.specs.WrongRuns.{FrameIsShared, GiveIsRefused, ListOverlaps};
+ghost use Rattle.llfree_trace.specs.WrongRuns.{EachGivesItsOwn, FirstTakenIsGivenFirst, FrameIsShared, GiveIsRefused, ListOverlaps};
 ghost use Rattle.llfree_trace.specs.WrongRuns.{OtherBlockIsGiven, OtherFramesAreHeld, OtherIsAnswered};
-ghost use Rattle.llfree_trace.specs.WrongRuns.{OtherKind, TakeIsRefused, WrongBlockIsTaken};
+ghost use Rattle.llfree_trace.specs.WrongRuns.{OtherKind, TakeIsRefused, WhatMovedIsGiven, WrongBlockIsTaken};
 ghost use Rattle.llfree_trace.specs.WrongTexts.{NoCommandIsDone, NoTraceIsShown, OtherImageIsShown};
 ghost use Rattle.llfree_trace.specs.WrongTexts.{OtherIsDone, OtherIsMade, OtherIsShown};
 ghost use Rattle.llfree_trace.specs.WrongTexts.{OtherPartIsRefused, OtherRecordIsRefused};
@@ -19,6 +19,14 @@ pub fn wrong_replies_are_not_told()
     ensures given { OtherBlockIsGiven }
     ensures give_refused { GiveIsRefused }
     ensures overlap { ListOverlaps }
+{}
+
+/// Of two blocks under one label the first taken is given first; no core gives what another took, unless it
+/// was moved to it.
+pub fn labels_are_given_in_order()
+    ensures first { FirstTakenIsGivenFirst }
+    ensures own { EachGivesItsOwn }
+    ensures moved { WhatMovedIsGiven }
 {}
 
 /// No outcome of a trace has an answer too many or too few, or leaves a frame in two blocks; and no image

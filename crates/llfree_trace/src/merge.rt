@@ -3,6 +3,7 @@
 ghost use Rattle.std.specs.Prelude.{◌≡◌, ◌+◌, ◌≤◌, ◌<◌, ◌∷◌, [], length, map, vec_len, IfOk, IfErr};
 ghost use Rattle.std.specs.Prelude.{slice_index, slice_index_or, slice_set};
 ghost use Rattle.std.specs.List.{All};
+ghost use Rattle.frame_words.specs.Geometry.{most_cores};
 ghost use Rattle.llfree_trace.specs.Rounds.{IsAsk, MayRunAll, answers_to, ask_core, asks_in};
 ghost use Rattle.llfree_trace.specs.Rounds.{Fitting, Merged, RoundRan, told_by};
 ghost use Rattle.trace_text.specs.Trace.{cores_in};
@@ -94,7 +95,7 @@ pub(crate) fn answer_round<G: Gate, R: Threads + Wait>(
     desks: Vec<Desk>,
     stretch: Stretch,
 ) -> Result<(Vec<Desk>, Vec<Answer>), Fault>
-    requires few { vec_len desks ≤ 64 }
+    requires few { vec_len desks ≤ most_cores }
     requires all { MayRunAll allocator.now desks.items (stretch ∷ []) }
     requires inside { All (λ l. cores_in l ≤ vec_len desks) stretch.1.now }
     ensures round { IfOk result (λ r. RoundRan allocator.now desks.items

@@ -6,6 +6,7 @@ ghost use Rattle.std.specs.Prelude.{slice_index_or};
 ghost use Rattle.std.specs.List.{All};
 ghost use Rattle.core_frames.specs.Cores.{memory_of};
 ghost use Rattle.core_frames.specs.Desks.{IsDeskOf};
+ghost use Rattle.frame_words.specs.Geometry.{most_cores};
 ghost use Rattle.llfree_trace.specs.Rounds.{IsAsk, IsNoAsk, GoesOn, GoesOnBy, MayRunAll};
 ghost use Rattle.trace_text.specs.Trace.{cores_in, most_records};
 ghost use Rattle.trace_text.specs.declared.line.Line.{Line as OneLine};
@@ -38,7 +39,7 @@ pub(crate) fn run_all<G: Gate, R: Threads + Wait>(
     start: Progress,
     trace: &Trace,
 ) -> Result<Progress, Fault>
-    requires few { vec_len start.desks ≤ 64 }
+    requires few { vec_len start.desks ≤ most_cores }
     requires desks { All (IsDeskOf allocator.now) start.desks.items }
     requires sealed { (memory_of allocator.now).sealed ≡ true }
     requires inside { All (λ l. cores_in l ≤ vec_len start.desks) trace.now }
@@ -61,7 +62,7 @@ fn run_rounds<G: Gate, R: Threads + Wait>(
     start: Progress,
     lines: &[Line],
 ) -> Result<Progress, Fault>
-    requires few { vec_len start.desks ≤ 64 }
+    requires few { vec_len start.desks ≤ most_cores }
     requires desks { All (IsDeskOf allocator.now) start.desks.items }
     requires sealed { (memory_of allocator.now).sealed ≡ true }
     requires inside { All (λ l. cores_in l ≤ vec_len start.desks) lines.now }
@@ -91,7 +92,7 @@ fn run_part<G: Gate, R: Threads + Wait>(
     number: u32,
     lines: &[Line],
 ) -> Result<(Progress, usize), Fault>
-    requires few { vec_len progress.desks ≤ 64 }
+    requires few { vec_len progress.desks ≤ most_cores }
     requires desks { All (IsDeskOf allocator.now) progress.desks.items }
     requires sealed { (memory_of allocator.now).sealed ≡ true }
     requires inside { All (λ l. cores_in l ≤ vec_len progress.desks) lines.now }
@@ -136,7 +137,7 @@ fn run_asks<G: Gate, R: Threads + Wait>(
     progress: Progress,
     stretch: Stretch,
 ) -> Result<Progress, Fault>
-    requires few { vec_len progress.desks ≤ 64 }
+    requires few { vec_len progress.desks ≤ most_cores }
     requires all { MayRunAll allocator.now progress.desks.items (stretch ∷ []) }
     requires inside { All (λ l. cores_in l ≤ vec_len progress.desks) stretch.1.now }
     ensures goes { IfOk result (λ p.

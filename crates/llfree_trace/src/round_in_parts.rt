@@ -2,6 +2,7 @@
 
 ghost use Rattle.std.specs.Prelude.{◌≡◌, ◌≤◌, ◌<◌, length, vec_len, IfErr, IfOk};
 ghost use Rattle.std.specs.List.{All, flat_map};
+ghost use Rattle.frame_words.specs.Geometry.{most_cores};
 ghost use Rattle.llfree_trace.specs.Rounds.{Fitting, HasLists, MayRunAll, MaySpell};
 ghost use Rattle.llfree_trace.specs.Rounds.{all_answers, asks_of};
 ghost use Rattle.llfree_trace.specs.RunText.{IsShownRound, ShowsAnswers, ShowsRunOf, last_of};
@@ -68,7 +69,7 @@ fn run_shown<G: Gate, R: Threads + Wait>(
     show: Show,
 ) -> Result<(Vec<Desk>, Vec<Vec<u8>>), Fault>
     requires some { 0 < vec_len desks }
-    requires few { vec_len desks ≤ 64 }
+    requires few { vec_len desks ≤ most_cores }
     requires all { MayRunAll allocator.now desks.items stretches.now }
     requires inside { All (λ k. k.core < length desks.items) (asks_of stretches.now) }
     ensures shown { IfOk result (λ r. IsShownRound allocator.now desks.items show stretches.now

@@ -1,6 +1,7 @@
 //! A round: the requests of each core on a thread of their own.
 
 ghost use Rattle.std.specs.Prelude.{◌≡◌, ◌≤◌, [], vec_len, IfOk, IfErr};
+ghost use Rattle.frame_words.specs.Geometry.{most_cores};
 ghost use Rattle.llfree_trace.specs.Rounds.{Follows, IsPromiseOf, MayRun, MayRunAll, Ran, RanAll};
 
 use crate::gate::Gate;
@@ -77,7 +78,7 @@ fn run_cores<'s, E, G: Gate, R: Threads>(
     mut desks: Vec<Desk>,
     stretches: &'s [Stretch<'s>],
 ) -> Result<Vec<Done>, Fault>
-    requires few { vec_len desks ≤ 64 }
+    requires few { vec_len desks ≤ most_cores }
     requires all { MayRunAll allocator.now desks.items stretches.now }
     ensures ran { IfOk result (λ all.
         RanAll allocator.now 0 desks.items stretches.now all.items) }
@@ -128,7 +129,7 @@ pub(crate) fn run_round<G: Gate, R: Threads + Wait>(
     desks: Vec<Desk>,
     stretches: &[Stretch],
 ) -> Result<Vec<Done>, Fault>
-    requires few { vec_len desks ≤ 64 }
+    requires few { vec_len desks ≤ most_cores }
     requires all { MayRunAll allocator.now desks.items stretches.now }
     ensures ran { IfOk result (λ all.
         RanAll allocator.now 0 desks.items stretches.now all.items) }
@@ -138,7 +139,7 @@ pub(crate) fn run_round<G: Gate, R: Threads + Wait>(
         thread::scope_env(),
         rt,
         |scope| -> Result<Vec<Done>, Fault>
-            requires few { vec_len desks ≤ 64 }
+            requires few { vec_len desks ≤ most_cores }
             requires all { MayRunAll allocator.now desks.items stretches.now }
             ensures ran { IfOk result (λ all. RanAll allocator.entry.now 0 desks.items
                 stretches.entry.now all.items) }

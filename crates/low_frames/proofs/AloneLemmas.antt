@@ -89,7 +89,7 @@ huge_seen : (ws : List ℕ) (child seen entry : ℕ) → slice_index ws (entry_p
 unfolding huge_of
 huge_seen ws child seen entry e lane = ap flag_in (entry_seen ws child seen entry e lane)
 
-free_seen : (ws : List ℕ) (child seen entry : ℕ) → slice_index ws (entry_place child) ≡ seen → entry ≡ lane_in seen child
+pub free_seen : (ws : List ℕ) (child seen entry : ℕ) → slice_index ws (entry_place child) ≡ seen → entry ≡ lane_in seen child
     → free_in entry ≡ free_of ws child
 unfolding free_of
 free_seen ws child seen entry e lane = ap free_in (entry_seen ws child seen entry e lane)
@@ -164,6 +164,18 @@ no_run_seen key was word seen order old now k none load =
       h.1,
       subst (λ w. HasNoClearRun w order)
           (sym (bit_word_is was ws word ∙ ap (λ (k : Key). slice_index ws (bits_place k word)) (sym k) ∙ h.0)) none,
+    ))
+
+-- the same where it was looked for
+pub no_run_where : (key was : Key) (word seen order : ℕ) (P : Type 0) (old now : Option (List ℕ)) → key ≡ was
+    → (P → HasNoClearRun seen order) → IsSeen (bits_place key word) seen old now → FindsOf (λ ws. P → HasNoRun was word order ws) old now
+no_run_where key was word seen order P old now k none load =
+    if_known old (λ ws. (slice_index ws (bits_place key word) ≡ seen) × (now ≡ Some ws))
+    (λ ws. (now ≡ Some ws) × (P → HasNoRun was word order ws)) load
+    (λ ws e h. (
+      h.1,
+      λ p. subst (λ w. HasNoClearRun w order)
+          (sym (bit_word_is was ws word ∙ ap (λ (k : Key). slice_index ws (bits_place k word)) (sym k) ∙ h.0)) (none p),
     ))
 
 -- taking a child whole at the first try

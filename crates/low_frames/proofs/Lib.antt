@@ -13,4 +13,5 @@ pub mod HeldLemmas
 pub mod FlightLemmas
 pub mod GiveAlone
 pub mod WideAlone
+pub mod SinglesAlone
 pub mod SinglesLemmas

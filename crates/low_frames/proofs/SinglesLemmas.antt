@@ -1,12 +1,12 @@
 -- Single frames that go out of runs, one after the other.
 use Rattle.std.proofs.Common.{◌≡◌, ⊎_elim, ℕ, ◌+◌, ◌-◌, ◌/◌, ◌%◌, ◌^◌, ◌<◌, ◌≤◌, List, [], ◌∷◌, ◌++◌, Option, None, Some, refl, ap, sym, subst, ◌∙◌, arith}
 use Rattle.std.proofs.lemmas.Int.{ints}
-use Rattle.std.specs.Prelude.{ℤ, pos, ◌+ℤ◌}
+use Rattle.std.specs.Prelude.{ℤ, pos, ◌+ℤ◌, map}
 use Rattle.std.specs.List.{All, sum_by}
 use Rattle.std.proofs.lemmas.Bool.{cases_lt}
 use Rattle.std.proofs.lemmas.Bool.Decides.{nat_tests}
 use Rattle.std.proofs.lemmas.Nat.{pow_pos}
-use Rattle.std.proofs.lemmas.List.{append-nil, append_assoc, length-append}
+use Rattle.std.proofs.lemmas.List.{append-nil, append_assoc, length-append, map-append}
 use Rattle.std.proofs.lemmas.List.Elements.{All-cons, All-nil, All-append, All-weaker}
 use Rattle.std.proofs.lemmas.List.Sums.{sum_by-cons}
 use Rattle.frame_model.specs.declared.block.FrameBlock.{FrameBlock}
@@ -28,6 +28,8 @@ use Rattle.frame_core.specs.Mover.{Mover, Keeps, LiesInside, Ticks}
 use Rattle.low_frames.specs.Outcomes.{HasNoBootFrame}
 use Rattle.low_frames.specs.Takes.{Counts, IsAsBefore, IsBlockOfTree, HasCharged, HasClaimed}
 use Rattle.low_frames.specs.Singles.{MayTakeSomeOf, MayTakeSome, MayTakeRuns, MayHandOutEach, lowered, HasTakenSome, HasLentSome, HasHandedOutAll, IsSingleOut, TakesSingles}
+use Rattle.low_frames.specs.Alone.{Turns}
+use Rattle.low_frames.proofs.SinglesAlone.{turns_here, turns_both, turns_into}
 use Rattle.low_frames.proofs.TakeLemmas.{keeps_none, keeps_both}
 use Rattle.low_frames.proofs.Counts.{at_most, both_counts, none_made}
 use Rattle.low_frames.proofs.ViewLemmas.{charged_of, covered_from, is_covered, flight_apart, flight_not_boot, flight_inside}
@@ -262,9 +264,9 @@ module _ {T H : Type 0} {block_of : H → FrameBlock} {tree : ℕ} where
       All-weaker (IsSingleOut block_of tree kept a) (IsSingleOut block_of tree kept b) (stays_out keeps) hs all
 
   module _ {exact : ℕ → Type 0} {t : ℕ → ℕ} (ticks : Ticks t exact) where
-    pub none_singles : {V : View → View → Type 0} (a : Mover T H) (items : List H) → V a.view a.view
-        → TakesSingles block_of exact tree 0 V 0 items items a a
-    none_singles {V} a items same = record {
+    pub none_singles : {V : View → View → Type 0} {F : List FrameBlock → List ℕ → List ℕ → Type 0} (a : Mover T H) (items : List H)
+        → V a.view a.view → ((ws : List ℕ) → F [] ws ws) → TakesSingles block_of exact tree 0 V F 0 items items a a
+    none_singles {V} {F} a items same here = record {
       keeps = keeps_none a;
       counts = none_made ticks a;
       view = same;
@@ -272,13 +274,16 @@ module _ {T H : Type 0} {block_of : H → FrameBlock} {tree : ℕ} where
       items = sym (append-nil items);
       count = refl;
       each = All-nil (IsSingleOut block_of tree a.view.kept a);
+      alone = λ alone. turns_here (F []) a.words here;
     }
 
-    pub both_singles : {U V W : View → View → Type 0} {a b c : Mover T H} {m n most j k : ℕ} {xs ys zs : List H}
-        → TakesSingles block_of exact tree m V j xs ys a b → TakesSingles block_of exact tree n W k ys zs b c
+    pub both_singles : {U V W : View → View → Type 0} {F G J : List FrameBlock → List ℕ → List ℕ → Type 0} {a b c : Mover T H}
+        {m n most j k : ℕ} {xs ys zs : List H}
+        → TakesSingles block_of exact tree m V F j xs ys a b → TakesSingles block_of exact tree n W G k ys zs b c
         → b.view.kept ≡ a.view.kept → U a.view c.view → m + n ≤ most
-        → TakesSingles block_of exact tree most U (j + k) xs zs a c
-    both_singles {a = a} {c = c} {xs = xs} f g kept view few = record {
+        → (a.is_alone → (es bs : List FrameBlock) (ws us vs : List ℕ) → b.words ≡ Some us → F es ws us → G bs us vs → J (es ++ bs) ws vs)
+        → TakesSingles block_of exact tree most U J (j + k) xs zs a c
+    both_singles {J = J} {a = a} {b = b} {c = c} {xs = xs} f g kept view few then = record {
       keeps = keeps_both f.keeps g.keeps;
       counts = at_most ticks (both_counts ticks f.counts g.counts) few;
       view = view;
@@ -287,12 +292,17 @@ module _ {T H : Type 0} {block_of : H → FrameBlock} {tree : ℕ} where
       count = omega (arith, length-append f.got g.got, f.count, g.count);
       each = All-append (IsSingleOut block_of tree a.view.kept c) f.got g.got (stay_out g.keeps f.got f.each)
           (subst (λ l. All (IsSingleOut block_of tree l c) g.got) kept g.each);
+      alone = λ alone.
+          turns_both a.words b.words c.words (f.alone alone) (g.alone (f.keeps.stays_alone alone))
+          (λ ws us vs d e h p q. subst (λ l. J l ws vs) (sym (map-append block_of f.got g.got))
+          (then alone (map block_of f.got) (map block_of g.got) ws us vs e p q));
     }
 
-    -- in at most so many moves
-    pub at_most_so_many : {V : View → View → Type 0} {a b : Mover T H} {n most k : ℕ} {xs ys : List H}
-        → TakesSingles block_of exact tree n V k xs ys a b → n ≤ most → TakesSingles block_of exact tree most V k xs ys a b
-    at_most_so_many f few = record {
+    -- in at most so many moves, and what follows of the words
+    pub at_most_so_many : {V : View → View → Type 0} {F G : List FrameBlock → List ℕ → List ℕ → Type 0} {a b : Mover T H}
+        {n most k : ℕ} {xs ys : List H} → TakesSingles block_of exact tree n V F k xs ys a b → n ≤ most
+        → ((bs : List FrameBlock) (ws us : List ℕ) → F bs ws us → G bs ws us) → TakesSingles block_of exact tree most V G k xs ys a b
+    at_most_so_many {a = a} {b = b} f few then = record {
       keeps = f.keeps;
       counts = at_most ticks f.counts few;
       view = f.view;
@@ -300,13 +310,18 @@ module _ {T H : Type 0} {block_of : H → FrameBlock} {tree : ℕ} where
       items = f.items;
       count = f.count;
       each = f.each;
+      alone = λ alone. turns_into a.words b.words (f.alone alone) (λ ws us d e p. then (map block_of f.got) ws us p);
     }
 
     -- and nothing more was taken
-    pub then_nothing : {U V : View → View → Type 0} {a b c : Mover T H} {m n most k : ℕ} {xs ys : List H}
-        → TakesSingles block_of exact tree m V k xs ys a b → Keeps b c → Counts exact n b c → U a.view c.view → m + n ≤ most
-        → TakesSingles block_of exact tree most U k xs ys a c
-    then_nothing f keeps counts view few = record {
+    pub then_nothing : {U V : View → View → Type 0} {F J : List FrameBlock → List ℕ → List ℕ → Type 0} {R : List ℕ → List ℕ → Type 0}
+        {a b c : Mover T H} {m n most k : ℕ} {xs ys : List H}
+        → TakesSingles block_of exact tree m V F k xs ys a b → Keeps b c → Counts exact n b c → U a.view c.view → m + n ≤ most
+        → (b.is_alone → Turns R b.words c.words)
+        → (b.is_alone → (bs : List FrameBlock) (ws us vs : List ℕ) → a.words ≡ Some ws → b.words ≡ Some us → F bs ws us → R us vs
+        → J bs ws vs)
+        → TakesSingles block_of exact tree most U J k xs ys a c
+    then_nothing {a = a} {b = b} {c = c} f keeps counts view few turns then = record {
       keeps = keeps_both f.keeps keeps;
       counts = at_most ticks (both_counts ticks f.counts counts) few;
       view = view;
@@ -314,13 +329,21 @@ module _ {T H : Type 0} {block_of : H → FrameBlock} {tree : ℕ} where
       items = f.items;
       count = f.count;
       each = stay_out keeps f.got f.each;
+      alone = λ alone.
+          let still = f.keeps.stays_alone alone in
+          turns_both a.words b.words c.words (f.alone alone) (turns still)
+          (λ ws us vs d e h p q. then still (map block_of f.got) ws us vs d e p q);
     }
 
     -- nothing was taken before
-    pub nothing_then : {U V : View → View → Type 0} {a b c : Mover T H} {m n most k : ℕ} {xs ys : List H}
-        → Keeps a b → Counts exact m a b → TakesSingles block_of exact tree n V k xs ys b c → b.view.kept ≡ a.view.kept
-        → U a.view c.view → m + n ≤ most → TakesSingles block_of exact tree most U k xs ys a c
-    nothing_then {c = c} keeps counts g kept view few = record {
+    pub nothing_then : {U V : View → View → Type 0} {F J : List FrameBlock → List ℕ → List ℕ → Type 0} {R : List ℕ → List ℕ → Type 0}
+        {a b c : Mover T H} {m n most k : ℕ} {xs ys : List H}
+        → Keeps a b → Counts exact m a b → TakesSingles block_of exact tree n V F k xs ys b c → b.view.kept ≡ a.view.kept
+        → U a.view c.view → m + n ≤ most → (a.is_alone → Turns R a.words b.words)
+        → (a.is_alone → (bs : List FrameBlock) (ws us vs : List ℕ) → a.words ≡ Some ws → c.words ≡ Some vs → R ws us → F bs us vs
+        → J bs ws vs)
+        → TakesSingles block_of exact tree most U J k xs ys a c
+    nothing_then {a = a} {b = b} {c = c} keeps counts g kept view few turns then = record {
       keeps = keeps_both keeps g.keeps;
       counts = at_most ticks (both_counts ticks counts g.counts) few;
       view = view;
@@ -328,6 +351,9 @@ module _ {T H : Type 0} {block_of : H → FrameBlock} {tree : ℕ} where
       items = g.items;
       count = g.count;
       each = subst (λ l. All (IsSingleOut block_of tree l c) g.got) kept g.each;
+      alone = λ alone.
+          turns_both a.words b.words c.words (turns alone) (g.alone (keeps.stays_alone alone))
+          (λ ws us vs d e h p q. then alone (map block_of g.got) ws us vs d h p q);
     }
 
 -- A single frame of a run in flight, which is handed out.

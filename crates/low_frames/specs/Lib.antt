@@ -6,3 +6,4 @@ pub mod Alone
 pub mod Outcomes
 pub mod Parts
 pub mod Singles
+pub mod SinglesAlone

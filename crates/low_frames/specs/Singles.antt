@@ -1,5 +1,5 @@
 -- Takes of several single frames at a time: what they ask, and what they leave.
-use Rattle.std.specs.Prelude.{◌≡◌, ℕ, pos, ◌^◌, ◌+ℤ◌, ◌<◌, ◌≤◌, ◌/◌, List, [], ◌∷◌, ◌++◌, length, Option, None, IfSome, IfNone, nat_eq, if◌then◌else◌}
+use Rattle.std.specs.Prelude.{◌≡◌, ℕ, pos, ◌^◌, ◌+ℤ◌, ◌<◌, ◌≤◌, ◌/◌, List, [], ◌∷◌, ◌++◌, length, map, Option, None, IfSome, IfNone, nat_eq, if◌then◌else◌}
 use Rattle.std.specs.List.{All}
 use Rattle.frame_model.specs.declared.block.FrameBlock.{FrameBlock}
 use Rattle.frame_model.specs.declared.view.Amount.{Amount}
@@ -15,6 +15,8 @@ use Rattle.frame_words.specs.Runs.{IsClearRun}
 use Rattle.low_frames.specs.Bounds.{attempt}
 use Rattle.low_frames.specs.Outcomes.{HasNoBootFrame}
 use Rattle.low_frames.specs.Takes.{Counts, IsAsBefore, HasClaimed, IsBlockOfTree}
+use Rattle.low_frames.specs.Alone.{Turns, FindsOf, IsClaimed, HasNoRun}
+use Rattle.low_frames.specs.SinglesAlone.{HandsOutOf}
 
 -- What they ask.
 
@@ -100,9 +102,10 @@ pub record IsSingleOut {T H : Type 0} (block_of : H → FrameBlock) (tree : ℕ)
   pub inside : LiesInside m.key (block_of held)
 
 -- k single frames of the tree are out, behind the others, after at most so many moves, which turned
--- the view so
+-- the view so, and where nobody else steps the words
 pub record TakesSingles {T H : Type 0} (block_of : H → FrameBlock) (exact : ℕ → Type 0) (tree most : ℕ)
-    (V : View → View → Type 0) (k : ℕ) (olds news : List H) (old new : Mover T H) : Type 0 where
+    (V : View → View → Type 0) (W : List FrameBlock → List ℕ → List ℕ → Type 0) (k : ℕ)
+    (olds news : List H) (old new : Mover T H) : Type 0 where
   pub keeps : Keeps old new
   pub counts : Counts exact most old new
   pub view : V old.view new.view
@@ -110,12 +113,14 @@ pub record TakesSingles {T H : Type 0} (block_of : H → FrameBlock) (exact : �
   pub items : news ≡ olds ++ got
   pub count : length got ≡ k
   pub each : All (IsSingleOut block_of tree old.view.kept new) got
+  pub alone : old.is_alone → Turns (W (map block_of got)) old.words new.words
 
 -- each frame of a run that was in flight is out, behind the others
 abbrev pub HandsOutEach : {T H : Type 0} → (H → FrameBlock) → (ℕ → Type 0) → ℕ → ℕ → List H → List H
     → Mover T H → Mover T H → Type 0
 HandsOutEach block_of exact frame order olds news old new =
-    TakesSingles block_of exact (frame / 4096) (2 ^ order) (HasHandedOutAll (2 ^ order)) (2 ^ order) olds news old new
+    TakesSingles block_of exact (frame / 4096) (2 ^ order) (HasHandedOutAll (2 ^ order))
+    (HandsOutOf frame order) (2 ^ order) olds news old new
 
 -- a run of at most n bits of the bit word is in flight
 pub record HasClaimedMost (key : Key) (word n bit order : ℕ) (v w : View) : Type 0 where
@@ -124,10 +129,15 @@ pub record HasClaimedMost (key : Key) (word n bit order : ℕ) (v w : View) : Ty
   pub view : HasClaimed word bit order v w
   pub apart : IsApart key w
 
--- a run of at most n bits of the bit word was claimed, or the view is as before
+-- a run of at most n bits of the bit word was claimed, or the view is as before; where nobody else
+-- steps, one is claimed where a bit is clear
 pub record ClaimsMost {T H : Type 0} (exact : ℕ → Type 0) (word n : ℕ) (answer : Option (ℕ × ℕ))
     (old new : Mover T H) : Type 0 where
   pub keeps : Keeps old new
   pub counts : Counts exact attempt old new
   pub some : IfSome answer (λ r. HasClaimedMost old.key word n r.0 r.1 old.view new.view)
   pub none : IfNone answer (IsAsBefore old.view new.view)
+  pub alone_some : old.is_alone
+      → IfSome answer (λ r. Turns (IsClaimed old.key word r.0 r.1) old.words new.words)
+  pub alone_none : old.is_alone → IfNone answer (FindsOf (λ ws. 0 < n → HasNoRun old.key word 0 ws)
+      old.words new.words)

@@ -1,6 +1,6 @@
 //! Takes of several single frames at a time: one charge for each child, one exchange for each run.
 
-ghost use Rattle.std.specs.Prelude.{◌≡◌, ◌+◌, ◌/◌, ◌^◌, ◌≤◌, IfSome, vec_len, vec_capacity};
+ghost use Rattle.std.specs.Prelude.{◌≡◌, ◌+◌, ◌/◌, ◌^◌, ◌<◌, ◌≤◌, IfSome, IfNone, vec_len, vec_capacity};
 ghost use Rattle.low_frames.specs.Bounds.{
   most_in_word_singles,
   most_in_words_singles,
@@ -19,6 +19,8 @@ ghost use Rattle.low_frames.specs.Singles.{
   HasTakenSome,
   HasLentSome,
 };
+ghost use Rattle.low_frames.specs.SinglesAlone.{ClaimsOfWord, ClaimsOfChild, TakesOfChild, TakesOfTree};
+ghost use Rattle.frame_words.specs.Runs.{HasNoClearRun};
 
 use super::attempts::{TRIES, try_charge};
 use frame_core::{Moves, Place};
@@ -33,7 +35,8 @@ pub fn take_some<M: Moves>(m: &mut M, tree: u32, n: u32, out: &mut Vec<M::Held>)
     requires may { MayTakeSomeOf tree n (M.at m.old) }
     requires room { vec_len out.old + n ≤ vec_capacity out.old }
     ensures takes { TakesSingles M.Held.block_of M.is_exact tree (most_in_tree_singles result)
-        (HasLentSome tree result) result out.old.items out.new.items (M.at m.old) (M.at m.new) }
+        (HasLentSome tree result) (TakesOfTree (M.at m.old).key tree result n) result
+        out.old.items out.new.items (M.at m.old) (M.at m.new) }
     ensures few { result ≤ n }
     ensures room { vec_capacity out.new ≡ vec_capacity out.old }
     ensures len { vec_len out.new ≡ vec_len out.old + result }
@@ -58,7 +61,8 @@ fn take_some_in<M: Moves>(m: &mut M, child: u32, n: u32, out: &mut Vec<M::Held>)
     requires may { MayTakeSome child n (M.at m.old) }
     requires room { vec_len out.old + n ≤ vec_capacity out.old }
     ensures takes { TakesSingles M.Held.block_of M.is_exact (child / 8) (most_in_child_singles result)
-        (HasLentSome (child / 8) result) result out.old.items out.new.items (M.at m.old) (M.at m.new) }
+        (HasLentSome (child / 8) result) (TakesOfChild (M.at m.old).key child result n) result
+        out.old.items out.new.items (M.at m.old) (M.at m.new) }
     ensures few { result ≤ n }
     ensures room { vec_capacity out.new ≡ vec_capacity out.old }
     ensures len { vec_len out.new ≡ vec_len out.old + result }
@@ -84,7 +88,8 @@ fn take_charged<M: Moves>(m: &mut M, child: u32, n: u32, out: &mut Vec<M::Held>)
     requires may { MayTakeRuns child n (M.at m.old) }
     requires room { vec_len out.old + n ≤ vec_capacity out.old }
     ensures takes { TakesSingles M.Held.block_of M.is_exact (child / 8) (most_in_words_singles result)
-        (HasTakenSome child result) result out.old.items out.new.items (M.at m.old) (M.at m.new) }
+        (HasTakenSome child result) (ClaimsOfChild (M.at m.old).key child result n) result
+        out.old.items out.new.items (M.at m.old) (M.at m.new) }
     ensures few { result ≤ n }
     ensures room { vec_capacity out.new ≡ vec_capacity out.old }
     ensures len { vec_len out.new ≡ vec_len out.old + result }
@@ -105,7 +110,8 @@ fn take_in_word<M: Moves>(m: &mut M, word: u32, n: u32, out: &mut Vec<M::Held>) 
     requires may { MayTakeRuns (word / 8) n (M.at m.old) }
     requires room { vec_len out.old + n ≤ vec_capacity out.old }
     ensures takes { TakesSingles M.Held.block_of M.is_exact (word / 8 / 8) (most_in_word_singles result)
-        (HasTakenSome (word / 8) result) result out.old.items out.new.items (M.at m.old) (M.at m.new) }
+        (HasTakenSome (word / 8) result) (ClaimsOfWord (M.at m.old).key word result n) result
+        out.old.items out.new.items (M.at m.old) (M.at m.new) }
     ensures few { result ≤ n }
     ensures room { vec_capacity out.new ≡ vec_capacity out.old }
     ensures len { vec_len out.new ≡ vec_len out.old + result }
@@ -143,7 +149,8 @@ fn try_claim_most<M: Moves>(m: &mut M, word: u32, n: u32) -> Option<(u32, u8)>
 /// The lowest of the largest runs of up to `n` clear bits: its first bit and its order.
 #[inline(always)]
 fn find_most(word: u64, n: u32) -> Option<(u32, u8)>
-    ensures { IfSome result (λ r. IsRunOfMost word n r.0 r.1) }
+    ensures found { IfSome result (λ r. IsRunOfMost word n r.0 r.1) }
+    ensures none { 0 < n → IfNone result (HasNoClearRun word 0) }
 {
     if word == u64::MAX {
         return None;

@@ -1,6 +1,7 @@
 //! The text of many answers, made in parts, each on a thread of its own.
 
 ghost use Rattle.std.specs.Prelude.{◌≡◌, ◌<◌, ◌≤◌, [], IfErr, IfOk};
+ghost use Rattle.frame_words.specs.Geometry.{most_cores};
 ghost use Rattle.trace_text.specs.AnswerText.{answers_of, answer_rows_text};
 
 use crate::answers::{answers_text, rows_text};
@@ -45,7 +46,7 @@ pub fn answers_apart<R: Threads + Wait>(
     free: u32,
     threads: usize,
 ) -> Result<Vec<u8>, Fault>
-    requires { (0 < threads) × (threads ≤ 64) }
+    requires { (0 < threads) × (threads ≤ most_cores) }
     ensures text { IfOk result (λ text. text.items ≡ answers_of answers.now held free) }
     ensures fault { IfErr result (λ e. e ≡ Fault.NoMemory) }
 {
@@ -66,7 +67,7 @@ fn rows_apart<R: Threads + Wait>(
     answers: &[Answer],
     threads: usize,
 ) -> Result<Vec<u8>, Fault>
-    requires { (0 < threads) × (threads ≤ 64) }
+    requires { (0 < threads) × (threads ≤ most_cores) }
     ensures text { IfOk result (λ text. text.items ≡ answer_rows_text answers.now) }
     ensures fault { IfErr result (λ e. e ≡ Fault.NoMemory) }
 {
@@ -74,7 +75,7 @@ fn rows_apart<R: Threads + Wait>(
         thread::scope_env(),
         rt,
         |scope| -> Result<Vec<u8>, Fault>
-            requires { (0 < threads) × (threads ≤ 64) }
+            requires { (0 < threads) × (threads ≤ most_cores) }
             ensures text { IfOk result (λ text. text.items ≡ answer_rows_text answers.entry.now) }
             ensures fault { IfErr result (λ e. e ≡ Fault.NoMemory) }
         {
@@ -98,7 +99,7 @@ fn write_parts<'s, E, R: Threads>(
     going: &mut Going<Result<Vec<u8>, Fault>, Writing<'s>>,
 ) -> Result<Vec<u8>, Fault>
     requires none { going.old.items ≡ [] }
-    requires some { (0 < threads) × (threads ≤ 64) }
+    requires some { (0 < threads) × (threads ≤ most_cores) }
     ensures text { IfOk result (λ text. text.items ≡ answer_rows_text answers.now) }
     ensures fault { IfErr result (λ e. e ≡ Fault.NoMemory) }
 {

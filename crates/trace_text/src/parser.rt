@@ -4,6 +4,7 @@ ghost use Rattle.std.specs.Prelude.{◌≡◌, ◌<◌, ◌≤◌, ◌^◌, ◌+
 ghost use Rattle.std.specs.Option.{option_copied};
 ghost use Rattle.csv.specs.Records.{fields_of};
 ghost use Rattle.frame_text.specs.Numbers.{number_below as the_number_below};
+ghost use Rattle.frame_words.specs.Geometry.{most_cores};
 ghost use Rattle.trace_text.specs.Trace.{core_count, cores_in, most_records, range_in};
 ghost use Rattle.trace_text.specs.TraceText as Spec;
 ghost use Rattle.trace_text.specs.TraceText.{ExplainsTrace, trace_of};
@@ -70,7 +71,7 @@ fn note_range(ranges: &mut Vec<(u32, u32)>, line: &Line) -> Result<(), AllocErro
 // The record behind those so far, where this row is one.
 #[tactic(auto, unfolding(crate::specs::TraceText::line_after))]
 fn line_after(cores: u32, lines: &[Line], row: &ByteRecord) -> Option<Line>
-    requires { cores ≤ 64 }
+    requires { cores ≤ most_cores }
     ensures value { result ≡ Spec.line_after cores lines.now (fields_of row.now) }
     ensures core { IfSome result (λ line. cores_in line ≤ cores) }
     ensures few { IfSome result (λ _. length lines.now < most_records) }
@@ -88,7 +89,7 @@ fn line_after(cores: u32, lines: &[Line], row: &ByteRecord) -> Option<Line>
 // A record of four fields.
 #[tactic(auto, unfolding(crate::specs::TraceText::line_of))]
 fn line_of(cores: u32, row: &ByteRecord) -> Option<Line>
-    requires { cores ≤ 64 }
+    requires { cores ≤ most_cores }
     ensures value { result ≡ Spec.line_of cores (fields_of row.now) }
     ensures core { IfSome result (λ line. cores_in line ≤ cores) }
 {
@@ -119,7 +120,7 @@ pub(crate) fn may_follow(before: Option<&Line>, line: &Line) -> bool
 // A record, by its four fields.
 #[tactic(auto, unfolding(crate::specs::TraceText::record_of))]
 fn record_of(cores: u32, core: &[u8], word: &[u8], third: &[u8], fourth: &[u8]) -> Option<Line>
-    requires { cores ≤ 64 }
+    requires { cores ≤ most_cores }
     ensures value { result ≡ Spec.record_of cores core.now word.now third.now fourth.now }
     ensures core { IfSome result (λ line. cores_in line ≤ cores) }
 {
@@ -163,7 +164,7 @@ fn reserve_of(core: &[u8], frame: &[u8], count: &[u8]) -> Option<Line>
 // A move of the oldest block under a label from one core to another.
 #[tactic(auto, unfolding(crate::specs::TraceText::move_of))]
 fn move_of(cores: u32, core: &[u8], label: &[u8], to: &[u8]) -> Option<Line>
-    requires { cores ≤ 64 }
+    requires { cores ≤ most_cores }
     ensures value { result ≡ Spec.move_of cores core.now label.now to.now }
     ensures core { IfSome result (λ line. cores_in line ≤ cores) }
 {
@@ -176,7 +177,7 @@ fn move_of(cores: u32, core: &[u8], label: &[u8], to: &[u8]) -> Option<Line>
 // A core and what it asks for.
 #[tactic(auto, unfolding(crate::specs::TraceText::ask_of))]
 fn ask_of(cores: u32, core: &[u8], word: &[u8], third: &[u8], fourth: &[u8]) -> Option<Line>
-    requires { cores ≤ 64 }
+    requires { cores ≤ most_cores }
     ensures value { result ≡ Spec.ask_of cores core.now word.now third.now fourth.now }
     ensures core { IfSome result (λ line. cores_in line ≤ cores) }
 {

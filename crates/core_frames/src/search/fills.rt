@@ -16,7 +16,7 @@ use low_frames::{TRIES, take_some};
 pub(crate) fn take_some_own<M: Moves>(m: &mut M, core: u32, n: u32, out: &mut Vec<M::Held>) -> u32
     requires may { MayBegin core (M.at m.old) }
     requires room { vec_len out.old + n ≤ vec_capacity out.old }
-    ensures takes { TakesMany M.Held.block_of M.is_exact (most_in_fill result) result
+    ensures takes { TakesMany M.Held.block_of M.is_exact core (most_in_fill result) result n
         out.old.items out.new.items (M.at m.old) (M.at m.new) }
     ensures few { result ≤ n }
     ensures room { vec_capacity out.new ≡ vec_capacity out.old }
@@ -37,7 +37,7 @@ pub(crate) fn take_some_own<M: Moves>(m: &mut M, core: u32, n: u32, out: &mut Ve
 #[inline(always)]
 fn pay_some<M: Moves>(m: &mut M, core: u32, n: u32) -> Option<(u32, u32)>
     requires { MayBegin core (M.at m.old) }
-    ensures { PaysSome M.is_exact n result (M.at m.old) (M.at m.new) }
+    ensures { PaysSome M.is_exact core n result (M.at m.old) (M.at m.new) }
 {
     for _i in 0..TRIES {
         let seen = m.load(Place::Local(core));

@@ -17,7 +17,7 @@ impl Allocator {
         requires room { vec_len out.old + n ≤ vec_capacity out.old }
         ensures core { StaysCoreOf self.now core.old core.new }
         ensures habit { KeepsHabit core.old core.new }
-        ensures takes { HasTakenMore self.now result out.old.items out.new.items core.old core.new }
+        ensures takes { HasTakenMore self.now result n out.old.items out.new.items core.old core.new }
         ensures few { result ≤ n }
         ensures room { vec_capacity out.new ≡ vec_capacity out.old }
         ensures len { vec_len out.new ≡ vec_len out.old + result }

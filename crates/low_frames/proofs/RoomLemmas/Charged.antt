@@ -58,6 +58,9 @@ module _ (key : Key) (ws us : List ℕ) (child n : ℕ) (r : AreInRange key ws) 
       bit_word_is key us w ∙ ap (λ (l : List ℕ). get_or l p 0) charged.words ∙ get_or-set_other ws (entry_place child) p
       (lane_put c_seen child c_entry) 0 far ∙ sym (bit_word_is key ws w)
 
+  pub charge_left : free_of us child ≡ free_of ws child - n
+  charge_left = charge_written.free_here ∙ c_free ∙ sym (ap (λ f. f - n) c_was)
+
   -- where no run is clear after a charge none was before
   pub runs_before : (order : ℕ) → HasNoRunIn key child order us → HasNoRunIn key child order ws
   runs_before order no_run w e bit run = no_run w e bit (subst (λ m. IsClearRun m order bit) (sym (charge_bit_words w)) run)

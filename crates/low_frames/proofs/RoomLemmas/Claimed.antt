@@ -9,7 +9,7 @@ use Rattle.frame_model.specs.declared.block.FrameBlock.{FrameBlock}
 use Rattle.frame_model.specs.declared.key.Key.{Key}
 use Rattle.frame_model.specs.Key.{child_of}
 use Rattle.frame_model.specs.Block.{block, IsBlock, covers, small_at}
-use Rattle.frame_model.specs.Words.{run, huge_of, bit_word_of, bit_of, AreInRange}
+use Rattle.frame_model.specs.Words.{run, free_of, huge_of, bit_word_of, bit_of, AreInRange}
 use Rattle.frame_model.specs.Report.{held_at}
 use Rattle.frame_model.proofs.Blocks.{run_here, run_else, not_whole, within_child}
 use Rattle.frame_model.proofs.Words.{BitsWritten, bits_written}
@@ -56,6 +56,9 @@ module _ (key : Key) (ws us : List ℕ) (word bit order : ℕ) (r : AreInRange k
 
   pub claim_flags : (c : ℕ) → c < key.children → huge_of us c ≡ huge_of ws c
   claim_flags c h = claim_written.huge c h
+
+  pub claim_entries : (c : ℕ) → c < key.children → free_of us c ≡ free_of ws c
+  claim_entries c h = claim_written.free c h
 
 -- where bits are the block's or as they were, and flags as they were, the block was free and is held
 module _ (key : Key) (old new : List ℕ) (b : FrameBlock) (is : IsBlock key b) (low : b.order < 9)

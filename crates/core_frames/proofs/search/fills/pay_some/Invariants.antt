@@ -1,6 +1,7 @@
 use Rattle.std.proofs.Common.{◌*◌}
 use Rattle.frame_core.specs.Mover.{Keeps}
 use Rattle.low_frames.specs.Takes.{Counts, IsAsBefore}
+use Rattle.low_frames.proofs.AloneLemmas.{IsFirstTry}
 use Rattle.core_frames.proofs.search.fills.pay_some.Given as goal
 
 abbrev pub invariant-loop-i : goal.invariant-loop-i
@@ -10,4 +11,5 @@ invariant-loop-i g l =
       keeps : Keeps (M.at l.fn.m) (M.at l.m);
       view : IsAsBefore (M.at l.fn.m).view (M.at l.m).view;
       counts : Counts M.is_exact (2 * l._i) (M.at l.fn.m) (M.at l.m);
+      first : (M.at l.fn.m).is_alone → IsFirstTry l._i (M.at l.fn.m).words (M.at l.m).words;
     }
