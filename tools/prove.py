@@ -1,16 +1,15 @@
 #!/usr/bin/env python3
-"""Proves crates for make, each from a copy of its text over the proved crates below it, and holds them to what `rt ci`
-refuses (tools/judge.py). What a crate was made from stands beside it as sums of contents, and is compared before it is
-taken again. Texts and libraries lie below .git, since rt refuses sources that no crate reads.
+"""Proves crates for make, each from a copy of its text over the proved crates below it, by the step of `rt ci` itself
+that proves and judges a crate. What a crate was made from stands beside it as sums of contents, and is compared before
+it is taken again. Texts and libraries lie below .git, since rt refuses sources that no crate reads.
 
-    tools/prove.py look [GOAL..]    before make begins: takes away what was made from something else, writes build/crates.mk
-    tools/prove.py crate NAME       proves and judges a crate
-    tools/prove.py file NAME FILE   compiles a crate that is proved: a program, or an archive
+    tools/prove.py look [GOAL..]    before make begins: looks what has changed, and writes build/crates.mk
+    tools/prove.py crate NAME       proves and judges a crate; of a program, compiles it
+    tools/prove.py place NAME FILE  puts a crate's program in its place, or compiles an archive of it
     tools/prove.py take             counts what `rt ci` has left; the caller knows that it read what stands here
 """
 import contextlib
 import fcntl
-import glob
 import hashlib
 import json
 import os
@@ -20,25 +19,17 @@ import signal
 import subprocess
 import sys
 import time
-
-sys.dont_write_bytecode = True
-
-import judge  # noqa: E402
+import types
 
 TOP = os.path.dirname(os.path.dirname(os.path.realpath(__file__)))
-BUILD = f'{TOP}/build'
 PARTS = ('src', 'specs', 'proofs')
-# seconds of a processor for a line of src/, and how busy a build keeps four of them
-SECONDS, BUSY = 0.095, 0.57
-# how an archive for a kernel is compiled
-KERNEL = '-mgeneral-regs-only -mllvm -force-attribute=noredzone -fno-function-sections -fno-data-sections'
-FLAGS = {'libllfree_kernel.a': KERNEL, 'libllfree_linux.a': f'{KERNEL} -mllvm -force-attribute=fn_ret_thunk_extern'}
 GOALS = {'library': ['llfree_c'], 'kernel': ['llfree_c'], 'examples': ['llfree_c'], 'bench': ['llfree_bench'],
          'install': ['llfree', 'llfree_c'], 'all': ['llfree', 'llfree_c']}
-
-
-class Stop(Exception):
-    """Why nothing is built, in one sentence."""
+# with which flags clang compiles the archives
+KERNEL = '-mgeneral-regs-only -mllvm -force-attribute=noredzone -fno-function-sections -fno-data-sections'
+ARCHIVES = {'libllfree_c.a': '', 'libllfree_kernel.a': KERNEL,
+            'libllfree_linux.a': f'{KERNEL} -mllvm -force-attribute=fn_ret_thunk_extern'}
+HELD = []
 
 
 def text_of(path):
@@ -54,12 +45,6 @@ def write(path, text):
     os.replace(f'{path}.{os.getpid()}', path)
 
 
-def remove(*paths):
-    for it in paths:
-        with contextlib.suppress(FileNotFoundError):
-            os.remove(it)
-
-
 def sum_of(path):
     with open(path, 'rb') as file:
         return hashlib.sha256(file.read()).hexdigest()
@@ -71,282 +56,223 @@ def files_in(*folders):
         yield from (f'{at}/{it}' for it in sorted(names + [it for it in below if os.path.islink(f'{at}/{it}')]))
 
 
-def copy(name, new):
-    shutil.rmtree(new, ignore_errors=True)
-    os.makedirs(f'{new}/rlib')
-    for part in filter(lambda it: os.path.isdir(f'{TOP}/crates/{name}/{it}'), PARTS):
-        shutil.copytree(f'{TOP}/crates/{name}/{part}', f'{new}/{part}', symlinks=True)
+def copy(folder, new, by=shutil.copy2):
+    for it in filter(lambda it: os.path.isdir(f'{folder}/{it}'), PARTS):
+        shutil.copytree(f'{folder}/{it}', f'{new}/{it}', symlinks=True, copy_function=by)
 
 
-def minutes(seconds):
-    return 'a minute' if seconds < 90 else f'{round(seconds / 60)} minutes'
+def lock(name, how=fcntl.LOCK_EX):
+    """Returns whether it is held, against other builds in this clone and until this process ends."""
+    HELD.append(open(f'{ROOM}/{name}.lock', 'w', encoding='utf-8'))  # pylint: disable=consider-using-with
+    with contextlib.suppress(BlockingIOError):
+        return fcntl.flock(HELD[-1], how) is None
+    return False
+
+
+def left_of(names, begin):
+    """Those of the crates that this build has not come to."""
+    keys = {it: f'{ROOM}/{it}/key' for it in names}
+    return [it for it in names if not os.path.exists(keys[it]) or os.path.getmtime(keys[it]) < begin]
 
 
 # where git keeps this clone, which is elsewhere for a tree of several
 git = os.path.join(TOP, text_of(f'{TOP}/.git').partition('gitdir: ')[2].strip() or '.git')
-ROOM = f'{git if os.path.isdir(git) else BUILD}/proved'
+ROOM = f'{git if os.path.isdir(git) else f"{TOP}/build"}/proved'
 
 
-class Crates:
-    """Those of crates.txt, and the kit."""
+class Build:
+    """Of the crates of crates.txt, by the kit on the PATH."""
 
     def __init__(self):
         rt = shutil.which('rt')
         if rt is None:
-            raise Stop('the command rt of the Rattle kit is not on the PATH: README.md says which kit it is')
+            sys.exit('the command rt of the Rattle kit is not on the PATH: README.md says which kit it is')
         self.kit = os.path.dirname(os.path.dirname(os.path.realpath(rt)))
-        self.rattle, self.id = f'{self.kit}/bin/rattle', text_of(f'{self.kit}/KIT-ID').strip()
-        if f'logic {self.id.rpartition("logic ")[2]}' not in text_of(f'{TOP}/README.md'):
-            raise Stop(f'the kit on the PATH, {self.id}, is none of those that README.md names')
-        rows = [it.partition('#')[0].strip() for it in text_of(f'{TOP}/crates.txt').splitlines()]
+        kit = text_of(f'{self.kit}/KIT-ID').strip()
+        if f'logic {kit.rpartition("logic ")[2]}' not in text_of('README.md'):
+            sys.exit(f'the kit on the PATH, {kit}, is none of those that README.md names')
+        rows = [it.partition('#')[0].strip() for it in text_of('crates.txt').splitlines()]
         self.line = {re.match(r'\w+', it)[0]: it for it in rows if it}
-        self.libraries = {name: it.partition(':')[2].split() for name, it in self.line.items()}
-        self.uses = {name: [it for it in self.libraries[name] if it in self.line] for name in self.line}
-        static = {it for it in self.line if 'staticlib' in self.line[it].partition(':')[0].split()}
-        programs = {it for it in self.line if os.path.exists(f'{TOP}/crates/{it}/src/main.rt')}
-        self.made = {it: f'build/lib{it}.a' for it in static} | {it: f'build/{it}' for it in programs}
-        self.allowed = text_of(f'{TOP}/HANDLES')
-        self.handles = judge.handles(self.allowed)
+        libraries = {name: it.partition(':')[2].split() for name, it in self.line.items()}
+        self.uses = {name: [it for it in libraries[name] if it in self.line] for name in self.line}
+        self.allowed = text_of('HANDLES')
+        # how the files of the kit look that are read, and by which script
+        names = sorted({'std', *(it for uses in libraries.values() for it in uses)} - {*self.line})
+        read = [f'{self.kit}/{it}' for it in ('bin', 'c', 'toolchain', 'logic_built', 'rattle/logic', 'rattle/antt')]
+        for name in names:
+            read += [f'{self.kit}/rlibs/{name}.rlib']
+            names += sorted({*re.findall(r'(?m)^dep (\w+)$', text_of(f'{read[-1]}/format'))} - {*names})
+        looks = [(it, at.st_size, at.st_ino, at.st_ctime_ns) for it in files_in(*read) for at in [os.stat(it)]]
+        self.recipe = hashlib.sha256(repr((kit, looks, sum_of(__file__))).encode()).hexdigest()
+        if not os.access('.', os.W_OK):
+            sys.exit('this clone cannot be written to: copy it to a folder of yours')
+        os.makedirs(ROOM, exist_ok=True)
+        os.makedirs('build', exist_ok=True)
+
+    def rt(self):
+        """The kit's rt, which judges."""
+        rt = types.ModuleType('rt')
+        rt.__file__ = f'{self.kit}/bin/rt'
+        exec(compile(text_of(rt.__file__), rt.__file__, 'exec'), rt.__dict__)  # pylint: disable=exec-used
+        return rt
 
     def below(self, *names):
         """These crates and all that they stand on, the lowest first."""
-        found = {}
+        return list(dict.fromkeys(it for name in names for it in [*self.below(*self.uses[name]), name]))
 
-        def visit(name, above):
-            if name in above:
-                raise Stop(f'{name} stands on itself')
-            for it in self.uses[name]:
-                visit(it, (*above, name))
-            found[name] = True
-
-        for name in names:
-            visit(name, ())
-        return list(found)
-
-    def recipe(self):
-        """How the files of the kit look that are read, and by which scripts."""
-        names = sorted({'std', *(it for uses in self.libraries.values() for it in uses)} - {*self.line})
-        for name in names:
-            names += {*re.findall(r'(?m)^dep (\w+)$', text_of(f'{self.kit}/rlibs/{name}.rlib/format'))} - {*names}
-        read = ['bin', 'c', 'toolchain', 'logic_built', 'rattle/logic', 'rattle/antt', *(f'rlibs/{it}.rlib' for it in sorted(names))]
-        looks = [(path, it.st_size, it.st_ino, it.st_ctime_ns)
-                 for path in files_in(*(f'{self.kit}/{it}' for it in read)) for it in [os.stat(path)]]
-        scripts = [sum_of(f'{TOP}/tools/{it}.py') for it in ('prove', 'judge')]
-        return hashlib.sha256(repr((self.id, looks, scripts)).encode()).hexdigest()
-
-    def key(self, name, folder, recipe):
+    def key(self, name, folder):
         """What a crate is made from, where its text lies in this folder."""
-        lines = [recipe, self.line[name], self.allowed]
-        lines += [f'{it} {text_of(f"{ROOM}/{it}/says")}' for it in self.uses[name]]
-        for path in [os.path.dirname(folder), folder, *(f'{folder}/{it}' for it in PARTS), *files_in(*(f'{folder}/{it}' for it in PARTS))]:
-            if os.path.islink(path) or os.path.exists(path) and not os.path.isfile(path) and not os.path.isdir(path):
-                raise Stop(f'{os.path.relpath(path, TOP)} is a link, or no file: put the file or folder itself there')
-            lines += [f'{os.path.relpath(path, folder)} {sum_of(path)}'] if os.path.isfile(path) else []
-        return '\n'.join([*lines, ''])
+        says = [f'{it} {text_of(f"{ROOM}/{it}/says")}' for it in self.uses[name]]
+        sums = [f'{it[len(folder):]} {sum_of(it)}' for it in files_in(*(f'{folder}/{part}' for part in PARTS))]
+        return '\n'.join([self.recipe, self.line[name], self.allowed, *says, *sums, ''])
 
-    def lines_in(self, name):
-        return 1 + sum(text_of(it).count('\n') for it in files_in(f'{TOP}/crates/{name}/src'))
+    def is_kept(self, name):
+        return text_of(f'{ROOM}/{name}/key') == self.key(name, f'{TOP}/crates/{name}')
 
-    def chains(self, needed):
-        """Of each crate, the lines of the longest chain of crates from it up."""
+    def look(self, *goals):
+        read = ('build/', '.git/', *(f'crates/{it}/{part}/' for it in self.line for part in ('out', *PARTS)))
+        for path in (it[2:] for it in files_in('.')):
+            if f'{path}/'.startswith('crates/') and (os.path.islink(path) or not os.path.isfile(path)):
+                sys.exit(f'{path} is a link, or no file: put the file or folder itself there')
+            if path.endswith(('.rt', '.antt')) and not path.startswith(read):
+                sys.exit(f'no check reads {path}: it belongs to a crate of crates.txt')
+        crates, stale = self.below(*self.line), []
+        needed = self.below(*(it for goal in goals for it in GOALS.get(goal, [goal]) if it in crates)) or crates
+        lines = {it: 1 + sum(text_of(path).count('\n') for path in files_in(f'crates/{it}/src')) for it in crates}
+        # of each crate, the lines of the longest chain of crates from it up
         chain = {}
         for name in reversed(needed):
-            chain[name] = self.lines_in(name) + max((chain[it] for it in needed if name in self.uses[it]), default=0)
-        return chain
+            chain[name] = lines[name] + max((chain[it] for it in needed if name in self.uses[it]), default=0)
+        rows = [f'.PHONY: {it} {it}.proved' for it in crates]
+        for name in crates:
+            made = [name] if os.path.exists(f'crates/{name}/src/main.rt') else []
+            made += ARCHIVES if 'staticlib' in self.line[name].partition(':')[0] else []
+            rows += [f'{name}: {f"build/{made[0]}" if made else f"{name}.proved"}']
+            rows += [f'build/{it}: {name}.proved ; @tools/prove.py place {name} $@' for it in made]
+            if not self.is_kept(name) or {*stale} & {*self.uses[name]}:
+                stale += [name]
+                below = sorted(self.below(name)[:-1], key=lambda it: -chain.get(it, 0))
+                rows += [f'{name}.proved: {" ".join(f"{it}.proved" for it in below)} ; @tools/prove.py crate {name}']
+        stale = [it for it in needed if it in stale]
+        free = int(re.search(r'MemAvailable: *(\d+)', text_of('/proc/meminfo'))[1])
+        slots = max(1, min(int(os.environ.get('RT_JOBS') or 4), os.cpu_count(), free // 2_000_000))
+        write('build/crates.mk', '\n'.join([f'slots := {slots}', *rows, '']))
+        write(f'{ROOM}/began', json.dumps([time.time(), {it: lines[it] for it in stale}, chain, slots]))
+        if stale:
+            goals = f'{" ".join(goals)}: proves at most {len(stale)} of {len(needed)} crates'
+            print(f'{goals}; proved and judged; not tested: .ci/run', file=sys.stderr)
 
-    def words(self, name):
-        """What rattle is told of a crate, when it runs in the folder of its text."""
-        words = ['--crate-name', name, f'src/{"main" if self.made.get(name) == f"build/{name}" else "lib"}.rt', '--links', f'{name}=']
-        for it in ['std', *self.libraries[name]]:
-            words += ['--extern', f'{it}={f"../{it}/rlib" if it in self.uses[name] else f"{self.kit}/rlibs"}/{it}.rlib']
-        for it in [f'{self.kit}/rlibs', *(f'../{it}/rlib' for it in self.below(name)[:-1])]:
-            words += ['-L', f'dependency={it}']
-        words += ['--crate-type', 'staticlib'] * self.made.get(name, '').endswith('.a')
-        return words + ['--antt-project', f'{self.kit}/rattle/logic/antt-project.json']
-
-
-@contextlib.contextmanager
-def held(many, below, name=None):
-    """One of as many provers as memory has room for, and what it reads and writes. A prover whose builder was killed holds
-    them, too, until it ends."""
-    files = []
-    for it in [*below, *filter(None, [name])]:
-        files.append(os.open(f'{ROOM}/{it}.lock', os.O_RDWR | os.O_CREAT, 0o666))
-        fcntl.flock(files[-1], fcntl.LOCK_EX if it == name else fcntl.LOCK_SH)
-    lanes = [os.open(f'{ROOM}/{it}.slot', os.O_RDWR | os.O_CREAT, 0o666) for it in range(many)]
-    while len(files) < len(below) + bool(name) + bool(many):
-        for it in lanes:
-            with contextlib.suppress(BlockingIOError):
-                fcntl.flock(it, fcntl.LOCK_EX | fcntl.LOCK_NB)
-                files.append(it)
-                break
-        else:
-            time.sleep(0.2)
-    yield files
-    for it in {*files, *lanes}:
-        os.close(it)
-
-
-def run(words, folder, log, files):
-    """Runs it in a group of its own, which ends with this process, and returns the status."""
-    with open(log, 'ab') as out:
-        ran = subprocess.Popen(words, cwd=folder, stdin=subprocess.DEVNULL, stdout=out, stderr=subprocess.STDOUT,
-                               start_new_session=True, pass_fds=files)
-
-    def end(number, _):
-        os.killpg(ran.pid, signal.SIGKILL)
-        os._exit(128 + number)
-
-    for it in (signal.SIGINT, signal.SIGTERM, signal.SIGHUP):
-        signal.signal(it, end)
-    return ran.wait()
-
-
-def refuse(name, why, said=''):
-    print(''.join(said.splitlines(True)[-12:]), end='', file=sys.stderr)
-    sys.exit(f'{name} is refused: {why}; the log is build/{name}.log')
-
-
-def look(goals):
-    crates = Crates()
-    try:
-        os.makedirs(ROOM, exist_ok=True)
-        os.makedirs(BUILD, exist_ok=True)
-        write(f'{BUILD}/crates.mk', '')
-        write(f'{ROOM}/began', '')
-    except OSError:
-        raise Stop('this clone cannot be written to: copy it to a folder of yours') from None
-    read = tuple(f'{TOP}/{it}/' for it in ['build', '.git', *(f'crates/{it}/{part}' for it in crates.line for part in ('out', *PARTS))])
-    for path in files_in(TOP):
-        if path.endswith(('.rt', '.antt')) and not path.startswith(read):
-            raise Stop(f'no check reads {os.path.relpath(path, TOP)}: it belongs to a crate of crates.txt')
-    needed = crates.below(*(it for goal in goals or ['llfree'] for it in GOALS.get(goal, [goal]) if it in crates.line))
-    rows, stale, recipe = [], [], crates.recipe()
-    for at, name in enumerate(crates.below(*crates.line)):
-        folder = f'{ROOM}/{name}'
-        key, says = f'{folder}/key', f'{folder}/says'
-        if text_of(key) == crates.key(name, f'{TOP}/crates/{name}', recipe):
-            # make is told by its times that it is as it was, whatever became of them
-            os.utime(key, (2 * at, 2 * at))
-            os.utime(says, (2 * at + 1, 2 * at + 1))
-            remove(*(f'{BUILD}/{it}' for it, made in json.loads(text_of(f'{folder}/made') or '{}').items()
-                     if os.path.exists(f'{BUILD}/{it}') and sum_of(f'{BUILD}/{it}') != made))
-        else:
-            remove(key)
-            stale += [name] if name in needed else []
-        below = crates.below(name)
-        chain = crates.chains(below)
-        rows += [f'$(room)/{name}/key: ' + ' '.join(f'$(room)/{it}/says' for it in sorted(below[:-1], key=lambda it: -chain[it])),
-                 f'{name}: {crates.made.get(name, f"$(room)/{name}/key")}']
-        if crates.made.get(name) == f'build/{name}':
-            rows.append(f'build/{name} build/{name}.by-rattle: $(room)/{name}/key\n\t@tools/prove.py file {name} $@')
-    slots = max(1, min(int(os.environ.get('RT_JOBS') or 4), os.cpu_count(), int(re.search(r'MemAvailable: *(\d+)', text_of('/proc/meminfo'))[1]) // 2_000_000))
-    lines = {it: crates.lines_in(it) for it in needed}
-    write(f'{ROOM}/began', json.dumps([time.time(), lines, stale, crates.chains(needed), slots]))
-    write(f'{BUILD}/crates.mk', '\n'.join([f'room := {os.path.relpath(ROOM, TOP)}', f'slots := {slots}', f'crates := {" ".join(crates.line)}', *rows, '']))
-    if stale:
-        print(f'{" ".join(goals) or "llfree"}: proves and builds {len(stale)} of {len(needed)} crates, about '
-              f'{minutes(sum(lines[it] for it in stale) * SECONDS / BUSY / 4)} on 4 processors; proved and judged; not tested: .ci/run', file=sys.stderr)
-
-
-def prove(name):
-    crates, (begin, lines, stale, chain, slots) = Crates(), json.loads(text_of(f'{ROOM}/began'))
-    below, new, log, recipe = crates.below(name)[:-1], f'{ROOM}/{name}.new', f'{BUILD}/{name}.log', crates.recipe()
-    with held(slots, below, name) as files:
-        if text_of(f'{ROOM}/{name}/key') == crates.key(name, f'{TOP}/crates/{name}', recipe):
+    def crate(self, name):
+        begin, lines, chain, slots = json.loads(text_of(f'{ROOM}/began'))
+        below, stage, log = self.below(name)[:-1], f'{ROOM}/{name}.new', f'{TOP}/build/{name}.log'
+        new, proved = f'{stage}/crates/{name}', []
+        for it in below:
+            lock(it, fcntl.LOCK_SH)
+        lock(name)
+        if self.is_kept(name):
+            os.utime(f'{ROOM}/{name}/key')
             return
-        copy(name, new)
-        key = crates.key(name, new, recipe)
-        write(log, '')
-        why = judge.of_text(name, {**{it: f'{ROOM}/{it}' for it in below}, name: new}, crates.line, crates.kit, crates.allowed, f'{ROOM}/{name}.text')
-        if why:
-            refuse(name, why)
+        # as many provers as memory has room for, whatever make was told
+        while not any(lock(f'slot {it}', fcntl.LOCK_EX | fcntl.LOCK_NB) for it in range(slots)):
+            time.sleep(0.2)
+        # a repository of this crate and those below it
+        shutil.rmtree(stage, ignore_errors=True)
+        os.makedirs(f'{stage}/.git')
+        copy(f'crates/{name}', new)
+        for it in below:
+            copy(f'{ROOM}/{it}', f'{stage}/crates/{it}', os.link)
+        write(f'{stage}/HANDLES', self.allowed)
+        write(f'{stage}/crates.txt', ''.join(f'{self.line[it]}\n' for it in [*below, name]))
+        key, rt = self.key(name, new), self.rt()
         # the crate with the longest chain above it has all processors, and the others what it leaves
-        is_first = chain.get(name, 0) == max((chain[it] for it in stale if not os.path.exists(f'{ROOM}/{it}/key')), default=0)
-        os.nice(0 if is_first else 5)
-        words = [crates.rattle, *(['check'] if name in crates.made else ['build', '--statements']), *crates.words(name), '--empty-contracts',
-                 '--logic-built', f'{crates.kit}/logic_built', '-o', 'checked' if name in crates.made else f'rlib/{name}.rlib', '--jobs']
-        status = run([*words, str(slots if is_first else 1)], new, log, files)
-        if status == -signal.SIGKILL:
-            status = run([*words, '1'], new, log, files)
-        said = text_of(log)
-        why = 'it is not proved' if status else judge.of_lines(said, {*below, name}, crates.handles)
-        if why:
-            refuse(name, why, said)
-        keep(crates, name, new, key, recipe)
-    done = [it for it in stale if os.path.exists(f'{ROOM}/{it}/key')]
-    took, rest = time.time() - begin, sum(lines[it] for it in stale if it not in done)
-    left = f', about {minutes(rest * took / sum(lines[it] for it in done))} left' if rest and done else ''
-    print(f'{name} is proved ({len(lines) - len(stale) + len(done)} of {len(lines)}) after {took:.0f} s{left}', file=sys.stderr)
+        jobs = slots if all(chain[it] <= chain.get(name, 0) for it in left_of(lines, begin)) else 1
+        os.nice(0 if jobs == slots else 5)
 
+        class Crate(rt.Crate):
+            """What an archive is compiled from stays, and programs are compiled by LLVM alone."""
 
-def keep(crates, name, new, key, recipe):
-    """Puts what was judged in its place. Of a library that says what it said before, the old one is left, so that nothing
-    above it is built again."""
-    folder = f'{ROOM}/{name}'
-    is_own = re.compile(r'/(format|checked\.\w+|Answers\.antt|Invariants\.antt|Proof\.antt)$')
-    says = [recipe, crates.line[name], *(text_of(f'{ROOM}/{it}/says') for it in crates.uses[name])]
-    says += [f'{it[len(new):]} {sum_of(it)}' for it in files_in(f'{new}/rlib') if not is_own.search(it)]
-    says = hashlib.sha256('\n'.join(says).encode()).hexdigest() + '\n'
-    if name not in crates.made and text_of(f'{folder}/says') == says and os.path.isdir(f'{folder}/rlib/{name}.rlib'):
-        shutil.rmtree(f'{new}/rlib')
-        os.rename(f'{folder}/rlib', f'{new}/rlib')
-        os.rename(f'{folder}/says', f'{new}/says')
-    else:
+            def prove(self, command):
+                write(f'{new}/words', json.dumps([it.replace(f'{stage}/crates/', f'{ROOM}/') for it in command]))
+                return super().prove([*command, *['-o', 'out/checked'] * self.is_static])
+
+            def compile_by(self, backend, words, to):
+                return 0 if backend == 'rattle' else super().compile_by(backend, words, to)
+
+        def alone(tasks):
+            """Of what rt ci would do the proof of this crate, over the libraries that are proved."""
+            for it in below:
+                os.makedirs(f'{stage}/crates/{it}/out')
+                os.symlink(f'{ROOM}/{it}/out/rlib', f'{stage}/crates/{it}/out/rlib')
+            proved.append(tasks[name, 'proof'][3](dict.fromkeys(((it, 'proof') for it in below), True), jobs))
+            sys.exit()
+
+        rt.Crate, rt.in_lanes = Crate, alone
+        os.chdir(stage)
+        with open(log, 'w', encoding='utf-8') as out, contextlib.redirect_stdout(out), contextlib.redirect_stderr(out):
+            with contextlib.suppress(SystemExit):
+                rt.ci_from_nothing(f'{stage}/.git')
+        if not any(proved):
+            said = text_of(log).replace(f'{stage}/crates/', '').splitlines()
+            why = [it for it in said if re.match(r'rt: (?!\S+ NOT PROVED|note)', it)] or ['rt: it is not proved']
+            sys.exit('\n'.join([*said[-12:], f'{name} is refused: {why[-1][4:]}; the log is build/{name}.log']))
+        self.keep(name, new, key)
+        left, took = left_of(lines, begin), time.time() - begin
+        rest, whole = sum(lines[it] for it in left), sum(lines.values())
+        more = f', about {1 + int(rest * took / 60 / max(1, whole - rest))} min left' if left else ''
+        print(f'{name} is proved ({len(lines) - len(left)} of {len(lines)}) after {took:.0f} s{more}', file=sys.stderr)
+
+    def keep(self, name, new, key):
+        """Puts what was judged in its place. Of a library that says what it said before, the old one is left, so that
+        nothing above it is built again."""
+        folder, is_own = f'{ROOM}/{name}', re.compile(r'/(format|checked\.\w+|(Answers|Invariants|Proof)\.antt)$')
+        says = [self.recipe, self.line[name], *(text_of(f'{ROOM}/{it}/says') for it in self.uses[name])]
+        says += [f'{it[len(new):]} {sum_of(it)}' for it in files_in(f'{new}/out/rlib') if not is_own.search(it)]
+        says = hashlib.sha256('\n'.join(says).encode()).hexdigest()
+        if text_of(f'{folder}/says') == says and os.path.isdir(f'{folder}/out/rlib'):
+            shutil.rmtree(f'{new}/out')
+            os.rename(f'{folder}/out', f'{new}/out')
         write(f'{new}/says', says)
-    made = f'{TOP}/{crates.made.get(name, "none")}'
-    remove(made, f'{made}.by-rattle', *(glob.glob(f'{BUILD}/lib*.a') if made.endswith('.a') else []))
-    shutil.rmtree(folder, ignore_errors=True)
-    os.rename(new, folder)
-    write(f'{folder}/key', key)
+        shutil.rmtree(folder, ignore_errors=True)
+        os.rename(new, folder)
+        shutil.rmtree(f'{ROOM}/{name}.new')
+        write(f'{folder}/key', key)
 
-
-def compile_file(name, path):
-    """Compiles what was proved, and holds what it calls to HANDLES. It is in its place only then."""
-    crates, file = Crates(), os.path.basename(path)
-    folder, log, toolchain = f'{ROOM}/{name}', f'{BUILD}/{file}.log', f'{crates.kit}/toolchain'
-    is_program = not file.endswith('.a')
-    with held(0, crates.below(name), f'{name}.made') as files:
-        if file in FLAGS:
+    def place(self, name, path):
+        folder, file = f'{ROOM}/{name}', os.path.basename(path)
+        made, tools = f'{folder}/out/{file}', f'{ROOM}/{file}.toolchain'
+        for it in self.below(name):
+            lock(it, fcntl.LOCK_SH)
+        lock(f'{file} placed')
+        if not os.path.exists(made):
             # rattle calls the clang of a folder: here that of the kit, with more flags
-            kits, toolchain = toolchain, f'{folder}/{file}.toolchain'
-            shutil.rmtree(toolchain, ignore_errors=True)
-            os.makedirs(f'{toolchain}/bin')
-            for it in ['lib', *(f'bin/{it}' for it in os.listdir(f'{kits}/bin') if it != 'clang')]:
-                os.symlink(f'{kits}/{it}', f'{toolchain}/{it}')
-            write(f'{toolchain}/bin/clang', f'#!/bin/sh\nexec "{kits}/bin/clang" "$@" {FLAGS[file]}\n')
-            os.chmod(f'{toolchain}/bin/clang', 0o755)
-        write(log, '')
-        status = run([crates.rattle, 'build', *crates.words(name), '--crate-checked', 'checked', '--toolchain', toolchain, '--backend',
-                      'rattle' if file.endswith('.by-rattle') else 'llvm', '-o', f'{file}.o' if is_program else file], folder, log, files)
-        if is_program and not status:
-            status = run([f'{crates.kit}/bin/rattle-link', '--target', 'x86_64-unknown-linux-gnu', '--toolchain', toolchain, '-o', file, f'{file}.o',
-                          f'{crates.kit}/c/libos_c.a', f'{crates.kit}/c/liblibc_c.a'], folder, log, files)
-        why = 'it is not compiled' if status else judge.of_calls(f'{folder}/{file}', crates.kit, crates.handles)
-        if why:
-            refuse(file, why, text_of(log))
-        write(f'{folder}/made', json.dumps({**json.loads(text_of(f'{folder}/made') or '{}'), file: sum_of(f'{folder}/{file}')}))
-        os.replace(f'{folder}/{file}', path)
+            shutil.rmtree(tools, ignore_errors=True)
+            shutil.copytree(f'{self.kit}/toolchain', tools, copy_function=os.symlink)
+            write(f'{tools}/bin/clang', f'#!/bin/sh\nexec "{self.kit}/toolchain/bin/clang" "$@" {ARCHIVES[file]}\n')
+            os.chmod(f'{tools}/bin/clang', 0o755)
+            words = [f'{self.kit}/bin/rattle', 'build', *json.loads(text_of(f'{folder}/words'))[1:]]
+            for it in ('--logic-built', '--jobs'):
+                del words[words.index(it):words.index(it) + 2]
+            words += ['--crate-checked', 'out/checked', '--toolchain', tools, '--backend', 'llvm', '-o', f'{made}.part']
+            ran = subprocess.run(words, cwd=folder, stdin=subprocess.DEVNULL, capture_output=True, check=False)
+            if ran.returncode:
+                sys.exit(f'{(ran.stdout + ran.stderr).decode(errors="replace")}{file} is refused: it is not compiled')
+            os.replace(f'{made}.part', made)
+        if not os.path.exists(path) or sum_of(path) != sum_of(made):
+            shutil.copy2(made, f'{path}.new')
+            os.replace(f'{path}.new', path)
 
-
-def take():
-    crates = Crates()
-    recipe = crates.recipe()
-    os.makedirs(ROOM, exist_ok=True)
-    for name in crates.below(*crates.line):
-        left, new = f'{TOP}/crates/{name}/out/rlib/{name}.rlib', f'{ROOM}/{name}.new'
-        if name not in crates.made and os.path.isdir(left):
-            with held(0, [], name):
-                copy(name, new)
-                shutil.copytree(left, f'{new}/rlib/{name}.rlib')
-                keep(crates, name, new, crates.key(name, new, recipe), recipe)
+    def take(self):
+        for name in self.below(*self.line):
+            left, new = f'crates/{name}/out/rlib/{name}.rlib', f'{ROOM}/{name}.new/crates/{name}'
+            if os.path.isdir(left):
+                lock(name)
+                shutil.rmtree(f'{ROOM}/{name}.new', ignore_errors=True)
+                copy(f'crates/{name}', new)
+                shutil.copytree(left, f'{new}/out/rlib/{name}.rlib')
+                self.keep(name, new, self.key(name, new))
 
 
 if __name__ == '__main__':
     os.chdir(TOP)
-    try:
-        {'look': lambda *goals: look(goals), 'crate': prove, 'file': compile_file, 'take': take}[sys.argv[1]](*sys.argv[2:])
-    except Stop as reason:
-        # make tells it, where it is asked before make begins
-        print(str(reason).replace('#', ''), file=sys.stdout if sys.argv[1] == 'look' else sys.stderr)
-        sys.exit(sys.argv[1] != 'look')
+    signal.signal(signal.SIGINT, signal.SIG_DFL)
+    getattr(Build(), sys.argv[1])(*sys.argv[2:])
