@@ -4,8 +4,8 @@
  * A frame is a page of 4 KiB, named by a number from 0 on. A block of order o (0 to 9) is 2^o frames, the first
  * of which is a multiple of 2^o. A child is 512 frames. The library never touches the frames themselves.
  *
- * A memory has 1 to 1024 zones of 1 to 2097152 frames each: the nodes of a machine, with holes between them
- * (llfree_open_zones), or one run of frames, split into zones of 2097152 (llfree_open). Frames are numbered
+ * A memory has 1 to 1024 zones of 1 to 2097152 frames each. They are the nodes of a machine, with holes between
+ * them (llfree_open_zones), or one run of frames, split into zones of 2097152 (llfree_open). Frames are numbered
  * over all zones, below 2^32. No block crosses zones.
  *
  * Whatever numbers are passed as frames, ranges and orders, each call is safe, and wrong numbers are refused.
@@ -18,13 +18,18 @@
  *  3. One call at a time for each handle. Another thread may use a handle if one call happens before the other
  *     (a lock, a join, a seq_cst atomic). Handles of different cores need no such order: threads call through
  *     them at the same time.
- *  4. No call from a signal or interrupt handler, nor in a forked child of a process with threads.
+ *  4. No call through a handle that is in a call. A signal or interrupt handler may call through another handle,
+ *     whatever it interrupts; it opens and closes only where its heap may be called. In a forked child the calls of
+ *     other threads never end: it leaves their handles alone. It goes on through any other handle, such as that of
+ *     the thread that forked, and needs no call first. What was held stays held. For each call that never ends at
+ *     most 512 frames are lost, and takes pass over at most one tree (4096 frames).
  *  5. rattle_alloc, rattle_dealloc and rattle_realloc are one allocator, whose blocks are aligned to 16. Only
  *     openings and closings call them, several threads at once if these overlap. Each returns (no longjmp, no
  *     exception) and calls nothing of this header.
  *
- * A take, a give or a split needs less than 1 KiB of stack, an opening or a closing with an image less than
- * 6 KiB (measured, not proved). The code is for x86-64 processors with popcnt, in kernels too.
+ * A take, a give or a split allocates nothing (tested, not proved). It needs less than 1 KiB of stack, an
+ * opening or a closing with an image less than 6 KiB (measured, not proved). The code is for x86-64 processors
+ * with popcnt, in kernels too.
  */
 #ifndef LLFREE_H
 #define LLFREE_H
@@ -83,6 +88,27 @@ _Static_assert(sizeof(enum llfree_status) == sizeof(uint32_t) && (enum llfree_st
 
 #define LLFREE_VERSION "1.0.0"
 
+/* The version of the header that a program was built with. */
+static inline const char *llfree_version(void)
+{
+    return LLFREE_VERSION;
+}
+
+/* The size of a frame. */
+#define LLFREE_FRAME_BYTES 4096
+
+/* The address of a frame, where frame 0 lies at base. */
+static inline void *llfree_address(void *base, uint32_t frame)
+{
+    return (char *)base + (size_t)LLFREE_FRAME_BYTES * frame;
+}
+
+/* The frame at an address, which is not below base: that of its first byte or of any other. */
+static inline uint32_t llfree_frame_at(const void *base, const void *address)
+{
+    return (uint32_t)((size_t)((const char *)address - (const char *)base) / LLFREE_FRAME_BYTES);
+}
+
 #define LLFREE_CLOSED { false, NULL }
 
 /* A range: its first frame, and how many frames it has. */
@@ -95,15 +121,15 @@ typedef struct llfree_range {
  * if no memory has this many frames. An image of the zones of llfree_open_zones has the numbers of each zone,
  * one zone after another. The numbers of child c, counted within its zone, are words[9 * c] to words[9 * c + 8]:
  *  - words[9 * c]: the number of its free frames, or 32768 if the child is held as one block of order 9.
- *  - words[9 * c + 1 + w], w from 0 to 7: bit b is set if frame 512 * c + 64 * w + b is held by a smaller
- *    block, lies in a range that is never given out, or lies past the end of memory. */
+ *  - words[9 * c + 1 + w], w from 0 to 7: bit b stands for frame 512 * c + 64 * w + b. It is set if the frame is
+ *    held by a smaller block, lies in a range that is never given out, or lies past the end of memory. */
 size_t llfree_image_words(uint32_t frames);
 
 /* A core of an allocator for several threads. Each thread (or CPU) has its own, best on its own cache line.
  * Any core gives and splits what any core took, by frame and order.
  *
  * A core has one tree in reserve, for all orders. So a thread that takes huge frames and small blocks opens two
- * handles, one for orders 0 to 8 and one for order 9: then small blocks stay together (docs/C.md has numbers). */
+ * handles, one for orders 0 to 8 and one for order 9. Then small blocks stay together (docs/C.md has numbers). */
 typedef struct llfree_core {
     bool live;
     void *state;
@@ -112,8 +138,8 @@ typedef struct llfree_core {
 /* Opens an allocator of this many frames, with a core behind each of the closed handles. Frames in the ranges
  * are never given out (memory that a kernel keeps, holes); all others are free (tested, not proved). Ranges
  * must be sorted and disjoint. Pass NULL, 0 for none.
- * Memory: the words of each zone, and a list of its allocated blocks, 16 bytes a frame in one piece, with a
- * quarter of a byte a frame more if frames are held back or the last child is cut off. The opening itself
+ * Memory: the words of each zone, and a list of its allocated blocks, 16 bytes a frame in one piece. A quarter
+ * of a byte a frame more is needed if frames are held back or the last child is cut off. The opening itself
  * needs up to 24 bytes more for each largest free block of a zone: one for each 512 frames if nothing is held
  * back.
  * On failure the handles are unchanged: OPEN_HANDLE (any handle), BAD_GEOMETRY, BAD_RANGE, NO_MEMORY. */
@@ -127,8 +153,8 @@ enum llfree_status llfree_open(llfree_core *handles, size_t cores, uint32_t fram
  * Ranges use the same numbers. A range may continue in the next zone, but has no frame in a hole.
  * Otherwise as llfree_open; BAD_GEOMETRY also for an unlawful list of zones. The core behind handle i of n has
  * the home zone i * zone_count / n, after an opening at an image too. A core takes from its home zone first, then
- * from the next zones in turn; if one of these had a block, the next 1024 takes of that order begin there (tested,
- * not proved). */
+ * from the next zones in turn. If one of these had a block, the next 1024 takes of that order begin there. (Where
+ * takes begin is tested, not proved.) */
 LLFREE_NODISCARD
 enum llfree_status llfree_open_zones(llfree_core *handles, size_t cores, const llfree_range *zones,
                                      size_t zone_count, const llfree_range *ranges, size_t range_count);
@@ -149,7 +175,7 @@ typedef struct llfree_claim {
  *  - BAD_IMAGE: count is not llfree_image_words(frames), a number is no image's, the last child is cut off and
  *    one block of order 9, or a bit past the end is clear.
  *  - NOT_HELD: the image does not hold a claimed block (one of order 9 as such), or two share a frame.
- *  - CONTENDED: a claimed block or a free one was not reached (never seen). */
+ *  - CONTENDED: a claimed block or a free one was not reached (tested: never seen). */
 LLFREE_NODISCARD
 enum llfree_status llfree_reopen(llfree_core *handles, size_t cores, uint32_t frames,
                                  const uint64_t *words, size_t count, const llfree_claim *claims,
@@ -164,14 +190,14 @@ enum llfree_status llfree_reopen_zones(llfree_core *handles, size_t cores, const
                                        const llfree_claim *claims, size_t claimed);
 
 /* Takes a block of the order and writes its first frame. On failure *frame is unchanged and nothing more is
- * held. A take allocates nothing and never locks or waits.
+ * held. A take never locks or waits.
  *  - NO_BLOCK: after at least one step in each zone for each of its trees (4096 frames), and without losing an
  *    exchange to another core.
  *  - CONTENDED: after as many steps, and an exchange was lost; or the library's list had no place for the block,
  *    which is free again (never seen with cores of llfree_open).
  *  - BAD_ORDER, CLOSED_HANDLE.
  *
- * Neither NO_BLOCK nor CONTENDED says that no block of the order is free: while a core searches a tree, it has
+ * Neither NO_BLOCK nor CONTENDED says that no block of the order is free. While a core searches a tree, it has
  * reserved all of the tree's free frames, and other cores skip that tree. Four threads that held at most one
  * frame each, of 4096 (one tree), were refused 49 % of their takes; with as many trees as cores none ever was.
  * So give a memory at least 4096 frames for each core. With fewer, or with few free frames, retry a refused
@@ -192,13 +218,12 @@ static inline enum llfree_status llfree_take_retry(llfree_core *handle, uint8_t 
 }
 
 /* Gives exactly this block, whichever core took it. On NOT_HELD and CLOSED_HANDLE nothing changes. (That a held
- * block is not refused is tested, not proved.) Of several gives of one block at the same time one succeeds. A give
- * allocates nothing and never locks or waits. */
+ * block is not refused is tested, not proved.) Of several gives of one block at the same time at most one
+ * succeeds. A give never locks or waits. */
 enum llfree_status llfree_give(llfree_core *handle, uint32_t frame, uint8_t order);
 
 /* Splits exactly this block into its halves, whichever core took it. From then on each half is given or split
- * by itself: (frame, order - 1) and (frame + 2^(order - 1), order - 1). A split allocates nothing and never
- * locks or waits.
+ * by itself: (frame, order - 1) and (frame + 2^(order - 1), order - 1). A split never locks or waits.
  *  - NOT_HELD (as for a give), CLOSED_HANDLE, BAD_ORDER (order 0, held or not): nothing changes.
  *  - CONTENDED: the library's list had no place for a half, which is free again (never seen). */
 LLFREE_NODISCARD
@@ -246,8 +271,8 @@ enum llfree_status llfree_image_of_words(uint32_t frames, uint32_t cores, const 
  *  6. A struct starts as LLFREE_EMPTY, or with all bytes 0. After that only the functions below write its bytes;
  *     frame and order may be read in between. It may be moved, if the old bytes are never used again, but never
  *     copied: both copies could be given.
- *  7. A struct that holds a block is passed only with a core of the allocator that the block came from, and
- *     never after the last core of that allocator is closed.
+ *  7. A struct that holds a block is passed only with a core of the block's own allocator, and never after the
+ *     last core of that allocator is closed.
  *  8. One call at a time for each struct. Another thread may use it if one call happens before the other, as
  *     in 3. */
 typedef struct llfree_block {
@@ -279,7 +304,7 @@ LLFREE_NODISCARD
 enum llfree_status llfree_take_block(llfree_core *handle, uint8_t order, llfree_block *block);
 
 /* Gives the block that the struct holds, whichever core took it, and empties the struct. On NOT_HELD (an empty
- * struct) and CLOSED_HANDLE nothing changes. It allocates nothing and never locks or waits. */
+ * struct) and CLOSED_HANDLE nothing changes. It never locks or waits. */
 enum llfree_status llfree_give_block(llfree_core *handle, llfree_block *block);
 
 /* Splits the block that the struct holds, whichever core took it. The struct then holds the lower half, and
@@ -308,16 +333,16 @@ enum llfree_status llfree_plain_reopen(llfree_plain *handle, uint32_t frames, co
                                        size_t count, const llfree_claim *claims, size_t claimed);
 
 /* Takes a block of the order and writes its first frame. On failure *frame is unchanged: NO_BLOCK exactly if no
- * block of the order is free, BAD_ORDER, CLOSED_HANDLE. It allocates nothing. */
+ * block of the order is free, BAD_ORDER, CLOSED_HANDLE. */
 LLFREE_NODISCARD
 enum llfree_status llfree_plain_take(llfree_plain *handle, uint8_t order, uint32_t *frame);
 
-/* Gives exactly this block. On NOT_HELD and CLOSED_HANDLE nothing changes. It allocates nothing. */
+/* Gives exactly this block. On NOT_HELD and CLOSED_HANDLE nothing changes. */
 enum llfree_status llfree_plain_give(llfree_plain *handle, uint32_t frame, uint8_t order);
 
 /* Splits exactly this block into its halves. From then on each half is given or split by itself: (frame,
  * order - 1) and (frame + 2^(order - 1), order - 1). On NOT_HELD, BAD_ORDER (order 0, and the block is held) and
- * CLOSED_HANDLE nothing changes. It allocates nothing. */
+ * CLOSED_HANDLE nothing changes. */
 LLFREE_NODISCARD
 enum llfree_status llfree_plain_split(llfree_plain *handle, uint32_t frame, uint8_t order);
 

@@ -1,6 +1,6 @@
-/* The names of llfree-c over this library, for who has a program for that one: llfree_init, llfree_get, llfree_put,
- * llfree_frames, llfree_cores and llfree_metadata_size, where an answer is one number, `val`, negative where a call is
- * refused. docs/C.md has what cannot be had; what is not declared here cannot.
+/* The names of llfree-c over this library, for programs written for that one: llfree_init, llfree_get, llfree_put,
+ * llfree_frames, llfree_cores and llfree_metadata_size. An answer is one number, `val`, negative where a call is
+ * refused. What is not declared here cannot be had; docs/C.md lists it.
  *
  * The duties of llfree.h hold. For a caller that is one call at a time for each core, whoever makes it.
  *

@@ -1,5 +1,5 @@
-/* Cores for any number of threads, which come and go: each core stands at a desk, and a call sits down at the desk of
- * its processor, or at the next one that is not taken. So a handle has one call at a time, whoever calls. A call waits
+/* Cores for any number of threads, which come and go. Each core stands at a desk. A call sits down at the desk of its
+ * processor, or at the next one that is not taken. So a handle has one call at a time, whoever calls. A call waits
  * only while all desks are taken. For GCC and clang.
  *
  *     static llfree_desk desks[8];
@@ -111,17 +111,6 @@ static inline void llfree_pool_close(llfree_desk *desks, size_t count)
 {
     for (size_t i = 0; i < count; i++)
         llfree_close(&desks[i].core);
-}
-
-/* The address of a frame of a region, whose frame 0 lies at base, and back. */
-static inline void *llfree_address(void *base, uint32_t frame)
-{
-    return (char *)base + (size_t)4096 * frame;
-}
-
-static inline uint32_t llfree_frame_at(const void *base, const void *address)
-{
-    return (uint32_t)((size_t)((const char *)address - (const char *)base) / 4096);
 }
 
 #endif

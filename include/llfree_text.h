@@ -1,13 +1,8 @@
-/* For people to read: the version of the library, and what its statuses say. */
+/* For people to read: what the statuses of the library say. */
 #ifndef LLFREE_TEXT_H
 #define LLFREE_TEXT_H
 
 #include "llfree.h"
-
-static inline const char *llfree_version(void)
-{
-    return LLFREE_VERSION;
-}
 
 /* A status in words. */
 static inline const char *llfree_status_text(uint32_t status)

@@ -1,11 +1,11 @@
 /* For programs whose threads use the memory of their frames, under ThreadSanitizer or valgrind: takes and gives
- * that tell these tools what the library orders. The library is built without them, so of themselves they see no
- * order between a give and the take that has the frame next, and report races where there are none.
+ * that tell these tools what the library orders. The library is built without them. By themselves they see no order
+ * between a give and the take that has the frame next, and report races where there are none.
  *
  * The address is that of frame 0; frame f lies LLFREE_FRAME_BYTES * f behind it. Where neither tool is at work the
  * calls do what those of llfree.h do, with the same answers.
- *  - ThreadSanitizer, helgrind, DRD: what a thread does before it gives a frame happens before what the next one
- *    that takes it does, frame by frame and no more: a use behind the give is still a race.
+ *  - ThreadSanitizer, helgrind, DRD: what a thread does before it gives a frame happens before what the next thread
+ *    that takes it does, frame by frame and no more. A use after the give is still a race.
  *  - memcheck: memory that is given may not be touched until it is taken, and is undefined then. Before its first
  *    give it is what the program made of it.
  * A give is told before it is made, since afterwards the next one may have the frames; so what a give that is
@@ -41,8 +41,6 @@
 #ifdef __cplusplus
 extern "C" {
 #endif
-
-#define LLFREE_FRAME_BYTES 4096
 
 /* Tells that this block of the memory was just taken, or is about to be given. */
 static inline void llfree_tell(void *address, uint32_t frame, uint8_t order, bool is_taken)

@@ -1,8 +1,11 @@
 #!/usr/bin/env python3
-"""Writes llfree.3, the page for `man` of the library for C, from the comments of its header: one text for both.
+"""Writes llfree.3, the page for `man` of the library for C, from the comments of its header: one text for both. Or the
+pages by which `man` finds it under the name of each call, into a folder.
 
     man/pages.py < include/llfree.h > man/llfree.3
+    man/pages.py FOLDER < include/llfree.h
 """
+import pathlib
 import re
 import sys
 
@@ -20,7 +23,8 @@ TAIL = r""".SH SEE ALSO
 .BR llfree (1)
 .PP
 llfree_text.h says what a status means (llfree_status_text), llfree_tsan.h tells ThreadSanitizer and valgrind who has which
-frame, llfree_compat.h has the names of llfree\-c; docs/C.md has how all of it is built and installed.
+frame, llfree_pool.h lends cores to threads that come and go, llfree_compat.h has the names of llfree\-c; docs/C.md says
+how all of it is built and installed.
 """
 ITEM = re.compile(r' {1,4}(\d+\.|-) +(.*)')
 FUNCTION = re.compile(r'\b(llfree_\w+)\(')
@@ -105,12 +109,21 @@ def page(header):
     yield TAIL.rstrip('\n')
 
 
+def calls(header):
+    """The names of the calls."""
+    return {name for _, code in blocks_of(header) if FUNCTION.search(code) and (name := name_of(code))}
+
+
 def main():
-    rows = list(page(sys.stdin.read()))
-    if not any(row.startswith('.SS') for row in rows):
+    header = sys.stdin.read()
+    rows, names = list(page(header)), calls(header)
+    if not any(row.startswith('.SS') for row in rows) or not names:
         print('pages: standard input is no header of the library', file=sys.stderr)
         return 1
-    print('\n'.join(rows))
+    if len(sys.argv) == 1:
+        print('\n'.join(rows))
+    for name in names if len(sys.argv) > 1 else ():
+        (pathlib.Path(sys.argv[1]) / f'{name}.3').write_text('.so man3/llfree.3\n', encoding='utf-8')
     return 0
 
 

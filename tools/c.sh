@@ -3,7 +3,8 @@
 # C and as C++; the library asks for nothing but a heap; and the programs of examples/c and tools/c run,
 # plainly and under what the compiler has to watch over memory, or just with the flags that are named. One
 # is in C++, one in Rust, one is run under valgrind, and one is built from what is installed: by hand, by pkg-config
-# and by CMake. What the machine lacks is said and left out.
+# and by CMake; Python and man find what is installed, and it is a package of Debian. What the machine lacks is said and
+# left out.
 # The last line counts what was tried.
 set -eu
 unset CDPATH MAKEFLAGS MFLAGS
@@ -85,7 +86,7 @@ runs() {
 for source in "$root"/examples/c/*.c "$root"/tools/c/*.c; do
     with=("$library" "$heap" -lpthread)
     # its heap may be its own
-    ! grep -q '^struct rattle_block rattle_alloc' "$source" || with=("$library")
+    ! grep -q '^struct rattle_block rattle_alloc' "$source" || with=("$library" -lpthread)
     for flags in "$@"; do
         name="$(basename "$source") $flags"
         # the machine may lack what watches over memory
@@ -146,8 +147,8 @@ fi
 for source in "$root"/tools/c/*.cpp; do
     name=$(basename "$source")
     is_here c++ || { skips "$name" g++ g++; continue; }
-    "$cc" -Wall -Wextra -Werror -I"$root/include" -o "$folder/program" -x c++ "$source" -x none "$library" "$heap" ||
-        fails "$name: not built"
+    "$cc" -std=c++17 -O1 -Wall -Wextra -Wpedantic -Wshadow -Wconversion -Werror -I"$root/include" -o "$folder/program" \
+        -x c++ "$source" -x none "$library" "$heap" -lstdc++ -lpthread || fails "$name: not built"
     runs "$name" "$source"
 done
 
@@ -167,6 +168,13 @@ runs "$name: the shared library" "$source"
 nm -D --defined-only "$at/lib/libllfree.so.1" | awk '$2 != "A" { sub(/@.*/, "", $3); print $3 }' | sort |
     diff - "$folder/exported" || fails "$name: other names in the shared library"
 passes "$name: the names of the shared library"
+if command -v python3 >/dev/null; then
+    LLFREE_SO=$at/lib/libllfree.so.1 "$root/bindings/python/test.py" >"$folder/log" 2>&1 ||
+        { tail -n 20 "$folder/log" >&2; fails "$name: from Python"; }
+    passes "$name: from Python"
+else
+    skips "$name: from Python" python3 python3
+fi
 if command -v pkg-config >/dev/null; then
     export PKG_CONFIG_PATH=$at/lib/pkgconfig
     [ "$(pkg-config --modversion llfree)" = "$(cat "$root/VERSION")" ] || fails "$name: another version for pkg-config"
@@ -209,8 +217,28 @@ else
     skips "$name: by CMake" cmake cmake
 fi
 make -s -C "$root" install PREFIX=/usr DESTDIR="$folder/to" >/dev/null || fails "$name: not under DESTDIR"
-[ "$(find "$folder/to" -name '*.h' | wc -l)" = "$(find "$root/include" -name '*.h' | wc -l)" ] ||
-    fails "$name: a header is not installed"
+[ "$(ls "$folder/to/usr/include")" = "$(ls "$root/include")" ] || fails "$name: a header is not installed"
+(cd "$folder/to" && find usr ! -type d; echo usr/share/doc/llfree/copyright) | sort >"$folder/files"
+for call in $(cat "$folder/declared") llfree_take_retry; do
+    grep -qx "\.so man3/llfree\.3" "$folder/to/usr/share/man/man3/$call.3" || fails "$name: no page for man on $call"
+done
+if command -v man >/dev/null; then
+    MANPATH=$folder/to/usr/share/man man llfree_take_retry 2>/dev/null | grep -q 'SEE ALSO' ||
+        fails "$name: man does not find the page of a call"
+    passes "$name: man finds the page of a call"
+else
+    skips "$name: man" man man-db
+fi
+if command -v dpkg-deb >/dev/null; then
+    package=$("$root/tools/deb.sh" "$folder" 2>/dev/null) || fails "$name: no package"
+    [ "$(dpkg-deb -f "$package" Package Version Architecture | paste -sd ' ')" = \
+        "Package: llfree Version: $(cat "$root/VERSION") Architecture: amd64" ] || fails "$name: another package"
+    dpkg-deb --fsys-tarfile "$package" | tar -t | sed -n 's|^\./\(.*[^/]\)$|\1|p' | sort |
+        diff "$folder/files" - || fails "$name: other files in the package"
+    passes "$name: as a package of Debian"
+else
+    skips "$name: as a package of Debian" dpkg-deb dpkg
+fi
 make -s -C "$root" uninstall PREFIX=/usr DESTDIR="$folder/to" >/dev/null || fails "$name: not removed"
 [ -z "$(find "$folder/to" ! -type d)" ] || fails "$name: something is left"
 passes "$name: nothing is left"

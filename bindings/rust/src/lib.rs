@@ -14,8 +14,8 @@
 //! A [`Core`] takes and gives; each thread has one, or a [`Pool`] shares them. A [`Block`] is the right to its frames:
 //! it is never copied, and only a core of its own memory takes it back. So of the duties that the C header leaves to
 //! the caller those on pointers, handles and structs are kept by the compiler, in the [`Unchecked`] form too. What
-//! stays: no call through a core from a signal or interrupt handler that may interrupt a call through the same core,
-//! and one heap behind `rattle_alloc` (in the installed library that is `malloc`).
+//! stays: no call through a core that is in a call, from a handler that interrupts it or in a child of a fork, and one
+//! heap behind `rattle_alloc` (in the installed library that is `malloc`).
 //!
 //! The crate has no `std`, no dependency, and allocates nothing but what an opening does. The functions that it calls
 //! are proved; the crate itself is not: it is tested.

@@ -1,0 +1,171 @@
+"""LLFree from Python, for tools: the shared library by ctypes. It is that which LLFREE_SO names, or the installed one.
+
+    import llfree
+
+    first, second = llfree.open(frames=32768, cores=2)
+    frame = first.take(3)
+    second.give(frame, 3)
+
+Any thread may call through any core: one call at a time goes through each, and the others wait. A core closes when it
+is closed or nobody has it any more; the last one of a memory frees it. A process forks while no other thread is in a
+call.
+"""
+import ctypes
+import enum
+import os
+import threading
+
+_u8, _u32, _u64, _size = ctypes.c_uint8, ctypes.c_uint32, ctypes.c_uint64, ctypes.c_size_t
+FRAME_BYTES = 4096
+
+
+class Status(enum.IntEnum):
+    """The header says when each is answered."""
+    OK = 0
+    NO_BLOCK = 1
+    BAD_ORDER = 2
+    NOT_HELD = 3
+    CLOSED_HANDLE = 4
+    NO_MEMORY = 5
+    BAD_GEOMETRY = 6
+    OPEN_HANDLE = 7
+    CONTENDED = 8
+    BAD_RANGE = 9
+    NO_ROOM = 10
+    CORES_OPEN = 11
+    BAD_IMAGE = 12
+
+
+class Refused(Exception):
+    """What a call answered in place of OK."""
+
+    def __init__(self, status):
+        super().__init__(Status(status).name)
+        self.status = Status(status)
+
+
+class Handle(ctypes.Structure):
+    """A struct llfree_core."""
+    _fields_ = (('live', ctypes.c_bool), ('state', ctypes.c_void_p))
+
+
+class Range(ctypes.Structure):
+    """A struct llfree_range."""
+    _fields_ = (('first', _u32), ('frames', _u32))
+
+
+class Claim(ctypes.Structure):
+    """A struct llfree_claim."""
+    _fields_ = (('frame', _u32), ('order', _u8))
+
+
+_to = ctypes.POINTER
+# its calls, for tools that hand them to C
+library = ctypes.CDLL(os.environ.get('LLFREE_SO', 'libllfree.so.1'))
+for _name, _answer, *_arguments in (
+        ('open', _u32, _to(Handle), _size, _u32, _to(Range), _size),
+        ('open_zones', _u32, _to(Handle), _size, _to(Range), _size, _to(Range), _size),
+        ('reopen', _u32, _to(Handle), _size, _u32, _to(_u64), _size, _to(Claim), _size),
+        ('take', _u32, _to(Handle), _u8, _to(_u32)), ('give', _u32, _to(Handle), _u32, _u8),
+        ('split', _u32, _to(Handle), _u32, _u8), ('frames', _u32, _to(Handle)), ('free_frames', _u32, _to(Handle)),
+        ('free_huge', _u32, _to(Handle)), ('close', None, _to(Handle)),
+        ('close_image', _u32, _to(Handle), _to(_u64), _size), ('image_words', _size, _u32)):
+    _call = getattr(library, f'llfree_{_name}')
+    _call.argtypes, _call.restype = _arguments, _answer
+
+
+def _checked(status):
+    if status != Status.OK:
+        raise Refused(status)
+
+
+def _fits(number, bits, otherwise):
+    """The number, since ctypes cuts off what is too long."""
+    if not 0 <= number < 1 << bits:
+        raise Refused(otherwise)
+    return number
+
+
+def _row(kind, rows, bits, otherwise):
+    row = [kind(_fits(first, 32, otherwise), _fits(second, bits, otherwise)) for first, second in rows]
+    return (kind * len(row))(*row)
+
+
+class Core:
+    """A core of a memory, as the opening makes it."""
+
+    def __init__(self, handle):
+        self._handle, self._lock = handle, threading.RLock()
+
+    def __del__(self, close=library.llfree_close):
+        close(self._handle)
+
+    def _call(self, name, *arguments):
+        with self._lock:
+            return getattr(library, f'llfree_{name}')(self._handle, *arguments)
+
+    def take(self, order, tries=1):
+        """The first frame of a block, or Refused. It tries again where other cores may be in the way."""
+        frame, order = _u32(), _fits(order, 8, Status.BAD_ORDER)
+        for left in range(tries, 0, -1):
+            status = self._call('take', order, frame)
+            if status not in (Status.NO_BLOCK, Status.CONTENDED) or left == 1:
+                break
+        _checked(status)
+        return frame.value
+
+    def give(self, frame, order):
+        _checked(self._call('give', _fits(frame, 32, Status.NOT_HELD), _fits(order, 8, Status.NOT_HELD)))
+
+    def split(self, frame, order):
+        """From then on each half is given by itself."""
+        _checked(self._call('split', _fits(frame, 32, Status.NOT_HELD), _fits(order, 8, Status.NOT_HELD)))
+
+    def frames(self):
+        return self._call('frames')
+
+    def free_frames(self):
+        return self._call('free_frames')
+
+    def free_huge(self):
+        return self._call('free_huge')
+
+    def close(self):
+        self._call('close')
+
+    def close_image(self, zones=None):
+        """Closes the last core, and answers the numbers of the image; of a memory of zones, which have to be named."""
+        count = sum(map(image_words, (frames for _, frames in zones) if zones else [self.frames()]))
+        numbers = (_u64 * count)()
+        _checked(self._call('close_image', numbers, count))
+        return list(numbers)
+
+
+def _cores(count, call, *arguments):
+    handles = (Handle * _fits(count, 16, Status.BAD_GEOMETRY))()
+    _checked(call(handles, count, *arguments))
+    return [Core(Handle.from_buffer_copy(handle)) for handle in handles]
+
+
+def open(frames, cores=1, kept=()):
+    """The cores of a memory. What is kept are ranges, pairs of the first frame and a number of frames."""
+    ranges = _row(Range, kept, 32, Status.BAD_RANGE)
+    return _cores(cores, library.llfree_open, _fits(frames, 32, Status.BAD_GEOMETRY), ranges, len(ranges))
+
+
+def open_zones(zones, cores=1, kept=()):
+    """The cores of a memory with holes; zones are pairs as ranges are."""
+    zones, ranges = _row(Range, zones, 32, Status.BAD_GEOMETRY), _row(Range, kept, 32, Status.BAD_RANGE)
+    return _cores(cores, library.llfree_open_zones, zones, len(zones), ranges, len(ranges))
+
+
+def reopen(frames, numbers, cores=1, claims=()):
+    """The cores of a memory opened at the numbers of an image. Claims are pairs of a frame and an order."""
+    row = (_u64 * len(numbers))(*(_fits(number, 64, Status.BAD_IMAGE) for number in numbers))
+    claims, frames = _row(Claim, claims, 8, Status.BAD_ORDER), _fits(frames, 32, Status.BAD_GEOMETRY)
+    return _cores(cores, library.llfree_reopen, frames, row, len(row), claims, len(claims))
+
+
+def image_words(frames):
+    """How many numbers an image of this many frames has, or 0."""
+    return library.llfree_image_words(frames) if 0 <= frames < 1 << 32 else 0

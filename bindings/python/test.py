@@ -1,0 +1,113 @@
+#!/usr/bin/env python3
+"""Tries the binding for Python on the shared library that LLFREE_SO names: LLFREE_SO=FILE bindings/python/test.py"""
+import pathlib
+import re
+import sys
+import threading
+import unittest
+
+sys.dont_write_bytecode = True
+
+import llfree  # noqa: E402
+
+HEADER = pathlib.Path(__file__).resolve().parents[2] / 'include' / 'llfree.h'
+MIB = 256
+
+
+class Calls(unittest.TestCase):
+
+    def refused(self, status, call, *arguments, **words):
+        with self.assertRaises(llfree.Refused) as met:
+            call(*arguments, **words)
+        self.assertEqual(met.exception.status, status)
+
+    def test_names_are_those_of_the_header(self):
+        text = HEADER.read_text(encoding='utf-8')
+        told = {name: int(number) for name, number in re.findall(r'^    LLFREE_(\w+) = (\d+)', text, re.MULTILINE)}
+        self.assertEqual(told, {it.name: it.value for it in llfree.Status})
+        self.assertIn(f'#define LLFREE_FRAME_BYTES {llfree.FRAME_BYTES}\n', text)
+
+    def test_any_core_gives_what_any_core_took(self):
+        first, second = llfree.open(64 * MIB, cores=2)
+        frame = first.take(3)
+        self.assertEqual((frame % 8, first.free_frames()), (0, 64 * MIB - 8))
+        first.split(frame, 3)
+        second.give(frame + 4, 2)
+        self.refused(llfree.Status.NOT_HELD, second.give, frame, 3)
+        second.give(frame, 2)
+        self.assertEqual((second.frames(), second.free_frames(), second.free_huge()), (64 * MIB, 64 * MIB, 32))
+
+    def test_numbers_that_c_has_no_room_for(self):
+        core, = llfree.open(1024)
+        status = llfree.Status
+        frame = core.take(0)
+        for order in (-1, 10, 256, 1 << 40):
+            self.refused(status.BAD_ORDER, core.take, order)
+        for wrong in ((frame + (1 << 32), 0), (frame, 256), (-1, 0)):
+            self.refused(status.NOT_HELD, core.give, *wrong)
+        for frames in (-1, 0, (1 << 32) + 1024):
+            self.refused(status.BAD_GEOMETRY, llfree.open, frames)
+        for cores in (0, 65, 1 << 20):
+            self.refused(status.BAD_GEOMETRY, llfree.open, 1024, cores)
+        for kept in ([(1 << 32, 1)], [(0, -1)], [(1024, 1)], [(8, 1), (0, 1)]):
+            self.refused(status.BAD_RANGE, llfree.open, 1024, kept=kept)
+        core.give(frame, 0)
+        self.assertEqual(core.free_frames(), 1024)
+
+    def test_ranges_zones_and_what_is_left(self):
+        core, = llfree.open(1024, kept=[(0, 1000)])
+        taken = sorted(core.take(0, tries=20) for _ in range(24))
+        self.assertEqual(taken, list(range(1000, 1024)))
+        self.refused(llfree.Status.NO_BLOCK, core.take, 0, tries=3)
+        core, = llfree.open_zones([(0, 512), (4096, 512)])
+        self.assertEqual({core.take(9), core.take(9)}, {0, 4096})
+        self.refused(llfree.Status.BAD_GEOMETRY, llfree.open_zones, [(1, 512)])
+        core.give(4096, 9)
+        numbers = core.close_image(zones=[(0, 512), (4096, 512)])
+        self.assertEqual((len(numbers), numbers[0] & 32768, numbers[9:]), (18, 32768, [512] + [0] * 8))
+
+    def test_images(self):
+        first, second = llfree.open(1024, cores=2)
+        frame = first.take(4)
+        self.refused(llfree.Status.CORES_OPEN, first.close_image)
+        second.close()
+        numbers = first.close_image()
+        self.refused(llfree.Status.CLOSED_HANDLE, first.take, 0)
+        self.assertEqual(sum(bin(it).count('1') for at, it in enumerate(numbers) if at % 9), 16)
+        self.refused(llfree.Status.NOT_HELD, llfree.reopen, 1024, numbers, claims=[(frame + 16, 4)])
+        self.refused(llfree.Status.BAD_IMAGE, llfree.reopen, 1024, numbers[1:])
+        again, = llfree.reopen(1024, numbers, claims=[(frame, 4)])
+        self.assertEqual(again.free_frames(), 1008)
+        again.give(frame, 4)
+        self.assertEqual(again.free_huge(), 2)
+
+    def test_threads_share_cores(self):
+        frames, threads = 64 * MIB, 8
+        cores = llfree.open(frames, cores=2)
+        held, wrong = [[] for _ in range(threads)], []
+
+        def work(me):
+            try:
+                for turn in range(400):
+                    order = (me + turn) % 4
+                    held[me].append((cores[turn % 2].take(order, tries=20), order))
+                    if turn % 3 == 0:
+                        cores[me % 2].give(*held[me].pop(0))
+            except llfree.Refused as refused:
+                wrong.append(refused)
+
+        running = [threading.Thread(target=work, args=(me,)) for me in range(threads)]
+        for thread in running:
+            thread.start()
+        for thread in running:
+            thread.join()
+        out = [frame + at for row in held for frame, order in row for at in range(1 << order)]
+        self.assertEqual((wrong, len(set(out)), cores[0].free_frames()), ([], len(out), frames - len(out)))
+        for row in held:
+            for frame, order in row:
+                cores[0].give(frame, order)
+        self.assertEqual(cores[1].free_huge(), frames // 512)
+
+
+if __name__ == '__main__':
+    unittest.main()

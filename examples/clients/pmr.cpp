@@ -1,0 +1,118 @@
+// std::pmr's pools and containers out of page frames, by the resource of llfree.hpp. Between the two stands a resource
+// with a byte a frame, which finds a frame that is out twice. What is larger than 2 MiB comes from operator new. At the
+// end all frames are free again.
+#include "llfree.hpp"
+#include <algorithm>
+#include <atomic>
+#include <cstdio>
+#include <cstdlib>
+#include <functional>
+#include <map>
+#include <memory>
+#include <string>
+#include <sys/mman.h>
+#include <thread>
+#include <unordered_map>
+
+namespace {
+
+constexpr std::uint32_t frames = 65536;
+constexpr std::size_t bytes = std::size_t(LLFREE_FRAME_BYTES) * frames, huge = 2 << 20;
+
+[[noreturn]] void fails(const char *what)
+{
+    std::fprintf(stderr, "%s\n", what);
+    std::abort();
+}
+
+class checked : public std::pmr::memory_resource {
+public:
+    checked(std::pmr::memory_resource &below, void *base)
+        : below_(below), base_(base), is_out_(new std::atomic<bool>[frames]())
+    {
+    }
+    unsigned long taken() const { return taken_; }
+    unsigned long outside() const { return outside_; }
+
+private:
+    void turn(void *at, std::size_t size, bool to)
+    {
+        if (std::less<void *>()(at, base_) || !std::less<void *>()(at, static_cast<std::byte *>(base_) + bytes)) {
+            outside_ += to;
+            return;
+        }
+        taken_ += to;
+        std::uint32_t first = llfree_frame_at(base_, at);
+        std::uint32_t last = llfree_frame_at(base_, static_cast<std::byte *>(at) + size - 1);
+        for (std::uint32_t i = first; i <= last; i++)
+            if (is_out_[i].exchange(to) == to)
+                fails(to ? "taken twice" : "given twice");
+    }
+    void *do_allocate(std::size_t size, std::size_t alignment) override
+    {
+        void *at = below_.allocate(size, alignment);
+        turn(at, size, true);
+        return at;
+    }
+    void do_deallocate(void *at, std::size_t size, std::size_t alignment) override
+    {
+        turn(at, size, false);
+        below_.deallocate(at, size, alignment);
+    }
+    bool do_is_equal(const std::pmr::memory_resource &other) const noexcept override { return this == &other; }
+
+    std::pmr::memory_resource &below_;
+    void *base_;
+    std::unique_ptr<std::atomic<bool>[]> is_out_;
+    std::atomic<unsigned long> taken_ = 0, outside_ = 0;
+};
+
+void work(std::pmr::memory_resource *resource, char letter)
+{
+    std::pmr::unordered_map<int, std::pmr::string> texts(resource);
+    std::pmr::map<int, std::pmr::vector<int>> numbers(resource);
+    for (int i = 0; i < 20000; i++) {
+        texts.emplace(i * 7919, std::pmr::string(std::size_t(i % 300), letter, resource));
+        numbers[i % 1000].push_back(i);
+        if (i % 3 == 0)
+            texts.erase(i / 3 * 7919);
+    }
+    for (const auto &[key, text] : texts)
+        if (text.find_first_not_of(letter) != text.npos)
+            fails("a text was written by somebody else");
+    for (const auto &[key, row] : numbers)
+        if (row.size() != 20 || !std::all_of(row.begin(), row.end(), [k = key](int x) { return x % 1000 == k; }))
+            fails("a number was written by somebody else");
+}
+
+}
+
+int main()
+{
+    constexpr int how = MAP_PRIVATE | MAP_ANONYMOUS | MAP_NORESERVE;
+    void *room = mmap(nullptr, bytes + huge, PROT_READ | PROT_WRITE, how, -1, 0);
+    if (room == MAP_FAILED)
+        fails("no memory");
+    std::size_t space = bytes + huge;
+    void *base = std::align(huge, bytes, room, space);
+
+    llfree::memory memory(frames, 8);
+    llfree::resource resource(memory, base, std::pmr::new_delete_resource());
+    checked blocks(resource, base);
+    {
+        std::pmr::synchronized_pool_resource shared({ 0, 1 << 20 }, &blocks);
+        std::vector<std::thread> threads;
+        for (int i = 0; i < 8; i++)
+            threads.emplace_back([&, letter = char('a' + i)] {
+                std::pmr::unsynchronized_pool_resource own({ 0, 1 << 20 }, &blocks);
+                work(&own, letter);
+                work(&shared, letter);
+            });
+        for (std::thread &thread : threads)
+            thread.join();
+    }
+    std::printf("takes %lu, outside %lu; free at the end %u of %u\n", blocks.taken(), blocks.outside(),
+                memory.free_frames(), frames);
+    if (memory.free_frames() != frames || memory.free_huge() != frames / 512 || blocks.taken() == 0)
+        fails("not all frames are free again");
+}

@@ -1,0 +1,158 @@
+// llfree.hpp: blocks that give themselves back, refusals, and a memory resource under std::pmr's pools on threads.
+#include "llfree.hpp"
+#include <algorithm>
+#include <atomic>
+#include <cstdio>
+#include <cstdlib>
+#include <list>
+#include <map>
+#include <new>
+#include <string>
+#include <thread>
+#include <unordered_map>
+
+#define CHECK(x) ((x) ? (void)0 : (std::fprintf(stderr, "%s:%d: %s\n", __FILE__, __LINE__, #x), std::exit(1)))
+
+namespace {
+
+constexpr std::uint32_t frames = 16 * 4096;
+constexpr std::size_t huge_bytes = 512 * LLFREE_FRAME_BYTES;
+
+template <typename Call>
+enum llfree_status refusal(Call call)
+{
+    try {
+        call();
+    } catch (const llfree::refused &why) {
+        return why.status();
+    }
+    return LLFREE_OK;
+}
+
+void blocks(llfree::memory &memory)
+{
+    {
+        llfree::block block = memory.take(3);
+        CHECK(block && block.order() == 3 && block.frame() % 8 == 0);
+        CHECK(memory.free_frames() == frames - 8);
+        llfree::block upper = block.split();
+        CHECK(block.order() == 2 && upper.order() == 2 && upper.frame() == block.frame() + 4);
+        block = std::move(upper);
+        CHECK(!upper && memory.free_frames() == frames - 4);
+        llfree::block none;
+        CHECK(!none && refusal([&] { (void)none.split(); }) == LLFREE_NOT_HELD);
+        llfree::block single = memory.take(0);
+        CHECK(refusal([&] { (void)single.split(); }) == LLFREE_BAD_ORDER && single);
+        CHECK(!memory.take(10));
+        auto [frame, order] = block.release();
+        CHECK(!block && memory.give(frame, order) == LLFREE_OK && memory.give(frame, order) == LLFREE_NOT_HELD);
+    }
+    CHECK(memory.free_frames() == frames && memory.free_huge() == frames / 512);
+    CHECK(refusal([] { llfree::memory(0, 1); }) == LLFREE_BAD_GEOMETRY);
+    CHECK(refusal([] { llfree::memory(1, 0); }) == LLFREE_BAD_GEOMETRY);
+    CHECK(refusal([] { llfree::memory(1, 65); }) == LLFREE_BAD_GEOMETRY);
+    CHECK(refusal([] { llfree::memory(1, 1, { { 1, 1 } }); }) == LLFREE_BAD_RANGE);
+    llfree::memory small(8, 1, { { 0, 2 }, { 6, 2 } });
+    CHECK(small.frames() == 8 && small.free_frames() == 4 && !small.take(3));
+}
+
+struct counted : std::pmr::memory_resource {
+    std::size_t calls = 0;
+    void *do_allocate(std::size_t bytes, std::size_t alignment) override
+    {
+        calls++;
+        return std::pmr::new_delete_resource()->allocate(bytes, alignment);
+    }
+    void do_deallocate(void *at, std::size_t bytes, std::size_t alignment) override
+    {
+        calls++;
+        std::pmr::new_delete_resource()->deallocate(at, bytes, alignment);
+    }
+    bool do_is_equal(const std::pmr::memory_resource &other) const noexcept override { return this == &other; }
+};
+
+// what is too large, or more than there is, comes from upstream
+void upstream(llfree::memory &memory, std::byte *base)
+{
+    counted upstream;
+    llfree::resource resource(memory, base, &upstream), alone(memory, base);
+    void *at = resource.allocate(huge_bytes, 4096);
+    CHECK(at >= base && at < base + frames * std::size_t(LLFREE_FRAME_BYTES) && memory.free_huge() == frames / 512 - 1);
+    resource.deallocate(at, huge_bytes, 4096);
+    CHECK(upstream.calls == 0);
+    resource.deallocate(resource.allocate(huge_bytes + 1), huge_bytes + 1);
+    resource.deallocate(resource.allocate(1, 2 * huge_bytes), 1, 2 * huge_bytes);
+    CHECK(upstream.calls == 4);
+    llfree::resource odd(memory, base + 4096, &upstream);
+    odd.deallocate(odd.allocate(1, 8192), 1, 8192);
+    CHECK(upstream.calls == 6);
+
+    bool is_refused = false;
+    try {
+        (void)alone.allocate(huge_bytes + 1);
+    } catch (const std::bad_alloc &) {
+        is_refused = true;
+    }
+    CHECK(is_refused && memory.free_frames() == frames);
+    std::vector<llfree::block> all;
+    while (memory.free_frames() > 0)
+        if (llfree::block block = memory.take(9))
+            all.push_back(std::move(block));
+    CHECK(all.size() == frames / 512);
+    resource.deallocate(resource.allocate(1), 1);
+    CHECK(upstream.calls == 8);
+}
+
+void containers(std::pmr::memory_resource *resource, char letter)
+{
+    std::pmr::unordered_map<int, std::pmr::string> texts(resource);
+    std::pmr::map<int, std::pmr::vector<int>> numbers(resource);
+    std::pmr::list<int> list(resource);
+    for (int i = 0; i < 6000; i++) {
+        texts.emplace(i, std::pmr::string(std::size_t(i % 300), letter, resource));
+        numbers[i % 100].push_back(i);
+        list.push_front(i);
+        if (i % 3 == 0)
+            texts.erase(i / 3);
+    }
+    for (const auto &[key, text] : texts)
+        CHECK(text.size() == std::size_t(key % 300) && text.find_first_not_of(letter) == text.npos);
+    for (const auto &[key, row] : numbers)
+        CHECK(row.size() == 60 && std::all_of(row.begin(), row.end(), [k = key](int x) { return x % 100 == k; }));
+    CHECK(list.size() == 6000);
+}
+
+}
+
+int main()
+{
+    llfree::memory memory(frames, 8);
+    void *room = std::aligned_alloc(huge_bytes, frames * std::size_t(LLFREE_FRAME_BYTES));
+    CHECK(room != nullptr);
+    auto *base = static_cast<std::byte *>(room);
+
+    blocks(memory);
+    upstream(memory, base);
+    {
+        llfree::resource resource(memory, base);
+        std::pmr::synchronized_pool_resource shared({ 0, 1 << 20 }, &resource);
+        std::vector<std::thread> threads;
+        for (int i = 0; i < 8; i++)
+            threads.emplace_back([&, letter = char('a' + i)] {
+                std::pmr::unsynchronized_pool_resource own({ 0, 1 << 20 }, &resource);
+                containers(&own, letter);
+                containers(&shared, letter);
+                std::vector<llfree::block> held;
+                for (std::uint8_t order = 1; order <= 9; order++)
+                    if (llfree::block block = memory.take(order)) {
+                        held.push_back(block.split());
+                        held.push_back(std::move(block));
+                    }
+            });
+        for (std::thread &thread : threads)
+            thread.join();
+        CHECK(memory.free_frames() < frames);
+    }
+    CHECK(memory.free_frames() == frames && memory.free_huge() == frames / 512);
+    std::free(room);
+}
