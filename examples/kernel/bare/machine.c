@@ -135,9 +135,21 @@ void stop(bool is_well)
         __asm__ volatile("cli; hlt");
 }
 
+/* the CPU that alone tells what is wrong, counted from 1; 0 if each does */
+static unsigned teller;
+
+void tell_alone(void)
+{
+    __atomic_store_n(&teller, cpu_number() + 1, __ATOMIC_SEQ_CST);
+}
+
 void expect(bool is_so, const char *otherwise)
 {
     if (!is_so) {
+        unsigned alone;
+
+        while ((alone = __atomic_load_n(&teller, __ATOMIC_SEQ_CST)) != 0 && alone != cpu_number() + 1)
+            ;
         print("CPU %u: %s\n", (uint64_t)cpu_number(), otherwise);
         stop(false);
     }

@@ -29,6 +29,8 @@ void print(const char *format, ...);
 _Noreturn void stop(bool is_well);
 /* Stops where something is not so. */
 void expect(bool is_so, const char *otherwise);
+/* From now on only this CPU tells what is wrong: what others find follows from what it does. They wait. */
+void tell_alone(void);
 
 bool is_said(const char *word); /* whether QEMU's -append has it */
 const struct span *memory_map(uint32_t *spans);

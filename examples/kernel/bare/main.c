@@ -93,6 +93,8 @@ static void give_one(struct cpu *cpu, struct held *one)
         stamp(&before, one->stamp, one->stamp);
         return;
     }
+    if (is_wrong && gives_twice)
+        tell_alone();
     stamp(&one->block, one->stamp, 0);
     expect(give(cpu, &one->block) == LLFREE_OK, "a block that was held is refused");
     if (is_wrong && gives_twice) {

@@ -1,0 +1,71 @@
+/* SPDX-License-Identifier: GPL-2.0 */
+/* What the page allocator calls in place of its free lists. */
+#ifndef MM_LLFREE_PAGES_H
+#define MM_LLFREE_PAGES_H
+
+#include <linux/types.h>
+
+struct page;
+struct zone;
+
+#ifdef CONFIG_LLFREE
+
+extern bool llfree_on, llfree_lists;
+
+/* False after llfree=off: Linux' own free lists are used. */
+static inline bool llfree_is_on(void)
+{
+	return llfree_on;
+}
+
+/* Whether every page goes to the library at once; after llfree=lists pages rest in the lists of the CPUs first. */
+static inline bool llfree_without_lists(void)
+{
+	return llfree_on && !llfree_lists;
+}
+
+/* Opens an allocator for each zone, with all frames held as blocks of order 0. Called before memblock frees any. */
+void llfree_open_boot_zones(void);
+
+/* NULL if no block of the order was found. */
+struct page *llfree_take_page(struct zone *zone, unsigned int order);
+
+/* Gives exactly a block that was taken, or that a split left. */
+void llfree_give_page(struct page *page, unsigned int order);
+
+/* Splits a held block into its halves. */
+void llfree_halve_page(struct page *page, unsigned int order);
+
+/* Splits a held block into single frames. */
+void llfree_split_page(struct page *page, unsigned int order);
+
+enum { LLFREE_ORDERS = 10 };
+
+/* Sums over the CPUs, since the zone was opened. */
+struct llfree_counts {
+	u64 takes[LLFREE_ORDERS], gives[LLFREE_ORDERS], no_block[LLFREE_ORDERS];
+	u64 splits, retries, wrong, wrong_bits, takes_in_handlers, gives_in_handlers;
+};
+
+struct llfree_state {
+	unsigned long first;	/* page frame number of frame 0 */
+	u32 frames, free_frames, free_huge;
+	s64 given;		/* frames given less frames taken */
+	const char *form;
+	struct llfree_counts counts;
+};
+
+void llfree_read_state(struct zone *zone, struct llfree_state *state);
+
+#else
+
+static inline bool llfree_is_on(void) { return false; }
+static inline bool llfree_without_lists(void) { return false; }
+static inline void llfree_open_boot_zones(void) { }
+static inline struct page *llfree_take_page(struct zone *zone, unsigned int order) { return NULL; }
+static inline void llfree_give_page(struct page *page, unsigned int order) { }
+static inline void llfree_halve_page(struct page *page, unsigned int order) { }
+static inline void llfree_split_page(struct page *page, unsigned int order) { }
+
+#endif
+#endif

@@ -1,0 +1,219 @@
+// SPDX-License-Identifier: GPL-2.0
+/*
+ * /proc/llfree shows what the library and Linux count. Written to, it tries what has to fail, or measures; the kernel's
+ * log has the answers:
+ *   twice                gives a page twice
+ *   order                gives a block by another order
+ *   used                 writes to a page that was given, and takes pages until it is had again (page_poison=1)
+ *   pairs ORDER CPUS MS  takes and gives on threads bound to CPUs, by whatever page allocator Linux has
+ */
+#define pr_fmt(text) "llfree: " text
+#include <linux/completion.h>
+#include <linux/gfp.h>
+#include <linux/init.h>
+#include <linux/kthread.h>
+#include <linux/ktime.h>
+#include <linux/list.h>
+#include <linux/mm.h>
+#include <linux/mmzone.h>
+#include <linux/mutex.h>
+#include <linux/proc_fs.h>
+#include <linux/seq_file.h>
+#include <linux/slab.h>
+#include <linux/uaccess.h>
+#include <linux/vmstat.h>
+#include "pages.h"
+
+enum { HELD = 64, ORDER = 3 };
+
+static void show_row(struct seq_file *file, const char *name, const u64 *counts)
+{
+	u64 all = 0;
+
+	seq_printf(file, "%s:", name);
+	for (unsigned int order = 0; order < LLFREE_ORDERS; order++) {
+		all += counts[order];
+		seq_printf(file, " %llu", counts[order]);
+	}
+	seq_printf(file, ", together %llu\n", all);
+}
+
+static void show_zone(struct seq_file *file, struct zone *zone)
+{
+	struct llfree_state state;
+	unsigned long listed = 0;
+
+	llfree_read_state(zone, &state);
+	for (unsigned int order = 0; order < MAX_ORDER; order++)
+		listed += zone->free_area[order].nr_free;
+	seq_printf(file, "zone %s: %u frames from %lu on, %u cores, by %s\n", zone->name, state.frames, state.first,
+		   nr_cpu_ids, state.form);
+	seq_printf(file, "free: library %u, Linux %lu, given less taken %lld; huge %u; in lists of the zone %lu\n",
+		   state.free_frames, zone_page_state_snapshot(zone, NR_FREE_PAGES), state.given, state.free_huge, listed);
+	show_row(file, "takes", state.counts.takes);
+	show_row(file, "gives", state.counts.gives);
+	show_row(file, "no block", state.counts.no_block);
+	seq_printf(file, "splits %llu, retries %llu, takes in handlers %llu, gives in handlers %llu\n",
+		   state.counts.splits, state.counts.retries, state.counts.takes_in_handlers,
+		   state.counts.gives_in_handlers);
+	seq_printf(file, "wrong %llu, wrong bits %llu\n", state.counts.wrong, state.counts.wrong_bits);
+}
+
+static int show(struct seq_file *file, void *unused)
+{
+	struct zone *zone;
+
+	for_each_populated_zone(zone)
+		if (llfree_is_on())
+			show_zone(file, zone);
+	return 0;
+}
+
+static int open(struct inode *inode, struct file *file)
+{
+	return single_open(file, show, NULL);
+}
+
+static int give_wrongly(bool twice)
+{
+	struct page *page = alloc_pages(GFP_KERNEL, ORDER);
+
+	if (!page)
+		return -ENOMEM;
+	if (!twice)
+		llfree_give_page(page, ORDER - 1);
+	__free_pages(page, ORDER);
+	drain_all_pages(NULL); /* it may rest in the list of a CPU */
+	if (twice)
+		llfree_give_page(page, ORDER);
+	return 0;
+}
+
+static int use_given(void)
+{
+	struct page *used = alloc_pages(GFP_KERNEL, 0), *page, *next;
+	unsigned long left = totalram_pages() / 2;
+	LIST_HEAD(taken);
+	bool again = false;
+
+	if (!used)
+		return -ENOMEM;
+	__free_pages(used, 0);
+	*(u64 *)page_address(used) = 0;
+	while (!again && left-- && (page = alloc_pages(GFP_KERNEL | __GFP_NOWARN | __GFP_NORETRY, 0))) {
+		list_add(&page->lru, &taken);
+		again = page == used;
+	}
+	list_for_each_entry_safe(page, next, &taken, lru) {
+		list_del(&page->lru);
+		__free_pages(page, 0);
+	}
+	return again ? 0 : -EAGAIN;
+}
+
+struct worker {
+	struct completion *start, done;
+	unsigned int order, milliseconds;
+	u64 pairs, refused, time;
+} ____cacheline_aligned_in_smp;
+
+static int work(void *argument)
+{
+	struct worker *worker = argument;
+	struct page *held[HELD];
+	u64 start, now;
+
+	wait_for_completion(worker->start);
+	start = ktime_get_ns();
+	do {
+		for (unsigned int i = 0; i < HELD; i++)
+			held[i] = alloc_pages(GFP_KERNEL | __GFP_NOWARN | __GFP_NORETRY, worker->order);
+		for (unsigned int i = 0; i < HELD; i++) {
+			worker->refused += !held[i];
+			worker->pairs += !!held[i];
+			if (held[i])
+				__free_pages(held[i], worker->order);
+		}
+		cond_resched();
+		now = ktime_get_ns();
+	} while (now - start < worker->milliseconds * 1000000ull);
+	worker->time = now - start;
+	kthread_complete_and_exit(&worker->done, 0);
+}
+
+static int measure(unsigned int order, unsigned int cpus, unsigned int milliseconds)
+{
+	struct worker *workers = kcalloc(cpus, sizeof(*workers), GFP_KERNEL);
+	DECLARE_COMPLETION_ONSTACK(start);
+	u64 pairs = 0, refused = 0, time = 0;
+	unsigned int started;
+
+	if (!workers)
+		return -ENOMEM;
+	for (started = 0; started < cpus; started++) {
+		struct worker *worker = &workers[started];
+		struct task_struct *task;
+
+		*worker = (struct worker){ .start = &start, .order = order, .milliseconds = milliseconds };
+		init_completion(&worker->done);
+		task = kthread_create_on_cpu(work, worker, started, "pairs/%u");
+		if (IS_ERR(task))
+			break;
+		wake_up_process(task);
+	}
+	complete_all(&start);
+	for (unsigned int i = 0; i < started; i++) {
+		wait_for_completion(&workers[i].done);
+		pairs += workers[i].pairs;
+		refused += workers[i].refused;
+		time += workers[i].time;
+	}
+	kfree(workers);
+	pr_info("order %u, %u CPUs: %llu pairs, %llu refused, %llu ns each\n", order, started, pairs, refused,
+		pairs ? div64_u64(time, pairs) : 0);
+	return started == cpus && pairs ? 0 : -EAGAIN;
+}
+
+static int obey(const char *word)
+{
+	unsigned int order, cpus, milliseconds;
+
+	if (llfree_is_on() && sysfs_streq(word, "twice"))
+		return give_wrongly(true);
+	if (llfree_is_on() && sysfs_streq(word, "order"))
+		return give_wrongly(false);
+	if (sysfs_streq(word, "used"))
+		return use_given();
+	if (sscanf(word, "pairs %u %u %u", &order, &cpus, &milliseconds) != 3 || order >= MAX_ORDER || !cpus ||
+	    cpus > num_online_cpus() || milliseconds > 60000)
+		return -EINVAL;
+	return measure(order, cpus, milliseconds);
+}
+
+static ssize_t write(struct file *file, const char __user *from, size_t size, loff_t *at)
+{
+	static DEFINE_MUTEX(lock);
+	char word[64] = { };
+	int status;
+
+	if (size >= sizeof(word) || copy_from_user(word, from, size))
+		return -EFAULT;
+	mutex_lock(&lock);
+	status = obey(word);
+	mutex_unlock(&lock);
+	return status ?: size;
+}
+
+static const struct proc_ops ops = {
+	.proc_open = open,
+	.proc_read = seq_read,
+	.proc_lseek = seq_lseek,
+	.proc_release = single_release,
+	.proc_write = write,
+};
+
+static int __init make_file(void)
+{
+	return proc_create("llfree", 0644, NULL, &ops) ? 0 : -ENOMEM;
+}
+fs_initcall(make_file);
