@@ -8,6 +8,7 @@
 # the least of all rounds. `times` is how many times as long as llfree the other one takes.
 # UNDER, which stands before both programs: two_programs.sh
 set -eu
+unset CDPATH MAKEFLAGS MFLAGS
 here=$(cd "$(dirname "$0")" && pwd)
 top=$(dirname "$here")
 pairs=${PAIRS:-50000}

@@ -9,6 +9,7 @@
 # each `ratio` the library's to it; `times` is how many times as long as the library the other one takes.
 # UNDER, which stands before both programs: two_programs.sh
 set -eu
+unset CDPATH MAKEFLAGS MFLAGS
 here=$(cd "$(dirname "$0")" && pwd)
 top=$(dirname "$here")
 library=$top/build/libllfree_c.a

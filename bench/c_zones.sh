@@ -5,6 +5,7 @@
 # all runs, in nanoseconds for a take and a give of one thread.
 # UNDER, which stands before the program, as `chrt -f 10`
 set -eu
+unset CDPATH MAKEFLAGS MFLAGS
 here=$(cd "$(dirname "$0")" && pwd)
 top=$(dirname "$here")
 library=$top/build/libllfree_c.a

@@ -4,6 +4,7 @@
 # least of ROUNDS rounds. UNDER stands before the program, as in 'chrt -f 10'.
 #     bench/opening.sh [FRAMES..]
 set -eu
+unset CDPATH MAKEFLAGS MFLAGS
 here=$(cd "$(dirname "$0")" && pwd)
 top=$(dirname "$here")
 library=$top/build/libllfree_c.a

@@ -5,6 +5,7 @@
 # figure is the least of all rounds.
 # UNDER, which stands before both programs: two_programs.sh
 set -eu
+unset CDPATH MAKEFLAGS MFLAGS
 here=$(cd "$(dirname "$0")" && pwd)
 top=$(dirname "$here")
 pairs=${PAIRS:-100000}

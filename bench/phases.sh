@@ -5,6 +5,7 @@
 # thread for a call, and for a take with its give in the phase `pair`; refused are the takes refused by the four. UNDER
 # stands before the program, as in 'chrt -f 10'. FRAMES is how large the memory is.
 set -eu
+unset CDPATH MAKEFLAGS MFLAGS
 here=$(cd "$(dirname "$0")" && pwd)
 top=$(dirname "$here")
 . "$here/progress.sh"

@@ -4,6 +4,7 @@
 # there. The two are measured in turn, ROUNDS times COUNT takes; each figure is the least of all rounds.
 # UNDER stands before the program, as in 'chrt -f 10'.
 set -eu
+unset CDPATH MAKEFLAGS MFLAGS
 here=$(cd "$(dirname "$0")" && pwd)
 top=$(dirname "$here")
 library=$top/build/libllfree_c.a

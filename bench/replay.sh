@@ -8,6 +8,7 @@
 # huge are the huge frames left free at the end, of CHILDREN, in the mean; refused are the takes refused by the four,
 # in all repeats. UNDER stands before the program, as in 'chrt -f 10'.
 set -eu
+unset CDPATH MAKEFLAGS MFLAGS
 here=$(cd "$(dirname "$0")" && pwd)
 top=$(dirname "$here")
 . "$here/progress.sh"

@@ -2,6 +2,7 @@
 # Measures `llfree run` file to file beside a plain Rust program that does the same text work.
 # It needs rustc and python3, and a built build/llfree. Each figure is the least of RUNS runs.
 set -eu
+unset CDPATH MAKEFLAGS MFLAGS
 here=$(cd "$(dirname "$0")" && pwd)
 . "$here/progress.sh"
 program=$here/../build/llfree

@@ -6,6 +6,7 @@
 # with ROUNDS rounds of PAIRS pairs a thread; each figure is the least of all rounds.
 # UNDER, which stands before the program: two_programs.sh
 set -eu
+unset CDPATH MAKEFLAGS MFLAGS
 here=$(cd "$(dirname "$0")" && pwd)
 top=$(dirname "$here")
 pairs=${PAIRS:-50000}

@@ -44,6 +44,8 @@ NONE = 0xffffffff
 NOBODY = 255
 COLOURS, LAYERS = 8, 17
 CHUNK = 1 << 22
+# what another make has said to what it calls
+TOLD_TO_MAKE = 'CDPATH', 'MAKEFLAGS', 'MFLAGS', 'GNUMAKEFLAGS'
 CALLS = 'open', 'take', 'give', 'split', 'free_frames', 'free_huge', 'close'
 NAMES = ('LLFree', 'buddy with per-CPU lists', 'buddy', 'as recorded')
 
@@ -61,6 +63,24 @@ def shows(text):
 # The recording
 
 
+class Perf:
+    """What perf reads of a file of its own."""
+
+    def __init__(self, name):
+        if shutil.which('perf') is None:
+            raise Fault("what perf recorded is read by perf, which is not here: Debian's package is linux-perf")
+        self.errors = tempfile.TemporaryFile()
+        self.process = subprocess.Popen(['perf', 'script', '-i', name], stdout=subprocess.PIPE, stderr=self.errors)
+
+    def read(self, size):
+        more = self.process.stdout.read(size)
+        if not more and self.process.wait():
+            self.errors.seek(0)
+            said = self.errors.read().decode('utf-8', 'replace').split('\n')
+            raise Fault(f'perf ended with status {self.process.returncode}: {" ".join(filter(None, said))[:300]}')
+        return more
+
+
 def opened(name):
     """The lines of a recording, as bytes."""
     try:
@@ -72,9 +92,8 @@ def opened(name):
     if start == b'PERFILE2':
         if name == '-':
             raise Fault('a perf.data file has to be named, for perf reads it itself')
-        if shutil.which('perf') is None:
-            raise Fault("what perf recorded is read by perf, which is not here: Debian's package is linux-perf")
-        return subprocess.Popen(['perf', 'script', '-i', name], stdout=subprocess.PIPE, stderr=subprocess.DEVNULL).stdout
+        source.close()
+        return Perf(name)
     if start[:2] == b'\x1f\x8b':
         return gzip.open(source)
     return lzma.open(source) if start[:6] == b'\xfd7zXZ\0' else source
@@ -95,7 +114,7 @@ def chunks(source):
 
 
 def events(source):
-    """Columns of events, a chunk of lines at a time: microseconds, frames, processors, orders, and whether allocated."""
+    """Columns of events, a chunk of lines at a time: microseconds, frames, processors, orders, is it allocated."""
     count = 0
     try:
         for lines in chunks(source):
@@ -116,8 +135,9 @@ def events(source):
 # The allocators, in C
 
 
-def run(words, folder=None):
-    done = subprocess.run(words, cwd=folder, stdout=sys.stderr.fileno(), check=False)
+def run(words):
+    told = {name: value for name, value in os.environ.items() if name not in TOLD_TO_MAKE}
+    done = subprocess.run(words, env=told, stdin=subprocess.DEVNULL, stdout=sys.stderr.fileno(), check=False)
     if done.returncode:
         raise Fault(f'{os.path.basename(words[0])} ended with status {done.returncode}')
 
@@ -145,8 +165,8 @@ def replayer(folder):
 
 
 def llfree(folder):
-    """The library: the one that LLFREE_SO names; else the repository's, where it is built; else the one that is installed;
-    else the repository's, which is proved and built then."""
+    """The library: the one that LLFREE_SO names; else the repository's, where it is built; else the one that is
+    installed; else the repository's, which is proved and built then."""
     archive = os.path.join(TOP, 'build', 'libllfree_c.a')
     if 'LLFREE_SO' in os.environ or not os.path.exists(archive):
         try:
@@ -154,6 +174,8 @@ def llfree(folder):
         except OSError as error:
             if 'LLFREE_SO' in os.environ:
                 raise Fault(f'LLFREE_SO: {error}') from error
+    if shutil.which('make') is None:
+        raise Fault("there is no make, which proves and builds the library: Debian's package is make")
     run(['make', '-s', '-C', TOP, 'library'])
     made = os.path.join(folder, 'libllfree.so')
     run([compiler(), '-O2', '-fPIC', '-shared', '-o', made, '-Wl,--whole-archive', archive, '-Wl,--no-whole-archive',
@@ -175,7 +197,6 @@ class Replay:
 
     def __init__(self, source, given, folder):
         self.code = replayer(folder)
-        self.library = llfree(folder)
         self.at = ctypes.c_void_p(self.code.recording_open(int(given.begin * 1e6), given.processors))
         if not self.at:
             raise Fault('there is no memory for the recording')
@@ -198,6 +219,8 @@ class Replay:
         self.window = int(given.begin * 1e6) if self.begin else 0
         self.frames = FRAMES_OF_MIB * (given.mib or self.mib())
         self.where, self.children, self.huge = [], [], []
+        # a recording is read first: the library may have to be built, which takes minutes
+        self.library = llfree(folder)
         self.place()
 
     def follow(self, columns, first, end):
@@ -249,7 +272,7 @@ class Replay:
     # What is seen
 
     def state(self, place, until):
-        """Of each frame in an allocator, after the steps before one: the processor that took it, its order, and when."""
+        """Of each frame in an allocator, before a step: the processor that took it, its order, and when."""
         frames = self.children[place] * CHILD_FRAMES
         who, order, since = column('B', frames), column('B', frames), column('I', frames)
         if not self.code.state_at(self.at, pointer(self.where[place]), self.begin, until, self.children[place],
@@ -302,7 +325,7 @@ def differences(values):
 
 
 def steps(replay):
-    """All takes and gives: times, marks, processors; of gives what they give; of takes where they lie in each allocator."""
+    """All takes and gives: times, marks, processors; of gives what they give; of takes where they lie in each."""
     micros, marks, processors, back, parts = replay.columns()
     gives = [at for at, mark in enumerate(marks) if mark < 16]
     takes = [at for at, mark in enumerate(marks) if mark >= 16]
@@ -340,7 +363,8 @@ def page(replay, given):
     is_film = bool(given.film) or (count > MOST_STEPS and not given.all)
     kept = sum(mark >> 4 == 2 for mark in replay.columns()[1])
     said = {'title': given.title, 'film': is_film, 'count': count, 'kept': kept, 'frames': replay.frames,
-            'processors': replay.processors, 'names': NAMES, 'children': replay.children, 'begin': begin, 'micros': replay.micros - begin}
+            'processors': replay.processors, 'names': NAMES, 'children': replay.children, 'begin': begin,
+            'micros': replay.micros - begin}
     if is_film:
         times = times_of(replay, begin, int((given.film or 0) * 1000))
         said['pictures'] = len(times)
@@ -377,7 +401,8 @@ def tell(replay, given):
     if replay.parts:
         print(f'{replay.parts:9,} gives of parts of blocks', file=sys.stderr)
     if replay.unknown:
-        print(f'{replay.unknown:9,} frames that were freed, but allocated before the recording: left out', file=sys.stderr)
+        print(f'{replay.unknown:9,} frames that were freed, but allocated before the recording: left out',
+              file=sys.stderr)
     if replay.left_out:
         print(f'{replay.left_out:9,} allocations that the kernel refused, and orders that no kernel has: left out',
               file=sys.stderr)
@@ -394,9 +419,11 @@ def arguments(words=None):
     parser = argparse.ArgumentParser(description=__doc__.split('\n\n', maxsplit=1)[0])
     parser.add_argument('recording', help='a file, or - for standard input')
     parser.add_argument('--still', type=float, metavar='SECONDS', help='a picture (SVG) of that moment, and no page')
-    parser.add_argument('--begin', type=float, default=0, metavar='SECONDS', help='a window of the recording begins there')
+    parser.add_argument('--begin', type=float, default=0, metavar='SECONDS',
+                        help='a window of the recording begins there')
     parser.add_argument('--end', type=float, metavar='SECONDS', help='and ends there')
-    parser.add_argument('--mib', type=int, help=f'the memory, up to {MOST_MIB}; as much as is needed where it is left out')
+    parser.add_argument('--mib', type=int,
+                        help=f'the memory, up to {MOST_MIB}; as much as is needed where it is left out')
     parser.add_argument('--processors', type=int, default=MOST_PROCESSORS,
                         help=f'what processor C took, processor C modulo PROCESSORS did, 1 to {MOST_PROCESSORS}')
     parser.add_argument('--film', type=float, metavar='MILLISECONDS',

@@ -109,7 +109,7 @@ class Browser:
             raise OSError(f'{text}: {made["exceptionDetails"].get("exception", {}).get("description")}')
         return made['result'].get('value')
 
-    def show(self, url, width=1280, height=900, is_dark=False, until="document.documentElement?.dataset.ready === 'yes'"):
+    def show(self, url, width=1280, height=900, is_dark=False):
         """Opens a page, and waits until it is there."""
         self.call('Emulation.setDeviceMetricsOverride', width=width, height=height, deviceScaleFactor=1, mobile=False)
         scheme = {'name': 'prefers-color-scheme', 'value': 'dark' if is_dark else 'light'}
@@ -117,7 +117,7 @@ class Browser:
         self.call('Page.navigate', url=url)
         for _ in range(600):
             self.wait(0.1)
-            if self.value(f'location.href === {json.dumps(url)} && {until}'):
+            if self.value(f"location.href === {json.dumps(url)} && document.documentElement?.dataset.ready === 'yes'"):
                 return
         raise OSError(f'{url} is not ready after a minute')
 

@@ -1,14 +1,16 @@
 #!/usr/bin/env python3
-"""Tries tools/play.py on the recordings of the repository: the page's bytes, its states beside the program's own images,
-windows, refusals, the allocators beside the library, and the page itself in headless Chromium. tools/play.sh runs this.
+"""Tries tools/play.py on the recordings of the repository: the page's bytes, its states beside the library's images,
+windows, refusals, the allocators beside it, and the page itself in headless Chromium. tools/play.sh runs this.
 
     checks.py [PROGRAM] [--renew] [--pictures FOLDER]
 """
 import argparse
 import base64
-import contextlib
+import collections
+import functools
+import gzip
 import hashlib
-import io
+import lzma
 import os
 import random
 import re
@@ -22,9 +24,11 @@ TOOLS = os.path.dirname(HERE)
 TOP = os.path.dirname(TOOLS)
 sys.path[:0] = [TOOLS, HERE]
 import browser  # noqa: E402 pylint: disable=wrong-import-position
+import image_diff  # noqa: E402 pylint: disable=wrong-import-position
 import kernel_trace  # noqa: E402 pylint: disable=wrong-import-position
 import play  # noqa: E402 pylint: disable=wrong-import-position
 import records  # noqa: E402 pylint: disable=wrong-import-position
+import witness  # noqa: E402 pylint: disable=wrong-import-position
 
 EXAMPLES = os.path.join(TOP, 'examples', 'replay')
 KERNEL = os.path.join(EXAMPLES, 'kernel-events.txt.gz')
@@ -36,7 +40,7 @@ PAGES = {'kernel': [KERNEL, '--title', 'Linux 6.18, compilers and shells'],
          'film': [KERNEL, '--film', '20', '--title', 'Linux 6.18, compilers and shells'],
          'window': [KERNEL, '--begin', '0.2', '--end', '0.4', '--title', 'Linux 6.18, a window']}
 PICTURE = [COMPILE, '--still', '1', '--title', 'Four compilers on 4 processors']
-MOMENTS = 0.2, 0.35, 0.55
+MOMENTS = {'kernel': (0.2, 0.35, 0.55), 'compile': (0.9,), 'window': (0.3,), 'parts': (0.1, 0.25, 0.4)}
 WIDTHS = 1280, 400
 counts = {'passed': 0, 'failed': 0}
 
@@ -88,7 +92,8 @@ def pages(folder, is_renewed):
         found[name] = sum_of(page)
         tries(f'the page {name} a second time', made(words)[0] == page)
         if not is_renewed:
-            tries(f'the page {name}: its bytes', sums.get(name) == found[name], f'another sum, {found[name]}: by other answers? tools/play.sh --renew lays it down')
+            tries(f'the page {name}: its bytes', sums.get(name) == found[name],
+                  f'another sum, {found[name]}: by other answers? tools/play.sh --renew lays it down')
         outside = re.findall(rb'(?:src|href)=|https?://|@import|url\(', page.replace(data_of(page), b''))
         tries(f'the page {name}: nothing of the network', not outside, outside)
     picture, said, status = made(PICTURE)
@@ -105,42 +110,126 @@ def pages(folder, is_renewed):
 # States
 
 
-def image_of(program, words, lines):
-    """The program's own image after these events on one core."""
-    trace = []
-    converter = kernel_trace.Converter(1, 10_000, 1, trace.append)
-    with contextlib.redirect_stderr(io.StringIO()):
-        kernel_trace.convert(lines, converter)
-    done = subprocess.run([program, 'image', *words], input=''.join(trace).encode(), capture_output=True, check=True)
-    return records.image_of(done.stdout)
+@functools.lru_cache(maxsize=None)
+def events_of(name):
+    """The events of a recording as the witness reads it, each with its time since the first allocation, or that of the
+    one before it where that is later."""
+    with (lzma if name.endswith('.xz') else gzip).open(name, 'rt') as lines:
+        events = [event for event in map(witness.event_of, lines) if event]
+    began, now, made = next(time for time, _, is_alloc, *_ in events if is_alloc), 0, []
+    for time, *rest in events:
+        now = max(now, time - began)
+        made.append((now, rest))
+    return made
 
 
-def bits_of(who, child):
-    return sum(1 << place for place, one in enumerate(who[512 * child:512 * child + 512]) if one != play.NOBODY)
+def page_of(name, folder):
+    with open(os.path.join(folder, f'{name}.html'), 'rb') as text:
+        return witness.Page(text.read())
+
+
+def followed(events, micros, library, said):
+    other = witness.Witness(library, said['frames'], said['processors'])
+    for time, event in events:
+        if time > micros:
+            break
+        other.follow(*event)
+    return other
+
+
+def held_in(program, image):
+    """Of each frame whether it is held in an image that the program rebuilds."""
+    done = subprocess.run([program, 'rebuild'], input=image.encode(), capture_output=True, check=True)
+    rebuilt = records.image_of(done.stdout)
+    bits = [image_diff.held_of(rebuilt, child) for child in range(rebuilt.children)]
+    return [bool(word >> place & 1) for word in bits for place in range(512)]
+
+
+def is_held(who):
+    return [one != play.NOBODY for one in who]
+
+
+def amounts(who, order):
+    """How many frames each processor has of each order."""
+    counts_of = collections.Counter(zip(who, order))
+    return {pair: count for pair, count in counts_of.items() if pair[0] != play.NOBODY}
+
+
+def in_parts():
+    """A recording in which blocks are freed in parts, and allocated where they are out still."""
+    number = random.Random(9)
+    for at in range(4_000):
+        kind, order = number.choice(('alloc', 'free', 'free')), number.choice((0, 0, 1, 2, 3, 5, 9, 10))
+        frame = 0x40000 + (number.randrange(8192) >> order << order)
+        yield (f'x 1 [{number.randrange(4):03d}] 1.{at * 100:06d}: kmem:mm_page_{kind}: page=0 pfn={frame:#x} '
+               f'order={order} migratetype=0\n')
 
 
 def states(program, folder):
-    """At three moments as many frames are held, of one processor, as the program itself has in its image. Where they lie
-    may differ: the library's zones begin a search at the last find, and the program does not."""
-    with play.gzip.open(KERNEL, 'rt') as text:
-        lines = text.readlines()
-    times = [event.time if event else None for event in map(kernel_trace.event_of, lines)]
-    first = next(time for time in times if time is not None)
-    replay = replay_of([KERNEL, '--processors', '1', '--mib', '64'], folder)
-    for moment in MOMENTS:
-        until = [line for line, time in zip(lines, times) if time is not None and time - first <= moment * 1e6]
-        image = image_of(program, ['32', '1'], until)
-        who = replay.state(0, replay.step_at(moment))[0]
-        held = sum(512 if image.huge[child] else image.words[child].bit_count() for child in range(32))
-        tries(f'the state after {moment} s', sum(bits_of(who, child).bit_count() for child in range(32)) == held)
-        tries(f'the state after {moment} s: something is held', held)
+    """A page has the very frames that the program finds held in the library's own image, after a replay beside it
+    (witness.py), by the same processors and orders. A block in a wrong place is seen."""
+    library, parts = play.llfree(folder), os.path.join(folder, 'parts.gz')
+    with gzip.open(parts, 'wt') as out:
+        out.writelines(in_parts())
+    with open(os.path.join(folder, 'parts.html'), 'wb') as out:
+        out.write(made([parts, '--mib', '64'])[0])
+    for name, moments in MOMENTS.items():
+        words = PAGES.get(name, [parts, '--mib', '64'])
+        try:
+            page, replay, events = page_of(name, folder), replay_of(words, folder), events_of(words[0])
+            for moment in moments:
+                other = followed(events, int(moment * 1e6), library, page.said)
+                state(name, moment, page, replay, program, other)
+        except (witness.Wrong, play.Fault, records.Refused, subprocess.CalledProcessError) as error:
+            tries(f'the states of {name}', False, error)
+
+
+def films(program, folder):
+    """A picture of a film has of each huge frame what the library's image and the witness say."""
+    library, events = play.llfree(folder), events_of(PAGES['film'][0])
+    with open(os.path.join(folder, 'film.html'), 'rb') as text:
+        page = witness.Film(text.read())
+    for moment in MOMENTS['kernel']:
+        picture, micros = page.picture_at(int(moment * 1e6))
+        try:
+            other = followed(events, micros, library, page.said)
+            tries(f'the film after {moment} s: the image', is_held(other.who) == held_in(program, other.image()))
+            shown = page.shown(0, picture)
+            tries(f'the film after {moment} s', shown == witness.film_of(other.who, page.said['processors']), shown[0])
+        except (witness.Wrong, records.Refused, subprocess.CalledProcessError) as error:
+            tries(f'the film after {moment} s', False, error)
+
+
+def state(name, moment, page, replay, program, other):
+    def agrees(what, is_right):
+        tries(f'{name} after {moment} s: {what}', is_right)
+    time = int(moment * 1e6) - page.said['begin']
+    held = held_in(program, other.image())
+    agrees('something is held', sum(held) > 500)
+    agrees("the witness's frames are those of the image", is_held(other.who) == held)
+    found = [page.state(place, time) for place in range(4)]
+    agrees('the frames of the image', is_held(found[0][0]) == held)
+    agrees('who took them', found[0][0] == other.who)
+    if not page.said['kept']:
+        agrees('their orders', all(mine == its for mine, its, is_out in zip(found[0][1], other.order, held) if is_out))
+    agrees('the recorded frames', page.recorded(found[3][0]) == other.recorded())
+    wanted = amounts(*found[0])
+    for place in range(4):
+        drawn = bytes(replay.state(place, replay.step_at(moment))[0])
+        agrees(f'the picture of {play.NAMES[place]}', drawn == found[place][0])
+        agrees(f'as much in {play.NAMES[place]}', amounts(*found[place]) == wanted)
+    # the check sees what it is for
+    right = page.memories[0]
+    page.memories[0] = page.with_a_block_moved(0, time)
+    agrees('a block in a wrong place is seen', is_held(page.state(0, time)[0]) != held)
+    page.memories[0] = right
 
 
 def in_turn(replay):
-    """The steps of a recording as a trace in which each is a round, so that its answers depend on no schedule; and by
-    record where the page has the blocks that are taken."""
+    """The steps of a recording as a trace in which each is a round, so that its answers depend on no schedule; and the
+    records whose takes have a block in the page."""
     _, marks, processors, back, _ = replay.columns()
-    rows, wanted, under = [], {}, {}
+    rows, wanted, under = [], set(), {}
     labels = kernel_trace.Labels()
     for at, (mark, processor) in enumerate(zip(marks, processors)):
         if at:
@@ -148,7 +237,8 @@ def in_turn(replay):
         if mark >= 16:
             under[at] = labels.new(), processor
             rows.append(f'{processor},take,{under[at][0]},{mark & 15}')
-            wanted[len(rows)] = replay.where[0][at]
+            if replay.where[0][at] != play.NONE:
+                wanted.add(len(rows))
             continue
         label, core = under.pop(at - back[at])
         if core != processor:
@@ -159,15 +249,14 @@ def in_turn(replay):
 
 
 def answers(program, folder):
-    """On several cores, one after the other, the program takes what the page has taken, and each block lies in its place."""
+    """On several cores, one after the other, the program has a block for each take that has one in the page. Where, may
+    differ: the program searches from the beginning, the library's zones from their last find on."""
     replay = replay_of([KERNEL, '--end', '0.1', '--mib', '128'], folder)
     trace, wanted = in_turn(replay)
     words = [program, 'run', str(replay.frames // 512), str(replay.processors)]
     done = subprocess.run(words, input=trace.encode(), capture_output=True, check=False)
     found = {int(line.partition(',')[0]) for line in done.stdout.decode().splitlines() if line.split(',')[2] == 'Taken'}
-    tries(f'the answers on {replay.processors} cores', len(wanted) > 1000 and found == wanted.keys())
-    rows = trace.splitlines()
-    tries('blocks in their places', not any(frame % 2 ** int(rows[record - 1].split(',')[3]) for record, frame in wanted.items()))
+    tries(f'the answers on {replay.processors} cores', len(wanted) > 1000 and found == wanted)
 
 
 def own_counts(folder):
@@ -199,7 +288,7 @@ def windows(folder):
 
 
 def trace_windows():
-    """A window of a trace begins with takes of all that is out, also where that is most of it; or says that it cannot."""
+    """A window of a trace begins with takes of all that is out, also where that is most of it; or says it cannot."""
     kernel_trace.MOST_RECORDS, kernel_trace.SLICE_RECORDS, old = 20_000, 1_000, (kernel_trace.MOST_RECORDS,
                                                                                   kernel_trace.SLICE_RECORDS)
 
@@ -213,7 +302,8 @@ def trace_windows():
     try:
         rows = window(2, 15_000)
         takes = [row for row in rows[:14_999] if ',take,' in row]
-        tries('a window of a trace with most of it held', len(takes) == 14_999 and 15_500 < len(rows) <= 20_000, len(rows))
+        tries('a window of a trace with most of it held', len(takes) == 14_999 and 15_500 < len(rows) <= 20_000,
+              len(rows))
         try:
             window(2, 19_000)
             tries('a window of a trace without room', False)
@@ -333,8 +423,8 @@ def in_browser(folder, pictures):
                         tries(f'{name} at {width} points', False, error)
         try:
             moments(one, folder)
-        except (OSError, KeyError) as error:
-            tries('the page at three moments', False, error)
+        except (OSError, KeyError, witness.Wrong) as error:
+            tries('the pages at three moments', False, error)
         tries('errors in the pages', not one.errors, one.errors[:3])
         asked = [url for url in one.requests if not url.startswith(('file:', 'about:', 'data:'))]
         tries('the network', not asked, asked[:3])
@@ -342,23 +432,22 @@ def in_browser(folder, pictures):
         one.close()
 
 
-def moments(page, folder):
-    """At three moments the page has the state that was checked against the program's image."""
-    words = [KERNEL, '--processors', '1', '--mib', '64']
-    file = os.path.join(folder, 'one.html')
-    with open(file, 'wb') as out:
-        out.write(made(words)[0])
-    page.show(f'file://{file}')
-    replay = replay_of(words, folder)
-    for moment in reversed(MOMENTS):
-        page.value(f'seek({moment * 1e6})')
-        for place in range(4):
-            who = replay.state(place, replay.step_at(moment))[0]
-            tries(f'the page after {moment} s: {play.NAMES[place]}', who_in_page(page, place) == who_in_state(who))
+def moments(shown, folder):
+    """In the browser a page has the states that were held against the library's image."""
+    for name, moments_of in MOMENTS.items():
+        shown.show(f'file://{os.path.join(folder, name)}.html')
+        page = page_of(name, folder)
+        for moment in reversed(moments_of):
+            time = int(moment * 1e6) - page.said['begin']
+            shown.value(f'seek({time})')
+            for place in range(4):
+                tries(f'{name} in the browser after {moment} s: {play.NAMES[place]}',
+                      who_in_page(shown, place) == who_in_state(page.state(place, time)[0]))
 
 
 def choose(name, value):
-    return f"(one => {{ one.value = '{value}'; one.dispatchEvent(new Event('change')); }})(document.getElementById('{name}'))"
+    change = f"one.value = '{value}'; one.dispatchEvent(new Event('change'));"
+    return f"(one => {{ {change} }})(document.getElementById('{name}'))"
 
 
 def plays(page, name, folder, width, is_dark, pictures):
@@ -442,6 +531,7 @@ def main():
         pages(folder, given.renew)
         if given.program and os.access(given.program, os.X_OK):
             states(given.program, folder)
+            films(given.program, folder)
             answers(given.program, folder)
         else:
             tries(f'{given.program}: not built', False)

@@ -1,6 +1,6 @@
-/* Replays a recording of page frames for tools/play.py, which compiles this with bench/c/peers.c and calls it by ctypes:
+/* Replays a recording of page frames for tools/play.py, which compiles it with bench/c/peers.c and calls it by ctypes:
  * what was taken and given (recording_follow), where the blocks lie in the library and in its peers (replay_library,
- * replay_peer) and in the recorded machine itself (replay_recorded), and what is to be seen of that (state_at, film). */
+ * replay_peer) and in the recorded machine (replay_recorded), and what is to be seen of that (state_at, film). */
 #include "llfree.h"
 #include "peers.h"
 #include <stdbool.h>
@@ -230,7 +230,7 @@ void recording_close(struct recording *of)
     free(of);
 }
 
-/* Events in their order. A frame is allocated where it is out still: it was freed in between, and that was not recorded. */
+/* Events in their order. A frame that is allocated while it is out was freed in between, and that was not recorded. */
 void recording_follow(struct recording *of, size_t count, const uint64_t *micros, const uint64_t *frames,
                       const uint32_t *processors, const uint8_t *orders, const uint8_t *is_alloc)
 {
@@ -373,8 +373,8 @@ static bool library_giving(void *state, uint32_t processor, uint32_t frame, uint
     return library->give(core, frame, order) == LLFREE_OK;
 }
 
-/* With a core for each processor. Free are the frames and huge frames that the library counts as free at the end. Answers
- * the status of the opening, or NONE where a give was refused. */
+/* With a core for each processor. Free are the frames and huge frames that the library counts as free at the end.
+ * Answers the status of the opening, or NONE where a give was refused. */
 uint32_t replay_library(const struct recording *of, void *const calls[7], uint32_t frames, uint32_t *where,
                         uint32_t free_at_end[2])
 {

@@ -1,12 +1,12 @@
-"""A moment of a recording as an SVG, for tools/play.py: where frames lie in LLFree, behind lists for each processor, and in
-the recorded machine."""
+"""A moment of a recording as an SVG, for tools/play.py: where frames lie in LLFree, behind lists for each processor,
+and in the recorded machine."""
 import math
 from xml.sax.saxutils import escape
 
 CHILD_FRAMES, NOBODY = 512, 255
 PANELS = (0, 1, 3)
 PANEL, GAP, MARGIN = 272, 20, 14
-# a memory of few tiles shows each frame, one of many how its tiles are shared: their size in points, with an edge of one
+# a memory of few tiles shows each frame, one of many how its tiles are shared: their size in points, without their edge
 FRAMES, SHARES = (32, 16), (16, 8)
 MOST_WITH_FRAMES = 160
 LIGHT = ('#2f6fb0', '#e08a1e', '#3f8f52', '#8a54b0', '#c43c5a', '#5d6672', '#0f8b8d', '#a06a2c')
@@ -16,9 +16,10 @@ DARK = ('#6cb0f0', '#f2b04c', '#7fd08f', '#c79bf0', '#ff8fa3', '#9ca3af', '#4fd1
 def style():
     def colours(made):
         return ''.join(f'.p{place}{{stroke:{colour}}}.k{place}{{fill:{colour}}}' for place, colour in enumerate(made))
-    return ('<style>text{fill:#24292f;font-family:system-ui,"DejaVu Sans",Verdana,sans-serif}.soft{fill:#59636e}.free{fill:#eef1f4}'
-            f'.edge{{fill:#d0d7de}}{colours(LIGHT)}@media (prefers-color-scheme:dark){{text{{fill:#e6edf3}}.soft{{fill:#9198a1}}'
-            f'.free{{fill:#1c2128}}.edge{{fill:#30363d}}{colours(DARK)}}}</style>')
+    return ('<style>text{fill:#24292f;font-family:system-ui,"DejaVu Sans",Verdana,sans-serif}.soft{fill:#59636e}'
+            f'.free{{fill:#eef1f4}}.edge{{fill:#d0d7de}}{colours(LIGHT)}@media (prefers-color-scheme:dark)'
+            '{text{fill:#e6edf3}.soft{fill:#9198a1}.free{fill:#1c2128}.edge{fill:#30363d}'
+            f'{colours(DARK)}}}</style>')
 
 
 def across(children, size):
@@ -81,7 +82,8 @@ def edges(children, many, pitch):
     if children > MOST_WITH_FRAMES:
         return ''
     wide, high = many * pitch[0] + 1, -(-children // many) * pitch[1] + 1
-    lines = [f'M{x} 0h1v{high}h-1z' for x in range(0, wide, pitch[0])] + [f'M0 {y}h{wide}v1h-{wide}z' for y in range(0, high, pitch[1])]
+    lines = [f'M{x} 0h1v{high}h-1z' for x in range(0, wide, pitch[0])]
+    lines += [f'M0 {y}h{wide}v1h-{wide}z' for y in range(0, high, pitch[1])]
     return f'<path class="edge" d="{"".join(lines)}"/>'
 
 
@@ -101,13 +103,14 @@ def svg(replay, given, names, until):
         shared, used = shares(who.tobytes(), replay.children[one])
         body.append(f'<text x="{left}" y="{top - 8}" font-size="15" font-weight="600">{names[one]}</text>')
         body += [f'<g transform="translate({left} {top})">', *made, '</g>']
-        body.append(f'<text x="{left}" y="{top + high + 23:.0f}" font-size="17" font-weight="700">{shared:,} of {used:,}'
-                    f'<tspan dx="6" font-size="13.5" font-weight="400">huge frames shared</tspan></text>')
+        body.append(f'<text x="{left}" y="{top + high + 23:.0f}" font-size="17" font-weight="700">'
+                    f'{shared:,} of {used:,}<tspan dx="6" font-size="13.5" font-weight="400">huge frames shared</tspan>'
+                    '</text>')
         bottom = max(bottom, top + high + 36)
-    words = (f'{given.title}, after {given.still:g} s: {replay.held(until) / 256:,.0f} MiB held, each frame in the colour of the '
-             'processor that took it')
-    yield (f'<svg xmlns="http://www.w3.org/2000/svg" width="{wide}" height="{bottom:.0f}" viewBox="0 0 {wide} {bottom:.0f}" '
-           'role="img" fill="none">')
+    words = (f'{given.title}, after {given.still:g} s: {replay.held(until) / 256:,.0f} MiB held, each frame in the '
+             'colour of the processor that took it')
+    size = f'width="{wide}" height="{bottom:.0f}" viewBox="0 0 {wide} {bottom:.0f}"'
+    yield f'<svg xmlns="http://www.w3.org/2000/svg" {size} role="img" fill="none">'
     yield f'<title>{escape(words)}</title>'
     yield style()
     yield f'<text x="{MARGIN}" y="26" font-size="17" font-weight="600">Where a kernel’s page frames lie</text>'
