@@ -184,9 +184,8 @@ class Build:
         write(f'{stage}/HANDLES', self.allowed)
         write(f'{stage}/crates.txt', ''.join(f'{self.line[it]}\n' for it in [*below, name]))
         key, rt = self.key(name, new), self.rt()
-        # the crate with the longest chain above it has all processors, and the others what it leaves
-        jobs = slots if all(chain[it] <= chain.get(name, 0) for it in left_of(lines, begin)) else 1
-        os.nice(0 if jobs == slots else 5)
+        # the crate with the longest chain above it goes first, and the others have what it leaves
+        os.nice(0 if all(chain[it] <= chain.get(name, 0) for it in left_of(lines, begin)) else 5)
 
         class Crate(rt.Crate):
             """What an archive is compiled from stays, and programs are compiled by LLVM alone."""
@@ -203,7 +202,7 @@ class Build:
             for it in below:
                 os.makedirs(f'{stage}/crates/{it}/out')
                 os.symlink(f'{ROOM}/{it}/out/rlib', f'{stage}/crates/{it}/out/rlib')
-            proved.append(tasks[name, 'proof'][3](dict.fromkeys(((it, 'proof') for it in below), True), jobs))
+            proved.append(tasks[name, 'proof'][3](dict.fromkeys(((it, 'proof') for it in below), True), slots))
             sys.exit()
 
         rt.Crate, rt.in_lanes = Crate, alone
