@@ -1,5 +1,5 @@
-//! Measures pairs of a take and a give on a shared table; with the word `allocator` first, takes and
-//! gives of a whole memory, and with the word `zones` of one of many zones. The other words are the
+//! Measures pairs of a take and a give on a shared table. With the word `allocator` first it measures
+//! takes and gives of a whole memory, with the word `zones` those of many zones. The other words are the
 //! pairs of a thread and the rounds, of which the fastest counts; with no words it prints nothing.
 #![tactic(auto)]
 
