@@ -298,7 +298,7 @@ enum llfree_status llfree_open_zones_unchecked(llfree_core *handles, size_t core
                                                size_t range_count);
 
 /* Takes a block of the order into an empty struct. On failure the struct is unchanged and nothing more is held:
- * NO_BLOCK, BAD_ORDER and CLOSED_HANDLE as llfree_take; CONTENDED only if another core won a race; OPEN_HANDLE
+ * NO_BLOCK, BAD_ORDER and CLOSED_HANDLE as llfree_take. CONTENDED only if another core won a race, OPEN_HANDLE
  * if the struct holds a block. It works with cores of llfree_open too; such a block is not on their list. */
 LLFREE_NODISCARD
 enum llfree_status llfree_take_block(llfree_core *handle, uint8_t order, llfree_block *block);

@@ -31,7 +31,7 @@ private:
 
 class block;
 
-// An allocator of so many frames, with 1 to 64 cores.
+// An allocator of this many frames, with 1 to 64 cores.
 class memory {
 public:
     // The frames of the ranges, which are sorted, are never given out. Throws refused.
