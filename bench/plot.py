@@ -3,15 +3,16 @@
 recording that is replayed, how many takes and gives.
 
     bench/plot.py bench/results/FILE [--only GROUP ..] [--slide] > PLOT.svg
-    bench/plot.py --measure allocator|c|pairs|phases|replay [--only GROUP ..] > PLOT.svg
+    bench/plot.py --measure allocator|c|pairs|paper|replay [--only GROUP ..] > PLOT.svg
 
 A file of bench/results has lines `# machine:`, `# date:`, `# method:` and then the table as the script prints it,
-with a line for each number of threads. A group is an order, or a kind of work, trees or a phase and an order
+with a line for each number of threads; of bench/paper.sh's csv the phases are drawn. A group is an order, or a kind of work, trees or a phase and an order
 (`random,mixed`, `one tree,0`, `take,9`); with none named all are drawn. The plot is for light and dark pages. With
 --slide it has no line on machine and method, which belongs beside it then. --measure runs the script first, which takes
 its time, and lays down such a file, a new one at each run.
 """
 import argparse
+import csv
 import datetime
 import math
 import os
@@ -62,9 +63,20 @@ def cells_of(text):
     return [(match[0], match.end()) for match in re.finditer(r'\S+(?: ns)?', text)]
 
 
+def phases_of(table):
+    """The phases of bench/paper.sh, as a table has them."""
+    for row in csv.DictReader(table):
+        if row['benchmark'] == 'phases':
+            figures = {f'{column} ns': row[column] for column, *_ in ALLOCATORS if row.get(column)}
+            yield {'threads': row['threads'], 'phase': row['case'], 'order': row['order'], **figures}
+
+
 def rows_of(table):
     """The rows of a table, each a cell by the name of its column. The columns are flush right, but for the first, which
     alone may have two words."""
+    if table[0].startswith('benchmark,'):
+        yield from phases_of(table)
+        return
     head, *lines = table
     ends = {end: name for name, end in cells_of(head)}
     first = cells_of(head)[0][0]
@@ -242,7 +254,7 @@ def unused(name, day):
     """A file of bench/results for a measurement: the second of a day has its number behind the day."""
     numbers = [''] + [f'-{number}' for number in range(2, 100)]
     for number in numbers:
-        file = os.path.join(HERE, 'results', f'{name}-{day}{number}.txt')
+        file = os.path.join(HERE, 'results', f'{name}-{day}{number}.{"csv" if name == "paper" else "txt"}')
         if not os.path.exists(file):
             return file
     raise Fault(f'bench/results has {len(numbers)} measurements {name} of {day}')
@@ -281,7 +293,7 @@ def text_of(given):
 def main():
     parser = argparse.ArgumentParser(description=__doc__.split('\n', maxsplit=1)[0])
     parser.add_argument('file', nargs='?', help='a file of bench/results; standard input where none is named')
-    parser.add_argument('--measure', choices=('allocator', 'c', 'pairs', 'phases', 'replay'), help='measure first')
+    parser.add_argument('--measure', choices=('allocator', 'c', 'pairs', 'paper', 'replay'), help='measure first')
     parser.add_argument('--slide', action='store_true', help='without the line on machine and method')
     parser.add_argument('--only', nargs='+', metavar='GROUP', help="as '0', or 'pairs,0'")
     given = parser.parse_args()

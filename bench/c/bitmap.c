@@ -2,14 +2,16 @@
 #include "locked.h"
 #include <pthread.h>
 #include <stdbool.h>
+#include <string.h>
 
-enum { WORD = 64, WORDS = FRAMES / WORD, WORD_ORDER = 6 };
+enum { WORD = 64, MOST_WORDS = MOST_FRAMES / WORD, WORD_ORDER = 6 };
 
 static struct {
     _Alignas(128) pthread_mutex_t lock;
     uint32_t first; /* all words below are full */
-    uint64_t words[WORDS];
-} held = { .lock = PTHREAD_MUTEX_INITIALIZER };
+    uint32_t count; /* of words */
+    uint64_t words[MOST_WORDS];
+} held = { .lock = PTHREAD_MUTEX_INITIALIZER, .count = FRAMES / WORD };
 
 static uint64_t mask(uint8_t order)
 {
@@ -27,7 +29,7 @@ static uint32_t clear_run(uint64_t word, uint8_t order)
 
 static uint32_t take_bits(uint8_t order)
 {
-    for (uint32_t i = held.first; i < WORDS; i++) {
+    for (uint32_t i = held.first; i < held.count; i++) {
         uint32_t bit = order == 0 && ~held.words[i] ? (uint32_t)__builtin_ctzll(~held.words[i])
                                                     : clear_run(held.words[i], order);
         if (bit < WORD) {
@@ -56,7 +58,7 @@ static uint32_t take_words(uint8_t order)
 {
     uint32_t count = 1u << (order - WORD_ORDER);
 
-    for (uint32_t i = held.first / count * count; i < WORDS; i += count)
+    for (uint32_t i = held.first / count * count; i < held.count; i += count)
         if (is_clear(i, count)) {
             fill(i, count, ~0ull);
             return WORD * i;
@@ -64,10 +66,17 @@ static uint32_t take_words(uint8_t order)
     return NONE;
 }
 
+void bitmap_open(uint32_t frames)
+{
+    held.first = 0;
+    held.count = frames / WORD;
+    memset(held.words, 0, sizeof held.words);
+}
+
 uint32_t bitmap_take(uint8_t order)
 {
     pthread_mutex_lock(&held.lock);
-    while (held.first < WORDS && !~held.words[held.first])
+    while (held.first < held.count && !~held.words[held.first])
         held.first++;
     uint32_t frame = order <= WORD_ORDER ? take_bits(order) : take_words(order);
     pthread_mutex_unlock(&held.lock);
