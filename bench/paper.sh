@@ -41,7 +41,7 @@ runs() {
 phases() {
     for threads in 1 2 4; do
         runs phases $((8 * gib)) $threads 0 "$rounds"
-        runs phases $((8 * gib)) $threads 9 "$rounds"
+        runs phases $((8 * gib)) $threads 9 $((3 * rounds)) # they are short
     done
 }
 levels() {
@@ -67,11 +67,11 @@ tails() {
     done
 }
 climb() {
-    for threads in 1 4; do
-        runs climb $((8 * gib)) $threads 0 2
-        runs climb $((64 * gib)) $threads 0 2
-        runs climb $((64 * gib)) $threads 9 2
+    for threads in 1 2 4; do
+        runs climb $((8 * gib)) $threads 0 "$rounds"
+        runs climb $((64 * gib)) $threads 0 "$rounds"
     done
+    for threads in 1 4; do runs climb $((64 * gib)) $threads 9 2; done
 }
 refusals() { for held in 500 900; do runs refusals $((8 * gib)) $held 40 2; done; }
 

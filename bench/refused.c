@@ -4,10 +4,10 @@
  *     refused COUNT ROUNDS
  *
  * Such a take makes no locked step. It loads the own local word, the words of all trees (those that are
- * partly free are looked for), the words of all trees again (any that has frames enough), the local words
- * of all cores, which have nothing to give back, and the words of all trees once more: 1541 loads. `bare`
- * are as many loads of as many words in the same order, each with its test, and nothing else. A line for
- * each round: order, what, tenths of a nanosecond for a take, and loads. The clock is the wall's. */
+ * partly free are looked for), the words of all trees again (any that has frames enough), and the local
+ * words of all cores, which have nothing to give back, so that no tree is looked at once more: 1029 loads.
+ * `bare` are as many loads of as many words in the same order, each with its test, and nothing else. A line
+ * for each round: order, what, tenths of a nanosecond for a take, and loads. The clock is the wall's. */
 #define _GNU_SOURCE
 #include "llfree.h"
 #include <inttypes.h>
@@ -15,7 +15,7 @@
 #include <stdlib.h>
 #include <time.h>
 
-enum { FRAMES = 2097152, TREES = FRAMES / 4096, CORES = 4, LOADS = 1 + 3 * TREES + CORES };
+enum { FRAMES = 2097152, TREES = FRAMES / 4096, CORES = 4, LOADS = 1 + 2 * TREES + CORES };
 
 static llfree_core cores[CORES];
 static uint64_t words[TREES], locals[CORES][8];
@@ -60,7 +60,7 @@ static void bare_loads(uint8_t order, long count)
 
         for (int core = 0; core < CORES; core++)
             found |= __atomic_load_n(&locals[core][0], __ATOMIC_SEQ_CST) != 0;
-        want(!found && !is_any(), "a word is not 0");
+        want(!found, "a word is not 0");
     }
 }
 

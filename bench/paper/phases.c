@@ -8,7 +8,7 @@
  * in random order (foreign). Told are nanoseconds of one thread for a call, and for both calls of a pair. */
 #include "runs.h"
 
-enum { PAIRS = 300000, STAMPED_PAIRS = 1000 };
+enum { PAIRS = 100000, STAMPED_PAIRS = 1000 };
 enum phase { TAKE, GIVE, PAIR, RANDOM, FOREIGN, PHASES };
 
 static const char *const names[] = { "take", "give", "pair", "random", "foreign" };

@@ -28,11 +28,12 @@ static inline void tell(const char *order, const char *which, const char *measur
     fflush(stdout);
 }
 
-/* Rounds in which each is opened, run by all threads, looked whether all is free, and closed; tell_all says what was
- * measured of it. */
+/* Rounds, in which each has its turn: it is opened, all threads run, all has to be free, and it is closed. Then
+ * tell_all says what was measured of it. */
 static inline void measure_all(const struct measured *all, size_t count, uint32_t rounds,
                                void (*tell_all)(const char *allocator))
 {
+    want(frames >= 512 && frames % 512 == 0 && frames <= MOST_FRAMES, "FRAMES is a multiple of 512, at most 16777216");
     stamps = memory_of(frames, 1);
     for (uint32_t round = 0; round < rounds; round++)
         for (size_t i = 0; i < count; i++) {
@@ -44,13 +45,13 @@ static inline void measure_all(const struct measured *all, size_t count, uint32_
         }
 }
 
-/* The first words of each command: FRAMES THREADS, and how many there have to be. */
+/* The first words of a command, FRAMES and THREADS, and how many words it has to have. */
 static inline void read_words(int count, char **words, int wanted, const char *usage)
 {
     want(count == wanted, usage);
     frames = number_of(words[1]);
     threads = number_of(words[2]);
-    want(threads >= 1 && threads <= MOST_THREADS && frames >= 512 * threads, "1 to 16 threads, with a child each");
+    want(threads >= 1 && threads <= MOST_THREADS, "THREADS is 1 to 16");
     want(threads <= sysconf(_SC_NPROCESSORS_ONLN), "a thread has no processor of its own"); /* some wait and spin */
     tick();
 }
