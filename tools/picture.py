@@ -183,15 +183,24 @@ def points(image):
         across += 8
     across = min(across, image.children)
     width = across * (CHILD_WIDTH + 1) + 1
+    reserved = [image.tree[child // records.TREE_CHILDREN][1] for child in range(image.children)]
+
+    def edge(*children):
+        """An edge between children, those on the left or above first; a reserved tree has its colour on all sides."""
+        return bytes([MARK if any(reserved[child] for child in children if 0 <= child < image.children) else EDGE])
+
     rows = []
     for first in range(0, image.children, across):
         children = range(first, min(first + across, image.children))
-        edges = [bytes([MARK if image.tree[child // records.TREE_CHILDREN][1] else EDGE]) for child in children]
-        rows.append(b''.join(edge * (CHILD_WIDTH + 1) for edge in edges) + edges[-1])
+        # a row that is not full stands under one that is
+        over = [edge(child, child - across) for child in range(first, first + (across if first else len(children)))]
+        rows.append(b''.join(one * (CHILD_WIDTH + 1) for one in over) + over[-1])
+        left = [edge(child, *([child - 1] if child > first else [])) for child in children]
         parts = [rows_of_child(image, child) for child in children]
         for row in range(CHILD_HEIGHT):
-            rows.append(b''.join(edge + part[row] for edge, part in zip(edges, parts)) + edges[-1])
-    rows.append(rows[-1 - CHILD_HEIGHT])
+            rows.append(b''.join(one + part[row] for one, part in zip(left, parts)) + edge(children[-1]))
+    last = range(image.children - len(children), image.children)
+    rows.append(b''.join(edge(child) * (CHILD_WIDTH + 1) for child in last) + edge(last[-1]))
     return width, [row.ljust(width, bytes([FREE])) for row in rows]
 
 
@@ -213,7 +222,12 @@ def frames_svg(image):
     width, top = max(WIDTH, across * times + 2 * MARGIN), MARGIN + 28
     height = top + len(rows) * times + 38
     yield from head(image, width, height)
-    yield f'<rect class="free" x="{MARGIN}" y="{top}" width="{across * times}" height="{len(rows) * times}"/>'
+    # the paper of free frames, in the last row under its children alone
+    full, rest = divmod(image.children, (across - 1) // (CHILD_WIDTH + 1))
+    for many, first, wide in ((full, 0, across), (min(1, rest), full, rest * (CHILD_WIDTH + 1) + 1)):
+        if many:
+            yield (f'<rect class="free" x="{MARGIN}" y="{top + first * (CHILD_HEIGHT + 1) * times}" '
+                   f'width="{wide * times}" height="{(many * (CHILD_HEIGHT + 1) + 1) * times}"/>')
     yield (f'<image x="{MARGIN}" y="{top}" width="{across * times}" height="{len(rows) * times}" '
            'style="image-rendering:pixelated" '
            f'href="data:image/png;base64,{base64.b64encode(png(across, rows)).decode()}"/>')
