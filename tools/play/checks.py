@@ -450,6 +450,28 @@ def choose(name, value):
     return f"(one => {{ {change} }})(document.getElementById('{name}'))"
 
 
+# how wide panels are, and the points of their pictures on the screen
+ROOM = '''model.memories.map(m => [m.canvas.parentElement.clientWidth, m.canvas.clientWidth + 2, m.canvas.width])'''
+# of each tile of every take and give: does it show its users alone, and nothing only where nothing is held?
+USERS = '''model.memories.every(m => {
+  const colours = palette().processor.map(packed), free = packed(css('--free'));
+  for (let child = 0; child < m.children; child++) {
+    const seen = new Set(), users = new Set();
+    for (let y = 0; y < m.high; y++)
+      for (let x = 0; x < m.wide; x++) seen.add(m.points[m.corner(child) + y * m.canvas.width + x]);
+    for (let p = 0; p < SAID.processors; p++) if (m.of[child * SAID.processors + p]) users.add(colours[p % COLOURS]);
+    seen.delete(free);
+    if (m.frames[child] > 0 !== seen.size > 0 || [...seen].some(one => !users.has(one))) return false;
+  }
+  return true;
+})'''
+
+
+def is_in_its_room(page):
+    """Whether pictures are nearly as wide as their panels, with no point narrower than one of the screen."""
+    return all(0.7 * room < shown <= room and points <= shown for room, shown, points in page.value(ROOM))
+
+
 def plays(page, name, folder, width, is_dark, pictures):
     told = f'{name} at {width} points, {"dark" if is_dark else "light"}'
     page.show(f'file://{os.path.join(folder, name)}.html', width, 900 if width > 600 else 800, is_dark)
@@ -480,7 +502,8 @@ def plays(page, name, folder, width, is_dark, pictures):
     sees('a step on and back', page.value('model.digest()') == there)
 
     # play, and stop
-    page.value("document.getElementById('speed').value = '8'")
+    # slowly, so that the end is far also where the machine is busy
+    page.value("document.getElementById('speed').value = '60'")
     began = page.value('model.at')
     left, top, wide, high = page.box('#play')
     page.drag([(left + wide / 2, top + high / 2)])
@@ -517,6 +540,15 @@ def plays(page, name, folder, width, is_dark, pictures):
         page.value(choose('mode', mode))
         seen.add(page.value('model.memories[0].canvas.toDataURL()'))
     sees('colourings', len(seen) == 3, len(seen))
+    sees('pictures in their panels', is_in_its_room(page), page.value(ROOM))
+    page.value("document.querySelectorAll('.larger').forEach(one => one.click())")
+    sees('larger pictures in their panels', is_in_its_room(page), page.value(ROOM))
+    sees('larger ones', all(room > width / 2 for room, *_ in page.value(ROOM)), page.value(ROOM))
+    if name != 'film':
+        sees('tiles show their users', page.value(USERS))
+    page.value("document.querySelectorAll('.larger').forEach(one => one.click())")
+    if name != 'film':
+        sees('small tiles show their users', page.value(USERS))
     page.value("seek(SAID.micros * 0.55)")
     sees('the same after all', page.value('model.digest()') == there)
 

@@ -1,14 +1,16 @@
 """A moment of a recording as an SVG, for tools/play.py: where frames lie in LLFree, behind lists for each processor,
 and in the recorded machine."""
+import itertools
 import math
 from xml.sax.saxutils import escape
 
 CHILD_FRAMES, NOBODY = 512, 255
 PANELS = (0, 1, 3)
 PANEL, GAP, MARGIN = 272, 20, 14
-# a memory of few tiles shows each frame, one of many how its tiles are shared: their size in points, without their edge
-FRAMES, SHARES = (32, 16), (16, 8)
-MOST_WITH_FRAMES = 160
+# a memory of few tiles shows each frame, one of many how its tiles are shared (sizes in points, without their edge), and
+# one of very many for each half tile the main colour, that of most frames held in it
+FRAMES, SHARES, HALVES = (32, 16), (16, 8), (2, 1)
+MOST_WITH_FRAMES, MOST_WITH_SHARES = 160, 1_500
 LIGHT = ('#2f6fb0', '#e08a1e', '#3f8f52', '#8a54b0', '#c43c5a', '#5d6672', '#0f8b8d', '#a06a2c')
 DARK = ('#6cb0f0', '#f2b04c', '#7fd08f', '#c79bf0', '#ff8fa3', '#9ca3af', '#4fd1c5', '#d6a46a')
 
@@ -55,9 +57,36 @@ def runs_of_shares(who, child, left, top):
         place += wide
 
 
+def commonest(colours):
+    """The colour that most of these frames have, or nobody's where none is held."""
+    return max(set(colours) - {NOBODY}, key=lambda one: (colours.count(one), -one), default=NOBODY)
+
+
+def panel_of_halves(who, children):
+    """A memory of very many tiles, and how high it is."""
+    colours = bytes(who).translate(bytes([*(one % len(LIGHT) for one in range(NOBODY)), NOBODY]))
+    half, many = CHILD_FRAMES // HALVES[0], across(children, HALVES)
+    points = [commonest(colours[at:at + half]) for at in range(0, len(colours), half)]
+    wide, high = many * HALVES[0], -(-children // many)
+    paths = {}
+    for row in range(high):
+        place = 0
+        for colour, run in itertools.groupby(points[row * wide:(row + 1) * wide]):
+            long = len(list(run))
+            if colour != NOBODY:
+                paths.setdefault(colour, []).append(f'M{place} {row + 0.5:g}h{long}')
+            place += long
+    made = [f'<g transform="scale({PANEL / wide:.4f})" stroke-width="1">',
+            f'<path class="free" d="M0 0h{wide}v{high}h-{wide}z"/>']
+    made += [f'<path class="p{colour}" d="{"".join(path)}"/>' for colour, path in sorted(paths.items())]
+    return made + ['</g>'], high * PANEL / wide
+
+
 def panel(who, children):
     """A memory at its corner, and how high it is."""
     who = who.tobytes()
+    if children > MOST_WITH_SHARES:
+        return panel_of_halves(who, children)
     size, runs = (FRAMES, runs_of_frames) if children <= MOST_WITH_FRAMES else (SHARES, runs_of_shares)
     many = across(children, size)
     pitch = size[0] + 1, size[1] + 1
@@ -106,7 +135,10 @@ def svg(replay, given, names, until):
         body.append(f'<text x="{left}" y="{top + high + 23:.0f}" font-size="17" font-weight="700">'
                     f'{shared:,} of {used:,}<tspan dx="6" font-size="13.5" font-weight="400">huge frames shared</tspan>'
                     '</text>')
-        bottom = max(bottom, top + high + 36)
+        if replay.children[one] > MOST_WITH_SHARES:
+            body.append(f'<text class="soft" x="{left}" y="{top + high + 41:.0f}" font-size="12">'
+                        f'a point: 1 MiB of {replay.children[one] / 512:.1f} GiB, its main colour</text>')
+        bottom = max(bottom, top + high + (54 if replay.children[one] > MOST_WITH_SHARES else 36))
     words = (f'{given.title}, after {given.still:g} s: {replay.held(until) / 256:,.0f} MiB held, each frame in the '
              'colour of the processor that took it')
     size = f'width="{wide}" height="{bottom:.0f}" viewBox="0 0 {wide} {bottom:.0f}"'
