@@ -3,6 +3,7 @@
 import pathlib
 import re
 import sys
+import textwrap
 import threading
 import unittest
 
@@ -26,6 +27,11 @@ class Calls(unittest.TestCase):
         told = {name: int(number) for name, number in re.findall(r'^    LLFREE_(\w+) = (\d+)', text, re.MULTILINE)}
         self.assertEqual(told, {it.name: it.value for it in llfree.Status})
         self.assertIn(f'#define LLFREE_FRAME_BYTES {llfree.FRAME_BYTES}\n', text)
+
+    def test_first_page(self):
+        names = {}
+        exec(textwrap.dedent(''.join(re.findall(r'^    .*\n', llfree.__doc__, re.MULTILINE))), names)
+        self.assertEqual((names['first'].frames(), names['second'].free_frames()), (32768, 32768))
 
     def test_any_core_gives_what_any_core_took(self):
         first, second = llfree.open(64 * MIB, cores=2)

@@ -1,10 +1,10 @@
 //! Page frames, taken and given without locks, by a proved allocator (LLFree).
 //!
-//! ```no_run
+//! ```
 //! use llfree::{Core, Refused};
 //!
 //! fn main() -> Result<(), Refused> {
-//!     let [mut core, mut other] = Core::<llfree::Checked>::open(524_288, &[])?; // 2 GiB, two cores
+//!     let [mut core, mut other]: [Core; 2] = Core::open(524_288, &[])?; // 2 GiB, two cores
 //!     let block = core.take(3)?; // eight frames
 //!     println!("frame {}", block.frame());
 //!     other.give(block).map_err(|(refused, _)| refused) // any core gives what any core took
