@@ -106,6 +106,49 @@ static inline enum llfree_status llfree_pool_split(llfree_desk *desks, size_t co
     return status;
 }
 
+/* Takes a run through the core of a desk: frames side by side, up to 512, the first a multiple of the alignment, a power
+ * of two up to 512. The smallest block that has them is taken as by llfree_pool_take and split, and what lies behind
+ * them is given. So a run is blocks of falling orders, one for each bit of its length, and other threads see the whole
+ * block held meanwhile. BAD_ORDER if it is empty or too long. CONTENDED of a split (never seen) leaves a part held. */
+LLFREE_NODISCARD
+static inline enum llfree_status llfree_desk_take_run(llfree_desk *desk, size_t frames, size_t alignment, uint32_t *frame)
+{
+    const size_t least = frames > alignment ? frames : alignment;
+    uint32_t first = 0, at;
+    uint8_t order = frames == 0 ? 10 : 0;
+
+    while (order < 10 && (size_t)1 << order < least)
+        order++;
+    enum llfree_status status = llfree_take_retry(&desk->core, order, &first, LLFREE_POOL_TRIES);
+    for (at = first; status == LLFREE_OK && frames < (size_t)1 << order;) {
+        status = llfree_split(&desk->core, at, order--);
+        uint32_t half = (uint32_t)1 << order;
+        if (frames > half) {
+            at += half;
+            frames -= half;
+        } else if (status == LLFREE_OK) {
+            status = llfree_give(&desk->core, at + half, order);
+        }
+    }
+    if (status == LLFREE_OK)
+        *frame = first;
+    return status;
+}
+
+/* Gives a run as it was taken, block by block. Refused with NOT_HELD at the first block that is not held; those before
+ * it are given then. */
+static inline enum llfree_status llfree_desk_give_run(llfree_desk *desk, uint32_t frame, size_t frames)
+{
+    enum llfree_status status = frames == 0 || frames > 512 ? LLFREE_NOT_HELD : LLFREE_OK;
+
+    for (uint8_t order = 10; status == LLFREE_OK && order-- > 0;)
+        if (frames >> order & 1) {
+            status = llfree_give(&desk->core, frame, order);
+            frame += (uint32_t)1 << order;
+        }
+    return status;
+}
+
 /* llfree_close for each desk, once no thread calls any more. */
 static inline void llfree_pool_close(llfree_desk *desks, size_t count)
 {

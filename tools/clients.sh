@@ -1,35 +1,14 @@
 #!/usr/bin/env bash
-# Tries programs that others wrote over the library: jemalloc under a load of threads, under a compiler and under Python
-# with forks; SQLite's page cache; std::pmr. Each counts frames, and finds one that is out twice; what the machine lacks
-# is said and left out. The last line counts.
+# Tries programs that others wrote over the library: jemalloc under a load of threads, under a compiler, under Python with
+# forks and under Redis, which saves under load; SQLite's page cache; std::pmr. Each counts frames, and finds one that is
+# out twice; what the machine lacks is said and left out. The last line counts.
 set -u
-unset CDPATH MAKEFLAGS MFLAGS LD_PRELOAD
+. "$(dirname "$0")/holds.sh"
+unset LD_PRELOAD
 root=$(cd "$(dirname "$0")/.." && pwd)
 cc=${CC:-cc}
 clients=$root/examples/clients
 archives=("$root/build/libllfree_c.a" "$(dirname "$(rt doc)")/c/liblibc_c.a")
-folder=$(mktemp -d)
-trap 'rm -rf "$folder"' EXIT
-passed=0 failed=0
-# holds NAME COMMAND..: it ends well
-holds() {
-    local name=$1
-    shift
-    if "$@" >"$folder/said" 2>&1; then
-        echo "$name: ok"
-        passed=$((passed + 1))
-    else
-        tail -n 20 "$folder/said" >&2
-        echo "$name: failed" >&2
-        failed=$((failed + 1))
-    fi
-}
-skips() { echo "skipped: $1, for want of $2"; }
-ends() {
-    echo "$passed passed, $failed failed"
-    [ "$failed" = 0 ]
-    exit
-}
 builds() { "$cc" -O2 -Wall -Wextra -Werror -I"$root/include" -o "$@" "${archives[@]}" "${libraries[@]}" -lpthread; }
 # links LANGUAGE HEADERS LIBRARY: whether programs are built with it here
 links() {
@@ -39,12 +18,15 @@ links() {
 command -v "$cc" >/dev/null || { skips 'other programs over the library' "$cc (gcc)"; ends; }
 make -s -C "$root" library >"$folder/log" 2>&1 || { tail -n 20 "$folder/log" >&2; failed=1; ends; }
 
-# under NAME COMMAND..: with jemalloc's extents out of frames; each process adds up, and the first takes
-under() {
+# under COMMAND..: with jemalloc's extents out of frames
+under() { adds_up timeout 60 "${with[@]}" "$@"; }
+# adds_up COMMAND..: it ends well; each process adds up and takes, and one gives
+adds_up() {
     rm -f "$folder/log"
-    timeout 60 env PYTHONMALLOC=malloc FRAMES_LOG="$folder/log" LD_PRELOAD="$folder/frames.so $jemalloc" "$@" &&
-        grep -q '^takes [1-9]' "$folder/log" && ! grep -qE '^takes 0 |^takes [0-9]+ gives 0 ' "$folder/log"
+    "$@" && grep -q '^takes .* gives [1-9]' "$folder/log" && ! grep -q '^takes 0 ' "$folder/log"
 }
+# what the last process has told
+tells() { [ ! -e "$folder/log" ] || sed -n '$s/^/    /p' "$folder/log"; }
 compiles() {
     under "$cc" -O2 -c -I"$root/include" -o "$folder/checks.o" "$root/tools/c/checks.c" &&
         cmp "$folder/checks.o" "$folder/plain.o"
@@ -55,15 +37,25 @@ if links c 'stdlib.h jemalloc/jemalloc.h' -ljemalloc; then
     holds 'jemalloc: built' builds "$folder/frames.so" -fPIC -shared "$clients/jemalloc.c"
     # the program's malloc is jemalloc's only where this stands before the C library
     jemalloc=$(ldd "$folder/frames.so" | awk '/libjemalloc/ { print $3 }')
+    with=(env PYTHONMALLOC=malloc FRAMES_LOG="$folder/log" LD_PRELOAD="$folder/frames.so $jemalloc")
     libraries=()
     holds 'a load for malloc: built' builds "$folder/stamps" "$clients/stamps.c"
     holds 'jemalloc: a load of threads' under "$folder/stamps"
+    tells
     "$cc" -O2 -c -I"$root/include" -o "$folder/plain.o" "$root/tools/c/checks.c"
     holds 'jemalloc: a compiler' compiles
     if python=$(python3 -c 'import sys; print(sys.executable)'); then
         holds 'jemalloc: Python, threads and forks' python
     else
         skips 'jemalloc under Python' 'python3 (python3)'
+    fi
+    if command -v redis-server >/dev/null; then
+        mkdir "$folder/redis"
+        holds 'jemalloc: Redis, saves under load' \
+            adds_up timeout 120 "$clients/redis.sh" "$folder/redis" "${with[@]}"
+        tells
+    else
+        skips 'jemalloc under Redis' 'redis-server (redis-server)'
     fi
 else
     skips "jemalloc's extents" 'jemalloc (libjemalloc-dev)'

@@ -9,9 +9,9 @@
 #include "frames.h"
 #include <jemalloc/jemalloc.h>
 #include <pthread.h>
-#include <unistd.h>
+#include <stdlib.h>
 
-enum { FRAMES = 262144, MOST_PAGES = 512 };
+enum { FRAMES = 262144 };
 
 /* extents go back to their hooks at once, instead of being kept to be split later */
 const char *malloc_conf = "retain:false,dirty_decay_ms:0,muzzy_decay_ms:0";
@@ -21,14 +21,12 @@ static _Atomic unsigned long outside, outside_pages, pages_inside;
 static void *takes(extent_hooks_t *hooks, void *wanted, size_t size, size_t alignment, bool *zero, bool *commit,
                    unsigned arena)
 {
+    void *at = wanted != NULL ? NULL : region_take(size / LLFREE_FRAME_BYTES, alignment / LLFREE_FRAME_BYTES);
     (void)hooks;
-    if (wanted == NULL && size / LLFREE_FRAME_BYTES <= MOST_PAGES && alignment / LLFREE_FRAME_BYTES <= MOST_PAGES) {
-        void *at = region_take((uint32_t)(size / LLFREE_FRAME_BYTES), (uint32_t)(alignment / LLFREE_FRAME_BYTES));
-        if (at != NULL) {
-            atomic_fetch_add(&pages_inside, size / LLFREE_FRAME_BYTES);
-            *zero = *commit = true; /* what is given is let go of, below */
-            return at;
-        }
+    if (at != NULL) {
+        atomic_fetch_add(&pages_inside, size / LLFREE_FRAME_BYTES);
+        *zero = *commit = true; /* what is given is let go of, below */
+        return at;
     }
     if (region_has(wanted))
         return NULL;
@@ -44,7 +42,7 @@ static bool gives(extent_hooks_t *hooks, void *at, size_t size, bool is_committe
         return others->dalloc(others, at, size, is_committed, arena);
     if (madvise(at, size, MADV_DONTNEED) != 0)
         return true;
-    region_give(at, (uint32_t)(size / LLFREE_FRAME_BYTES));
+    region_give(at, size / LLFREE_FRAME_BYTES);
     return false;
 }
 
@@ -74,11 +72,11 @@ __attribute__((constructor)) static void begins(void)
 
     if (!region_open(FRAMES) || mallctl("opt.narenas", &arenas, &size, NULL, 0) != 0 ||
         mallctl("arena.0.extent_hooks", &others, &length, NULL, 0) != 0)
-        fails("jemalloc is not here", 0, 0);
+        fails("jemalloc is not here", 0);
     for (unsigned i = 0; i < arenas; i++) {
         snprintf(name, sizeof name, "arena.%u.extent_hooks", i);
         if (mallctl(name, NULL, NULL, &new, sizeof new) != 0)
-            fails("an arena keeps its hooks", i, 0);
+            fails("an arena keeps its hooks", i);
     }
     pthread_atfork(sit_at_all, leave_all, leave_all);
 }
@@ -87,16 +85,15 @@ __attribute__((destructor)) static void ends(void)
 {
     const char *name = getenv("FRAMES_LOG");
     FILE *log = name == NULL ? NULL : fopen(name, "a");
-    unsigned long inside = atomic_load(&pages_inside), other = atomic_load(&outside_pages);
+    unsigned long inside = pages_inside, other = outside_pages;
 
-    sit_at_all();
     if (!region_adds_up())
-        fails("out and free are not all", 0, 0);
-    leave_all();
+        fails("out and free are not all", 0);
     if (log == NULL)
         return;
-    fprintf(log, "takes %lu gives %lu splits %lu refused %lu; ", region.takes, region.gives, region.splits,
-            region.refused);
-    fprintf(log, "pages %lu, outside %lu in %lu extents; out at the end %lu\n", inside, other, outside, region.out);
+    fprintf(log, "takes %lu gives %lu refused %lu too large %lu; held at the end %lu; ", region.takes, region.gives,
+            region.refused, region.too_large, region.out.taken - region.out.given);
+    fprintf(log, "pages %lu, from elsewhere %lu (%.1f %%) in %lu extents\n", inside, other,
+            100.0 * (double)other / (double)(inside + other), outside);
     fclose(log);
 }

@@ -2,10 +2,10 @@
 // with a byte a frame, which finds a frame that is out twice. What is larger than 2 MiB comes from operator new. At the
 // end all frames are free again.
 #include "llfree.hpp"
+#include "out.h"
 #include <algorithm>
 #include <atomic>
 #include <cstdio>
-#include <cstdlib>
 #include <functional>
 #include <map>
 #include <memory>
@@ -19,52 +19,41 @@ namespace {
 constexpr std::uint32_t frames = 65536;
 constexpr std::size_t bytes = std::size_t(LLFREE_FRAME_BYTES) * frames, huge = 2 << 20;
 
-[[noreturn]] void fails(const char *what)
-{
-    std::fprintf(stderr, "%s\n", what);
-    std::abort();
-}
-
 class checked : public std::pmr::memory_resource {
 public:
-    checked(std::pmr::memory_resource &below, void *base)
-        : below_(below), base_(base), is_out_(new std::atomic<bool>[frames]())
-    {
-    }
-    unsigned long taken() const { return taken_; }
+    checked(std::pmr::memory_resource &below, void *base) : below_(below), base_(static_cast<std::byte *>(base)) {}
+    const out &marks() const { return out_; }
     unsigned long outside() const { return outside_; }
 
 private:
-    void turn(void *at, std::size_t size, bool to)
+    void turn(void *at, std::size_t size, unsigned char to)
     {
-        if (std::less<void *>()(at, base_) || !std::less<void *>()(at, static_cast<std::byte *>(base_) + bytes)) {
+        if (std::less<void *>()(at, base_) || !std::less<void *>()(at, base_ + bytes)) {
             outside_ += to;
             return;
         }
-        taken_ += to;
         std::uint32_t first = llfree_frame_at(base_, at);
         std::uint32_t last = llfree_frame_at(base_, static_cast<std::byte *>(at) + size - 1);
-        for (std::uint32_t i = first; i <= last; i++)
-            if (is_out_[i].exchange(to) == to)
-                fails(to ? "taken twice" : "given twice");
+        out_turns(&out_, first, last - first + 1, to);
     }
     void *do_allocate(std::size_t size, std::size_t alignment) override
     {
         void *at = below_.allocate(size, alignment);
-        turn(at, size, true);
+        turn(at, size, 1);
         return at;
     }
     void do_deallocate(void *at, std::size_t size, std::size_t alignment) override
     {
-        turn(at, size, false);
+        turn(at, size, 0);
         below_.deallocate(at, size, alignment);
     }
     bool do_is_equal(const std::pmr::memory_resource &other) const noexcept override { return this == &other; }
 
     std::pmr::memory_resource &below_;
-    void *base_;
-    std::unique_ptr<std::atomic<bool>[]> is_out_;
-    std::atomic<unsigned long> taken_ = 0, outside_ = 0;
+    std::byte *base_;
+    std::vector<unsigned char> bytes_ = std::vector<unsigned char>(frames);
+    out out_ = { bytes_.data(), 0, 0 };
+    std::atomic<unsigned long> outside_ = 0;
 };
 
 void work(std::pmr::memory_resource *resource, char letter)
@@ -79,10 +68,10 @@ void work(std::pmr::memory_resource *resource, char letter)
     }
     for (const auto &[key, text] : texts)
         if (text.find_first_not_of(letter) != text.npos)
-            fails("a text was written by somebody else");
+            fails("a text was written by somebody else", 0);
     for (const auto &[key, row] : numbers)
         if (row.size() != 20 || !std::all_of(row.begin(), row.end(), [k = key](int x) { return x % 1000 == k; }))
-            fails("a number was written by somebody else");
+            fails("a number was written by somebody else", 0);
 }
 
 }
@@ -92,7 +81,7 @@ int main()
     constexpr int how = MAP_PRIVATE | MAP_ANONYMOUS | MAP_NORESERVE;
     void *room = mmap(nullptr, bytes + huge, PROT_READ | PROT_WRITE, how, -1, 0);
     if (room == MAP_FAILED)
-        fails("no memory");
+        fails("no memory", 0);
     std::size_t space = bytes + huge;
     void *base = std::align(huge, bytes, room, space);
 
@@ -111,8 +100,9 @@ int main()
         for (std::thread &thread : threads)
             thread.join();
     }
-    std::printf("takes %lu, outside %lu; free at the end %u of %u\n", blocks.taken(), blocks.outside(),
+    const out &marks = blocks.marks();
+    std::printf("frames taken %lu, blocks from elsewhere %lu; free at the end %u of %u\n", marks.taken, blocks.outside(),
                 memory.free_frames(), frames);
-    if (memory.free_frames() != frames || memory.free_huge() != frames / 512 || blocks.taken() == 0)
-        fails("not all frames are free again");
+    if (!out_adds_up(&marks, frames, memory.free_frames()) || memory.free_huge() != frames / 512 || marks.taken == 0)
+        fails("not all frames are free again", 0);
 }

@@ -1,5 +1,5 @@
-/* Desks: a hundred threads, which come and go, on eight cores, with an owner byte a frame; children that are forked
- * while others are in calls, and take what is left; addresses. */
+/* Desks: a hundred threads, which come and go, on eight cores, with an owner byte a frame; runs of each length; children
+ * that are forked while others are in calls, and take what is left; addresses. */
 #define _GNU_SOURCE
 #include "check.h"
 #include "llfree_pool.h"
@@ -13,16 +13,40 @@ enum { DESKS = 8, FRAMES = 16 * 4096, THREADS = 100, RUNNING = 20, ROUNDS = 1000
 static llfree_desk desks[DESKS];
 static _Atomic unsigned char owner[FRAMES];
 
+static void turn_all(uint32_t frame, uint32_t count, unsigned char to)
+{
+    for (uint32_t i = frame; i < frame + count; i++)
+        CHECK(atomic_exchange(&owner[i], to) == !to);
+}
+
 static void turn(uint32_t frame, uint8_t order, unsigned char to)
 {
-    for (uint32_t i = frame; i < frame + (1u << order); i++)
-        CHECK(atomic_exchange(&owner[i], to) == !to);
+    turn_all(frame, 1u << order, to);
 }
 
 static void give(uint32_t frame, uint8_t order)
 {
     turn(frame, order, 0);
     CHECK(llfree_pool_give(desks, DESKS, frame, order) == LLFREE_OK);
+}
+
+/* Takes a run and gives it, where one is found. */
+static void run_of(uint32_t length, uint32_t alignment)
+{
+    uint32_t frame;
+    llfree_desk *desk = llfree_sit(desks, DESKS);
+    enum llfree_status status = llfree_desk_take_run(desk, length, alignment, &frame);
+
+    llfree_leave(desk);
+    CHECK(status == LLFREE_OK || status == LLFREE_NO_BLOCK || status == LLFREE_CONTENDED);
+    if (status != LLFREE_OK)
+        return;
+    CHECK(frame % alignment == 0);
+    turn_all(frame, length, 1);
+    turn_all(frame, length, 0);
+    desk = llfree_sit(desks, DESKS);
+    CHECK(llfree_desk_give_run(desk, frame, length) == LLFREE_OK);
+    llfree_leave(desk);
 }
 
 static void *work(void *number)
@@ -34,6 +58,8 @@ static void *work(void *number)
 
     for (int round = 0; round < ROUNDS; round++) {
         uint64_t r = next_random(&x);
+        if ((r >> 12 & 15) == 0)
+            run_of(1 + (r >> 16) % 512, 1u << (r >> 32) % 10);
         if (r & 1 && held < HELD - 1) {
             uint8_t order = r >> 8 & 7;
             if (llfree_pool_take(desks, DESKS, order, &frames[held]) != LLFREE_OK)
@@ -57,6 +83,28 @@ static void *work(void *number)
     }
     CHECK(taken > ROUNDS / 8);
     return NULL;
+}
+
+/* Runs of each length and alignment: just their frames are held, and are given once. */
+static void runs(void)
+{
+    static const struct { size_t frames, alignment; } wrong[] = { { 0, 1 }, { 513, 1 }, { 1, 1024 }, { SIZE_MAX, 1 } };
+    uint32_t frame = 77;
+
+    for (uint32_t alignment = 1; alignment <= 512; alignment *= 2)
+        for (uint32_t length = 1; length <= 512; length++) {
+            CHECK(llfree_desk_take_run(&desks[0], length, alignment, &frame) == LLFREE_OK && frame % alignment == 0);
+            turn_all(frame, length, 1);
+            CHECK(llfree_free_frames(&desks[1].core) == FRAMES - length);
+            turn_all(frame, length, 0);
+            CHECK(llfree_desk_give_run(&desks[1], frame, length) == LLFREE_OK);
+            CHECK(llfree_desk_give_run(&desks[0], frame, length) == LLFREE_NOT_HELD);
+            CHECK(llfree_free_frames(&desks[0].core) == FRAMES);
+        }
+    frame = 77;
+    for (size_t i = 0; i < sizeof wrong / sizeof *wrong; i++)
+        CHECK(llfree_desk_take_run(&desks[0], wrong[i].frames, wrong[i].alignment, &frame) == LLFREE_BAD_ORDER &&
+              llfree_desk_give_run(&desks[0], 0, wrong[i].frames) == LLFREE_NOT_HELD && frame == 77);
 }
 
 static void sit_at_all(void)
@@ -104,6 +152,7 @@ int main(void)
     CHECK(llfree_open(cores, DESKS, FRAMES, NULL, 0) == LLFREE_OK);
     llfree_seat_all(desks, cores, DESKS);
     CHECK(llfree_free_frames(&cores[0]) == 0 && llfree_free_frames(&desks[7].core) == FRAMES);
+    runs();
 #ifdef __SANITIZE_THREAD__
     fork_count = 0; /* it does not follow a fork of a program with threads */
 #endif
