@@ -9,7 +9,8 @@
  * over all zones, below 2^32. No block crosses zones.
  *
  * Whatever numbers are passed as frames, ranges and orders, each call is safe, and wrong numbers are refused.
- * The caller has these duties, which nothing checks:
+ * The caller has these duties, which no call checks. Tools find that some are broken (docs/C.md); "unchecked"
+ * stands where none does:
  *  1. Each pointer is to aligned memory of its type that nobody else reads or writes during the call, with as
  *     many elements as the count beside it says. Where the count is 0 it may be anything, NULL too. Two
  *     pointers of one call do not overlap.
@@ -22,10 +23,10 @@
  *     whatever it interrupts; it opens and closes only where its heap may be called. In a forked child the calls of
  *     other threads never end: it leaves their handles alone. It goes on through any other handle, such as that of
  *     the thread that forked, and needs no call first. What was held stays held. For each call that never ends at
- *     most 512 frames are lost, and takes pass over at most one tree (4096 frames).
+ *     most 512 frames are lost, and takes pass over at most one tree (4096 frames). Unchecked.
  *  5. rattle_alloc, rattle_dealloc and rattle_realloc are one allocator, whose blocks are aligned to 16. Only
  *     openings and closings call them, several threads at once if these overlap. Each returns (no longjmp, no
- *     exception) and calls nothing of this header.
+ *     exception) and calls nothing of this header. Unchecked.
  *
  * A take, a give or a split allocates nothing (tested, not proved). It needs less than 1 KiB of stack, an
  * opening or a closing with an image less than 6 KiB (measured, not proved). The code is for x86-64 processors
@@ -267,12 +268,12 @@ enum llfree_status llfree_image_of_words(uint32_t frames, uint32_t cores, const 
                                          size_t count, uint64_t *numbers, size_t room);
 
 /* Unchecked variant: a take puts the right to its block into a struct, and no list of allocated blocks is kept.
- * An empty struct is refused. The caller has these further duties, which nothing checks:
+ * An empty struct is refused. The caller has these further duties, which no call checks:
  *  6. A struct starts as LLFREE_EMPTY, or with all bytes 0. After that only the functions below write its bytes;
  *     frame and order may be read in between. It may be moved, if the old bytes are never used again, but never
- *     copied: both copies could be given.
+ *     copied: both copies could be given. A copy is unchecked.
  *  7. A struct that holds a block is passed only with a core of the block's own allocator, and never after the
- *     last core of that allocator is closed.
+ *     last core of that allocator is closed. Unchecked.
  *  8. One call at a time for each struct. Another thread may use it if one call happens before the other, as
  *     in 3. */
 typedef struct llfree_block {

@@ -140,8 +140,24 @@ if command -v valgrind >/dev/null && [ -e /usr/include/valgrind/helgrind.h ]; th
         [ "$tool" = memcheck ] || says "$name: untold" 'race\|Conflicting' "${under[@]}" "$folder/untold" 300
         says "$name: behind the give" 'race\|Conflicting\|Invalid' "${under[@]}" "$folder/told" 300 late
     done
+    # a duty of the header that is broken is found, and nothing where they are kept
+    "$cc" -O1 -g -Wall -Wextra -Werror -I"$root/include" -o "$folder/duties" "$root/tools/c/duties.c" "$library" "$heap" \
+        -lpthread || fails 'duties.c: not built'
+    under=(valgrind -q --error-exitcode=9)
+    is_clean 'duties.c: kept: memcheck' "${under[@]}" "$folder/duties"
+    is_clean 'duties.c: kept: helgrind' "${under[@]}" --tool=helgrind "$folder/duties"
+    while IFS=, read -r tool duty found; do
+        says "duties.c: $duty: $tool" "$found" "${under[@]}" --tool="$tool" "$folder/duties" $duty
+    done <<'ROWS'
+memcheck,1,Invalid write
+memcheck,2,uninitialised value
+memcheck,2 moved,Invalid read
+helgrind,3,data race
+memcheck,6,uninitialised value
+helgrind,8,data race
+ROWS
 else
-    skips 'told.c under valgrind' valgrind valgrind
+    skips 'told.c and duties.c under valgrind' valgrind valgrind
 fi
 
 for source in "$root"/tools/c/*.cpp; do
