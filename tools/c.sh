@@ -97,6 +97,18 @@ for source in "$root"/examples/c/*.c "$root"/tools/c/*.c; do
     done
 done
 
+# the program of the first page, as it stands there
+source=$folder/readme.c
+{
+    printf '#include "llfree_pool.h"\n#include <stdio.h>\nint main(void)\n{\n'
+    sed -n '/^From C /,/^## /s/^    //p' "$root/README.md"
+    printf 'return 0;\n}\n'
+} >"$source"
+sed -n 's/^From C .*; it prints `\(.*\)`:$/\1/p' "$root/README.md" >"$folder/readme.out"
+"$cc" -Wall -Wextra -Werror -I"$root/include" -o "$folder/program" "$source" "$library" "$heap" ||
+    fails 'README.md: not built'
+runs 'README.md' "$source"
+
 # of programs that write the memory of their frames ThreadSanitizer and valgrind say races where nobody tells them who has
 # which frame, and where a frame is used behind its give
 source=$root/tools/c/told.c

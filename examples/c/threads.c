@@ -1,6 +1,6 @@
-/* Four threads take, split and give blocks, each through a handle of its own. A byte a frame says
- * whether it is held, by atomic exchanges: no frame is ever held twice. */
-#include "llfree.h"
+/* Four threads take, split and give blocks, each through a handle of its own, on cache lines of its own. A byte a frame
+ * says whether it is held, by atomic exchanges: no frame is ever held twice. */
+#include "llfree_pool.h"
 #include <pthread.h>
 #include <stdatomic.h>
 #include <stdio.h>
@@ -8,7 +8,7 @@
 
 enum { CORES = 4, CHILDREN = 64, FRAMES = CHILDREN * 512, HELD = 64, ROUNDS = 50000 };
 
-static llfree_core cores[CORES]; /* all bytes 0: closed */
+static llfree_desk desks[CORES];
 static _Atomic unsigned char held[FRAMES];
 
 static void mark(uint32_t frame, uint8_t order, unsigned char from)
@@ -20,9 +20,10 @@ static void mark(uint32_t frame, uint8_t order, unsigned char from)
         }
 }
 
-static void *work(void *handle)
+static void *work(void *desk)
 {
-    uint32_t frames[HELD], x = 2463534242u + (uint32_t)((llfree_core *)handle - cores);
+    llfree_core *handle = &((llfree_desk *)desk)->core;
+    uint32_t frames[HELD], x = 2463534242u + (uint32_t)((llfree_desk *)desk - desks);
     uint8_t orders[HELD];
     int count = 0;
 
@@ -50,6 +51,7 @@ static void *work(void *handle)
 
 int main(void)
 {
+    llfree_core cores[CORES] = { LLFREE_CLOSED };
     pthread_t threads[CORES];
     uint32_t frame;
     int free = 0;
@@ -58,22 +60,22 @@ int main(void)
         fputs("no memory\n", stderr);
         return 1;
     }
+    llfree_seat_all(desks, cores, CORES);
     for (int i = 0; i < CORES; i++)
-        if (pthread_create(&threads[i], NULL, work, &cores[i]))
+        if (pthread_create(&threads[i], NULL, work, &desks[i]))
             return 1;
     for (int i = 0; i < CORES; i++)
         pthread_join(threads[i], NULL);
 
     /* Any core gives what another took. */
-    if (llfree_take(&cores[0], 3, &frame) == LLFREE_OK)
-        printf("another core gives it: %u\n", llfree_give(&cores[1], frame, 3));
-    if (llfree_give(&cores[2], frame, 3) == LLFREE_NOT_HELD)
+    if (llfree_take(&desks[0].core, 3, &frame) == LLFREE_OK)
+        printf("another core gives it: %u\n", llfree_give(&desks[1].core, frame, 3));
+    if (llfree_give(&desks[2].core, frame, 3) == LLFREE_NOT_HELD)
         puts("a second give is refused");
 
-    while (llfree_take(&cores[3], 9, &frame) == LLFREE_OK)
+    while (llfree_take(&desks[3].core, 9, &frame) == LLFREE_OK)
         free++;
     printf("all %d huge frames are free again\n", free);
-    for (int i = 0; i < CORES; i++)
-        llfree_close(&cores[i]);
+    llfree_pool_close(desks, CORES);
     return 0;
 }
