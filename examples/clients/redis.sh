@@ -25,7 +25,7 @@ starts() {
     local file=$1
     shift
     "$@" redis-server --port 0 --unixsocket socket --save '' --dbfilename "$file" --enable-debug-command local \
-        --io-threads 3 --io-threads-do-reads yes --jemalloc-bg-thread no --loglevel warning &
+        --jemalloc-bg-thread no --loglevel warning &
     server=$!
     waits is_there
 }
