@@ -1,5 +1,5 @@
 -- How a run of all cores goes on.
-use Rattle.std.proofs.Common.{◌≡◌, ◌+◌, ◌≤◌, ◌∙◌, max, ℕ, zero, suc, true, List, [], ◌∷◌, ◌++◌, ◌-◌, length}
+use Rattle.std.proofs.Common.{◌≡◌, ◌+◌, ◌≤◌, ◌∙◌, max, ℕ, List, [], ◌∷◌, ◌++◌, ◌-◌, length}
 use Rattle.std.proofs.Common.{take, drop, length-drop, refl, sym, ap, subst, arith}
 use Rattle.std.specs.List.{All}
 use Rattle.std.proofs.lemmas.List.{append-nil, append_assoc, take_all}
@@ -9,7 +9,7 @@ use Rattle.core_frames.specs.Desks.{IsDeskOf}
 use Rattle.core_frames.specs.declared.shared.allocator.Allocator.{Allocator}
 use Rattle.llfree_trace.specs.Outcome.{Runs}
 use Rattle.llfree_trace.specs.Rounds.{asks_from, GoesOn, IsAsk, lists_at, MovesAt, RoundRan}
-use Rattle.trace_text.specs.Trace.{cores_in, is_one_round}
+use Rattle.trace_text.specs.Trace.{cores_in}
 use Rattle.trace_text.specs.declared.line.Line.{Line}
 use Rattle.trace_text.specs.declared.line.Line.TheVariants as line
 use Rattle.llfree_trace.specs.declared.progress.Progress.{Progress}
@@ -21,15 +21,6 @@ use Rattle.llfree_trace.proofs.Running.{runs_append}
 -- the records from a place on
 pub rest_of : (n : ℕ) (lines : List Line) → take (length lines - n) (drop n lines) ≡ drop n lines
 rest_of n lines = take_all (length lines - n) (drop n lines) (omega (arith, length-drop n lines))
-
--- records that are one round are requests
-pub all_asks : (lines : List Line) → is_one_round lines ≡ true → All IsAsk lines
-all_asks [] one k d lt = absurd (omega arith)
-all_asks (line.Ask core request ∷ lines) one zero d lt = tt
-all_asks (line.Ask core request ∷ lines) one (suc k) d lt = all_asks lines one k d (omega arith)
-all_asks (line.Move core label to ∷ lines) one k d lt = cc one
-all_asks (line.Round ∷ lines) one k d lt = cc one
-all_asks (line.Reserve frame count ∷ lines) one k d lt = cc one
 
 -- by no records
 pub stands_still : (a : Allocator) (n : ℕ) (p : Progress) → All (IsDeskOf a) p.desks.items → GoesOn a n [] p p

@@ -5,17 +5,13 @@ pub mod Commands
 mod FilterLemmas
 pub mod Boot
 mod Replies
-pub mod Listed
 pub mod Workers
 pub mod Merging
-pub mod Spelling
 pub mod Interleaving
 mod NewDesks
 pub mod MovingDesks
 pub mod GoingOn
 mod Ended
-mod RoundParts
-mod Pieces
 mod Tallies
 pub mod WrongRecords
 pub mod WrongEnds

@@ -1,39 +1,38 @@
 -- How the answers of a round are put into the order of its lines.
 use Rattle.std.specs.List.{All}
 use Rattle.std.proofs.Common.{◌≡◌, ◌≢◌, ◌==◌, ◌+◌, ◌<◌, ◌∙◌, ℕ, zero, suc, List, [], ◌∷◌, ◌++◌}
-use Rattle.std.proofs.Common.{true, false, length, take, drop, set, get_or, map, replicate, refl, sym, ap, ap₂, ◌≤◌}
+use Rattle.std.proofs.Common.{true, false, length, take, drop, set, get_or, map, refl, sym, ap, ap₂}
 use Rattle.std.proofs.Common.{subst, arith, length-append, zero-add, add-zero, inl, inr, ◌+ℤ◌}
 use Rattle.std.proofs.Math.ListN.{get_or-map, length-set}
 use Rattle.std.proofs.Math.Seq.{get_or-append_seam}
 use Rattle.std.proofs.lemmas.Bool.Decides.{nat_tests, eqb_tells}
 use Rattle.std.proofs.lemmas.Grind.{get_or-set_at, common_steps}
 use Rattle.std.proofs.lemmas.List.{append-nil, append_assoc, get_or_default, get_or-set_other}
-use Rattle.std.proofs.lemmas.List.{get_or-replicate, length-map, length-replicate, map-append, take_more, take-append-drop}
+use Rattle.std.proofs.lemmas.List.{length-map, map-append, take_more, take-append-drop}
 use Rattle.std.proofs.lemmas.List.Elements.{filter_more, filter-append}
+use Rattle.held_blocks.specs.declared.labelled_block.LabelledBlock.{LabelledBlock}
 use Rattle.core_frames.specs.Desks.{list_of}
 use Rattle.frame_table.specs.Closing.{lent_through}
 use Rattle.core_frames.specs.Cores.{memory_of}
 use Rattle.core_frames.specs.declared.shared.allocator.Allocator.{Allocator}
 use Rattle.core_frames.specs.declared.shared.desk.Desk.{Desk}
+use Rattle.frame_model.specs.declared.key.Key.{Key}
 use Rattle.trace_text.specs.declared.reply.Answer.{Answer}
-use Rattle.trace_text.specs.declared.reply.Reply.TheVariants as reply
 use Rattle.llfree_trace.specs.declared.lines.Done.{Done}
-use Rattle.llfree_trace.proofs.Listed.{all_at}
-use Rattle.llfree_trace.proofs.Workers.{ask_core_is, ask_count, run_spots}
+use Rattle.llfree_trace.proofs.Workers.{ask_core_is, ask_count}
 use Rattle.trace_text.specs.declared.line.Line.{Line}
 use Rattle.trace_text.specs.declared.line.Request.TheVariants as request
-use Rattle.llfree_trace.specs.Rounds.{HasLists, Told, told_by, IsAsk, IsRunnable, MaySpell, ask_core, asks_from, asks_in, asks_of, Ask, Fitting, Merged}
-use Rattle.llfree_trace.specs.Rounds.{Ran, RanAll, RoundRan, all_answers, answers_by, asks_by, lent_by_desks}
-use Rattle.llfree_trace.specs.Rounds.{Stretch}
+use Rattle.llfree_trace.specs.Rounds.{IsAsk, ask_core, asks_from, Ask, DeskRun, Fitting, Merged}
+use Rattle.llfree_trace.specs.Rounds.{Ran, RanAll, RoundRan, answers_by, asks_by, lent_by_desks}
 use Rattle.llfree_trace.specs.Rounds.{ask_spot, spot}
 
 -- the answers to the first i lines stand in order, and of each core as many are used as it has lines among them
-pub record Merging (own : Told → List Answer) (lines : List Ask) (done : List Told) (i : ℕ) (next : List ℕ) (all : List Answer) : Type 0 where
+pub record Merging (lines : List Ask) (done : List Done) (i : ℕ) (next : List ℕ) (all : List Answer) : Type 0 where
   pub width : length next ≡ length done
   pub used : (k : ℕ) → k < length done → get_or next k 0 ≡ length (asks_by k (take i lines))
   pub spots : map spot all ≡ map ask_spot (take i lines)
-  pub each : (k : ℕ) (d : Told) → k < length done → answers_by k all
-      ≡ take (length (asks_by k (take i lines))) (own (get_or done k d))
+  pub each : (k : ℕ) (d : Done) → k < length done → answers_by k all
+      ≡ take (length (asks_by k (take i lines))) (get_or done k d).answers.items
 
 -- the lines of a core among the first i + 1, and its answers among those with one more
 own_lines : (k : ℕ) (lines : List Ask) (i : ℕ) (d : Ask) → i < length lines → (get_or lines i d).core ≡ k
@@ -68,200 +67,129 @@ own_split k lines i d lt own =
     ∙ (ap (λ (xs : List Ask). xs ++ rest) (own_lines k lines i d lt own)
     ∙ append_assoc (asks_by k (take i lines)) (get_or lines i d ∷ []) rest))
 
--- what a request is by itself
-pub blank : Ask
-blank = record { number = 0; core = 0; request = request.GiveAt 0 0 }
+-- a core has as many answers as lines
+same_count : (lines : List Ask) (done : List Done) (k : ℕ) (e : Done) → Fitting lines done → k < length done
+    → length (get_or done k e).answers.items ≡ length (asks_by k lines)
+same_count lines done k e fit lt =
+    sym (length-map (get_or done k e).answers.items spot) ∙ (ap length (fit.fits k e lt) ∙ length-map (asks_by k lines) ask_spot)
 
--- the turn of a request: it has a place, and so has its core
-pub record Turn (lines : List Ask) (done : List Told) (i core : ℕ) : Type 0 where
-  pub within : i < length lines
-  pub is : core ≡ (get_or lines i blank).core
-  pub low : core < length done
+-- the next answer of the core of line i
+room : (lines : List Ask) (done : List Done) (i : ℕ) (next : List ℕ) (all : List Answer) (d : Ask) (e : Done)
+    → Fitting lines done → Merging lines done i next all → i < length lines
+    → get_or next (get_or lines i d).core 0 < length (get_or done (get_or lines i d).core e).answers.items
+room lines done i next all d e fit m lt =
+    let k = (get_or lines i d).core in
+    let inside = fit.inside i d lt in
+    let rest = asks_by k (drop (i + 1) lines) in
+    omega (
+      arith,
+      m.used k inside,
+      same_count lines done k e fit inside,
+      ap length (own_split k lines i d lt refl),
+      length-append (asks_by k (take i lines)) (get_or lines i d ∷ rest),
+    )
 
--- Each core's own answers to the lines, whichever they are.
-module _ (own : Told → List Answer) where
-  -- a core has as many answers as lines
-  same_count : (lines : List Ask) (done : List Told) (k : ℕ) (e : Told) → Fitting own lines done → k < length done
-      → length (own (get_or done k e)) ≡ length (asks_by k lines)
-  same_count lines done k e fit lt =
-      sym (length-map (own (get_or done k e)) spot) ∙ (ap length (fit.fits k e lt) ∙ length-map (asks_by k lines) ask_spot)
+spot_is : (lines : List Ask) (done : List Done) (i : ℕ) (next : List ℕ) (all : List Answer) (d : Ask) (e : Done) (b : Answer)
+    → Fitting lines done → Merging lines done i next all → i < length lines
+    → spot (get_or (get_or done (get_or lines i d).core e).answers.items (get_or next (get_or lines i d).core 0) b)
+    ≡ ask_spot (get_or lines i d)
+spot_is lines done i next all d e b fit m lt =
+    let l = get_or lines i d in
+    let k = l.core in
+    let inside = fit.inside i d lt in
+    let answers = (get_or done k e).answers.items in
+    let n = get_or next k 0 in
+    let front = map ask_spot (asks_by k (take i lines)) in
+    let back = map ask_spot (asks_by k (drop (i + 1) lines)) in
+    let all_spots : map spot answers ≡ front ++ ask_spot l ∷ back =
+    fit.fits k e inside ∙ (ap (map ask_spot) (own_split k lines i d lt refl)
+    ∙ map-append ask_spot (asks_by k (take i lines)) (l ∷ asks_by k (drop (i + 1) lines))) in
+    let at : length front ≡ n = length-map (asks_by k (take i lines)) ask_spot ∙ sym (m.used k inside) in
+    let P : ℕ → Type 0 = λ j. get_or (front ++ ask_spot l ∷ back) j (spot b) ≡ ask_spot l in
+    sym (get_or-map spot answers n b) ∙ (ap (λ (xs : List (ℕ × ℕ)). get_or xs n (spot b)) all_spots
+    ∙ subst P at (get_or-append_seam front (ask_spot l) back (spot b)))
 
-  -- the next answer of the core of line i
-  pub room : (lines : List Ask) (done : List Told) (i : ℕ) (next : List ℕ) (all : List Answer) (d : Ask) (e : Told)
-      → Fitting own lines done → Merging own lines done i next all → i < length lines
-      → get_or next (get_or lines i d).core 0 < length (own (get_or done (get_or lines i d).core e))
-  room lines done i next all d e fit m lt =
-      let k = (get_or lines i d).core in
-      let inside = fit.inside i d lt in
-      let rest = asks_by k (drop (i + 1) lines) in
-      omega (
-        arith,
-        m.used k inside,
-        same_count lines done k e fit inside,
-        ap length (own_split k lines i d lt refl),
-        length-append (asks_by k (take i lines)) (get_or lines i d ∷ rest),
-      )
+pub ends : (lines : List Ask) (done : List Done) (next : List ℕ) (all : List Answer) → Fitting lines done
+    → Merging lines done (length lines) next all
+    → Merged lines done all
+ends lines done next all fit m =
+    let whole : take (length lines) lines ≡ lines = grind (arith, common_steps) in
+    record {
+      spots = rw whole at m.spots;
+      each = λ k d lt.
+          let answers = (get_or done k d).answers.items in
+          let count : length (asks_by k lines) ≡ length answers = sym (same_count lines done k d fit lt) in
+          let every : take (length answers) answers ≡ answers = grind (arith, common_steps) in
+          let P : ℕ → Type 0 = λ j. take j answers ≡ answers in
+          let Q : List Ask → Type 0 = λ ls. answers_by k all ≡ take (length (asks_by k ls)) answers in
+          subst Q whole (m.each k d lt) ∙ subst P (sym count) every;
+    }
 
-  pub spot_is : (lines : List Ask) (done : List Told) (i : ℕ) (next : List ℕ) (all : List Answer) (d : Ask) (e : Told) (b : Answer)
-      → Fitting own lines done → Merging own lines done i next all → i < length lines
-      → spot (get_or (own (get_or done (get_or lines i d).core e)) (get_or next (get_or lines i d).core 0) b)
-      ≡ ask_spot (get_or lines i d)
-  spot_is lines done i next all d e b fit m lt =
-      let l = get_or lines i d in
-      let k = l.core in
-      let inside = fit.inside i d lt in
-      let answers = (own (get_or done k e)) in
-      let n = get_or next k 0 in
-      let front = map ask_spot (asks_by k (take i lines)) in
-      let back = map ask_spot (asks_by k (drop (i + 1) lines)) in
-      let all_spots : map spot answers ≡ front ++ ask_spot l ∷ back =
-      fit.fits k e inside ∙ (ap (map ask_spot) (own_split k lines i d lt refl)
-      ∙ map-append ask_spot (asks_by k (take i lines)) (l ∷ asks_by k (drop (i + 1) lines))) in
-      let at : length front ≡ n = length-map (asks_by k (take i lines)) ask_spot ∙ sym (m.used k inside) in
-      let P : ℕ → Type 0 = λ j. get_or (front ++ ask_spot l ∷ back) j (spot b) ≡ ask_spot l in
-      sym (get_or-map spot answers n b) ∙ (ap (λ (xs : List (ℕ × ℕ)). get_or xs n (spot b)) all_spots
-      ∙ subst P at (get_or-append_seam front (ask_spot l) back (spot b)))
+goes_on : (lines : List Ask) (done : List Done) (i : ℕ) (next : List ℕ) (all : List Answer) (d : Ask) (e : Done) (b : Answer)
+    → Fitting lines done → Merging lines done i next all → i < length lines
+    → Merging lines done (i + 1) (set next (get_or lines i d).core (get_or next (get_or lines i d).core 0 + 1))
+    (all ++ get_or (get_or done (get_or lines i d).core e).answers.items (get_or next (get_or lines i d).core 0) b ∷ [])
+goes_on lines done i next all d e b fit m lt =
+    let l = get_or lines i d in
+    let k = l.core in
+    let inside = fit.inside i d lt in
+    let n = get_or next k 0 in
+    let a = get_or (get_or done k e).answers.items n b in
+    let is = spot_is lines done i next all d e b fit m lt in
+    let core : a.core ≡ k = ap (λ (p : ℕ × ℕ). p.1) is in
+    let own = own_lines k lines i d lt refl in
+    let count : length (asks_by k (take (i + 1) lines)) ≡ n + 1 =
+    ap length own ∙ omega (arith, length-append (asks_by k (take i lines)) (l ∷ []), m.used k inside) in
+    let wide : k < length next = omega (arith, m.width, inside) in
+    let used_own : get_or (set next k (n + 1)) k 0 ≡ length (asks_by k (take (i + 1) lines)) =
+    get_or-set_at next k k (n + 1) 0 refl wide ∙ sym count in
+    let each_own : (f : Done) → answers_by k (all ++ a ∷ [])
+    ≡ take (length (asks_by k (take (i + 1) lines))) (get_or done k f).answers.items =
+    λ f.
+    let ans = (get_or done k f).answers.items in
+    let same : get_or done k e ≡ get_or done k f = get_or_default done k e f inside in
+    let next_one : a ≡ get_or ans n b = ap (λ (x : Done). get_or x.answers.items n b) same in
+    let more : take (n + 1) ans ≡ take n ans ++ get_or ans n b ∷ [] = take_more ans n b (room lines done i next all d f fit m lt) in
+    let before : answers_by k all ≡ take n ans = m.each k f inside ∙ ap (λ (j : ℕ). take j ans) (sym (m.used k inside)) in
+    own_answer k all a core
+    ∙ (ap (λ (xs : List Answer). xs ++ a ∷ []) before
+    ∙ (ap (λ (y : Answer). take n ans ++ y ∷ []) next_one ∙ (sym more ∙ ap (λ (j : ℕ). take j ans) (sym count)))) in
+    record {
+      width = length-set next k (n + 1) ∙ m.width;
+      used = λ j small.
+          let P : ℕ → Type 0 = λ h. get_or (set next k (n + 1)) h 0 ≡ length (asks_by h (take (i + 1) lines)) in
+          elim (eqb_tells k j) [
+            | inl s ↦ subst P s.1 used_own
+            | inr s ↦
+                get_or-set_other next k j (n + 1) 0 (λ q. s.1 (sym q))
+                ∙ (m.used j small ∙ ap length (sym (other_lines j lines i d lt s.1)))
+          ];
+      spots = map-append spot all (a ∷ []) ∙ (ap₂ ◌++◌ m.spots (ap (λ (x : ℕ × ℕ). x ∷ []) is)
+          ∙ (sym (map-append ask_spot (take i lines) (l ∷ [])) ∙ ap (map ask_spot) (sym (take_more lines i d lt))));
+      each = λ j f small.
+          let P : ℕ → Type 0 = λ h. answers_by h (all ++ a ∷ [])
+          ≡ take (length (asks_by h (take (i + 1) lines))) (get_or done h f).answers.items in
+          elim (eqb_tells k j) [
+            | inl s ↦ subst P s.1 (each_own f)
+            | inr s ↦
+                other_answer j all a (λ q. s.1 (sym core ∙ q))
+                ∙ (m.each j f small ∙ ap (λ (ls : List Ask). take (length ls) (get_or done j f).answers.items)
+                (sym (other_lines j lines i d lt s.1)))
+          ];
+    }
 
-  pub at_zero : (lines : List Ask) (done : List Told) (i : ℕ) (next : List ℕ) (all : List Answer) (d : Ask) (at : ℕ)
-      → Fitting own lines done → Merging own lines done i next all → i < length lines → at ≡ get_or next (get_or lines i d).core at
-      → at ≡ get_or next (get_or lines i d).core 0
-  at_zero lines done i next all d at fit m lt is =
-      let inside = fit.inside i d lt in
-      let wide : (get_or lines i d).core < length next = omega (arith, m.width, inside) in
-      is ∙ get_or_default next (get_or lines i d).core at 0 wide
-
-  pub starts : (lines : List Ask) (done : List Told) (next : List ℕ) → length next ≡ length done
-      → ((k : ℕ) → k < length done → get_or next k 0 ≡ 0)
-      → Merging own lines done 0 next []
-  starts lines done next width zeros = record { width = width; used = λ k lt. zeros k lt; spots = refl; each = λ k d lt. refl }
-
-  pub ends : (lines : List Ask) (done : List Told) (next : List ℕ) (all : List Answer) → Fitting own lines done
-      → Merging own lines done (length lines) next all
-      → Merged own lines done all
-  ends lines done next all fit m =
-      let whole : take (length lines) lines ≡ lines = grind (arith, common_steps) in
-      record {
-        spots = rw whole at m.spots;
-        each = λ k d lt.
-            let answers = (own (get_or done k d)) in
-            let count : length (asks_by k lines) ≡ length answers = sym (same_count lines done k d fit lt) in
-            let every : take (length answers) answers ≡ answers = grind (arith, common_steps) in
-            let P : ℕ → Type 0 = λ j. take j answers ≡ answers in
-            let Q : List Ask → Type 0 = λ ls. answers_by k all ≡ take (length (asks_by k ls)) answers in
-            subst Q whole (m.each k d lt) ∙ subst P (sym count) every;
-      }
-
-  pub goes_on : (lines : List Ask) (done : List Told) (i : ℕ) (next : List ℕ) (all : List Answer) (d : Ask) (e : Told) (b : Answer)
-      → Fitting own lines done → Merging own lines done i next all → i < length lines
-      → Merging own lines done (i + 1) (set next (get_or lines i d).core (get_or next (get_or lines i d).core 0 + 1))
-      (all ++ get_or (own (get_or done (get_or lines i d).core e)) (get_or next (get_or lines i d).core 0) b ∷ [])
-  goes_on lines done i next all d e b fit m lt =
-      let l = get_or lines i d in
-      let k = l.core in
-      let inside = fit.inside i d lt in
-      let n = get_or next k 0 in
-      let a = get_or (own (get_or done k e)) n b in
-      let is = spot_is lines done i next all d e b fit m lt in
-      let core : a.core ≡ k = ap (λ (p : ℕ × ℕ). p.1) is in
-      let more = own_lines k lines i d lt refl in
-      let count : length (asks_by k (take (i + 1) lines)) ≡ n + 1 =
-      ap length more ∙ omega (arith, length-append (asks_by k (take i lines)) (l ∷ []), m.used k inside) in
-      let wide : k < length next = omega (arith, m.width, inside) in
-      let used_own : get_or (set next k (n + 1)) k 0 ≡ length (asks_by k (take (i + 1) lines)) =
-      get_or-set_at next k k (n + 1) 0 refl wide ∙ sym count in
-      let each_own : (f : Told) → answers_by k (all ++ a ∷ [])
-      ≡ take (length (asks_by k (take (i + 1) lines))) (own (get_or done k f)) =
-      λ f.
-      let ans = (own (get_or done k f)) in
-      let same : get_or done k e ≡ get_or done k f = get_or_default done k e f inside in
-      let next_one : a ≡ get_or ans n b = ap (λ (x : Told). get_or (own x) n b) same in
-      let longer : take (n + 1) ans ≡ take n ans ++ get_or ans n b ∷ [] = take_more ans n b (room lines done i next all d f fit m lt) in
-      let before : answers_by k all ≡ take n ans = m.each k f inside ∙ ap (λ (j : ℕ). take j ans) (sym (m.used k inside)) in
-      own_answer k all a core
-      ∙ (ap (λ (xs : List Answer). xs ++ a ∷ []) before
-      ∙ (ap (λ (y : Answer). take n ans ++ y ∷ []) next_one ∙ (sym longer ∙ ap (λ (j : ℕ). take j ans) (sym count)))) in
-      record {
-        width = length-set next k (n + 1) ∙ m.width;
-        used = λ j small.
-            let P : ℕ → Type 0 = λ h. get_or (set next k (n + 1)) h 0 ≡ length (asks_by h (take (i + 1) lines)) in
-            elim (eqb_tells k j) [
-              | inl s ↦ subst P s.1 used_own
-              | inr s ↦
-                  get_or-set_other next k j (n + 1) 0 (λ q. s.1 (sym q))
-                  ∙ (m.used j small ∙ ap length (sym (other_lines j lines i d lt s.1)))
-            ];
-        spots = map-append spot all (a ∷ []) ∙ (ap₂ ◌++◌ m.spots (ap (λ (x : ℕ × ℕ). x ∷ []) is)
-            ∙ (sym (map-append ask_spot (take i lines) (l ∷ [])) ∙ ap (map ask_spot) (sym (take_more lines i d lt))));
-        each = λ j f small.
-            let P : ℕ → Type 0 = λ h. answers_by h (all ++ a ∷ [])
-            ≡ take (length (asks_by h (take (i + 1) lines))) (own (get_or done h f)) in
-            elim (eqb_tells k j) [
-              | inl s ↦ subst P s.1 (each_own f)
-              | inr s ↦
-                  other_answer j all a (λ q. s.1 (sym core ∙ q))
-                  ∙ (m.each j f small ∙ ap (λ (ls : List Ask). take (length ls) (own (get_or done j f)))
-                  (sym (other_lines j lines i d lt s.1)))
-            ];
-      }
-
-  pub turn_of : (first : ℕ) (lines : List Line) (i : ℕ) (item : Line) (core : ℕ) (done : List Told) → All IsAsk lines
-      → i < length lines → item ≡ get_or lines i item → core ≡ ask_core item → Fitting own (asks_from first lines) done
-      → Turn (asks_from first lines) done i core
-  turn_of first lines i item core done all lt item_is named fit =
-      let within : i < length (asks_from first lines) = omega (arith, ask_count first lines all, lt) in
-      let is = named ∙ (ap ask_core item_is ∙ sym (ask_core_is first lines i item blank all lt)) in
-      record { within = within; is = is; low = omega (arith, is, fit.inside i blank within) }
-
-  -- its core has an answer left
-  pub room_at : (lines : List Ask) (done : List Told) (i : ℕ) (next : List ℕ) (all : List Answer) (e : Told) (k : ℕ)
-      → Fitting own lines done → Merging own lines done i next all → Turn lines done i k
-      → get_or next k 0 < length (own (get_or done k e))
-  room_at lines done i next all e k fit m turn =
-      let R : ℕ → Type 0 = λ j. get_or next j 0 < length (own (get_or done j e)) in
-      subst R (sym turn.is) (room lines done i next all blank e fit m turn.within)
-
-  -- which is put last
-  pub merge_on : (lines : List Ask) (done : List Told) (i : ℕ) (next : List ℕ) (all : List Answer) (e : Told)
-      (k : ℕ) (answer : Answer) → Fitting own lines done → Merging own lines done i next all → Turn lines done i k
-      → answer ≡ get_or (own (get_or done k e)) (get_or next k 0) answer
-      → Merging own lines done (i + 1) (set next k (get_or next k 0 + 1)) (all ++ answer ∷ [])
-  merge_on lines done i next all e k answer fit m turn found =
-      let c : ℕ = (get_or lines i blank).core in
-      let more = goes_on lines done i next all blank e answer fit m turn.within in
-      let found_c : answer ≡ get_or (own (get_or done c e)) (get_or next c 0) answer =
-      found ∙ ap (λ (j : ℕ). get_or (own (get_or done j e)) (get_or next j 0) answer) turn.is in
-      let P : Answer → Type 0 =
-      λ x. Merging own lines done (i + 1) (set next c (get_or next c 0 + 1)) (all ++ x ∷ []) in
-      let R : ℕ → Type 0 =
-      λ j. Merging own lines done (i + 1) (set next j (get_or next j 0 + 1)) (all ++ answer ∷ []) in
-      subst R (sym turn.is) (subst P (sym found_c) more)
-
-some_done : (done : List Told) (k : ℕ) → k < length done → Told
-some_done [] k lt = absurd (omega arith)
-some_done (d ∷ done) k lt = d
-
--- answers that fit can be put in order
-merge_to : (own : Told → List Answer) (lines : List Ask) (done : List Told) (i : ℕ) → Fitting own lines done → i ≤ length lines
-    → (next : List ℕ) × (all : List Answer) × Merging own lines done i next all
-merge_to own lines done zero fit le =
-    let zeros : List ℕ = replicate (length done) 0 in
-    (zeros, [], starts own lines done zeros (length-replicate (length done) 0) (λ k lt. get_or-replicate (length done) k 0 0 lt))
-merge_to own lines done (suc i) fit le =
-    let front = merge_to own lines done i fit (omega arith) in
-    let lt : i < length lines = omega arith in
-    let next : i + 1 ≡ suc i = omega arith in
-    let e : Told = some_done done (get_or lines i blank).core (fit.inside i blank lt) in
-    let b : Answer = record { line = 0; core = 0; reply = reply.Taken 0 0 } in
-    (_, _, rw next at (goes_on own lines done i front.0 front.1 blank e b fit front.2 lt))
-
-pub merge_is : (own : Told → List Answer) (lines : List Ask) (done : List Told) → Fitting own lines done
-    → (all : List Answer) × Merged own lines done all
-merge_is own lines done fit =
-    let last = merge_to own lines done (length lines) fit (omega arith) in
-    (last.1, ends own lines done last.0 last.1 fit last.2)
+-- a run answers each request
+run_spots : (key : Key) (old : List LabelledBlock) (lines : List Ask) (answers : List Answer) (new : List LabelledBlock)
+    → DeskRun key old lines answers new → map spot answers ≡ map ask_spot lines
+unfolding DeskRun
+run_spots key old [] [] new run = refl
+run_spots key old [] (a ∷ answers) new run = absurd run
+run_spots key old (l ∷ lines) [] new run = absurd run
+run_spots key old (l ∷ lines) (a ∷ answers) new run =
+    ap₂ (λ (p : ℕ × ℕ) (ps : List (ℕ × ℕ)). p ∷ ps) (ap₂ (λ (x y : ℕ). (x, y)) run.0 run.1) (run_spots key run.2 lines answers new run.4)
 
 -- what ran at one core
-pub ran_at : (al : Allocator) (core : ℕ) (desks : List Desk) (lines : List Stretch) (done : List Done) (k : ℕ) (d : Desk) (e : Done)
+ran_at : (al : Allocator) (core : ℕ) (desks : List Desk) (lines : List Ask) (done : List Done) (k : ℕ) (d : Desk) (e : Done)
     → RanAll al core desks lines done → k < length done → Ran al (core + k) (get_or desks k d) lines (get_or done k e)
 ran_at al core [] lines [] k d e all lt = absurd (omega arith)
 ran_at al core [] lines (f ∷ done) k d e all lt = absurd all
@@ -272,73 +200,23 @@ ran_at al core (b ∷ desks) lines (f ∷ done) (suc k) d e all lt =
     let less : k < length done = omega arith in
     rw same at (ran_at al (core + 1) desks lines done k d e all.1 less)
 
-pub same_width : (al : Allocator) (core : ℕ) (desks : List Desk) (lines : List Stretch) (done : List Done)
+same_width : (al : Allocator) (core : ℕ) (desks : List Desk) (lines : List Ask) (done : List Done)
     → RanAll al core desks lines done → length done ≡ length desks
 same_width al core [] lines [] all = refl
 same_width al core [] lines (f ∷ done) all = absurd all
 same_width al core (b ∷ desks) lines [] all = absurd all
 same_width al core (b ∷ desks) lines (f ∷ done) all = ap suc (same_width al (core + 1) desks lines done all.1)
 
--- a core that there is
-one_done : (done : List Done) (k : ℕ) → k < length done → Done
-one_done [] k lt = absurd (omega arith)
-one_done (d ∷ done) k lt = d
-
--- what a core answered
-told_at : (done : List Done) (k : ℕ) (d : Done) (t : Told) → k < length done → get_or (told_by done) k t ≡ (get_or done k d).answers
-told_at done k d t lt =
-    let answers : Done → Told = λ x. x.answers in
-    get_or_default (told_by done) k t d.answers (omega (arith, lt, length-map done answers)) ∙ get_or-map answers done k d
-
 -- what all cores ran fits the requests
-pub fitting : (al : Allocator) (desks : List Desk) (stretches : List Stretch) (done : List Done) → RanAll al 0 desks stretches done
-    → All (λ (l : Ask). l.core < length desks) (asks_of stretches)
-    → Fitting all_answers (asks_of stretches) (told_by done)
-fitting al desks stretches done all inside =
-    let answers : Done → Told = λ x. x.answers in
-    record {
-      inside = λ i d lt. omega (arith, inside i d lt, same_width al 0 desks stretches done all, length-map done answers);
-      fits = λ k e lt.
-          let low : k < length done = omega (arith, lt, length-map done answers) in
-          let d = one_done done k low in
-          let ran = rw zero-add at (ran_at al 0 desks stretches done k d.desk d all low) in
-          rw (told_at done k d e low)
-          (run_spots (memory_of al) (list_of (get_or desks k d.desk)) (asks_by k (asks_of stretches)) (all_answers (get_or done k d).answers)
-          (list_of (get_or done k d).desk) ran.run);
-    }
-
--- and each core has few enough lists
-pub few_lists : (al : Allocator) (desks : List Desk) (stretches : List Stretch) (done : List Done) → RanAll al 0 desks stretches done
-    → All (HasLists (length stretches)) (told_by done)
-few_lists al desks stretches done all k e lt =
-    let answers : Done → Told = λ x. x.answers in
-    let low : k < length done = omega (arith, lt, length-map done answers) in
-    let d = one_done done k low in
-    let ran = rw zero-add at (ran_at al 0 desks stretches done k d.desk d all low) in
-    rw (told_at done k d e low) ran.width
-
--- a core's answers fit its requests in each stretch
-pub may_spell : (al : Allocator) (desks : List Desk) (stretches : List Stretch) (done : List Done) → RanAll al 0 desks stretches done
-    → All IsRunnable stretches → All (λ (l : Ask). l.core < length desks) (asks_of stretches) → MaySpell stretches (told_by done)
-may_spell al desks stretches done all runnable inside =
-    let answers : Done → Told = λ x. x.answers in
-    record {
-      runnable = runnable;
-      fits = λ p s lt. record {
-        inside = λ i d low.
-            omega (
-              arith,
-              same_width al 0 desks stretches done all,
-              length-map done answers,
-              all_at (λ (l : Ask). l.core < length desks) asks_in stretches p s lt inside i d low,
-            );
-        fits = λ k e low.
-            let small : k < length done = omega (arith, low, length-map done answers) in
-            let d = one_done done k small in
-            let ran = rw zero-add at (ran_at al 0 desks stretches done k d.desk d all small) in
-            rw (told_at done k d e small) (ran.each p s lt);
-      };
-    }
+pub fitting : (al : Allocator) (desks : List Desk) (lines : List Ask) (done : List Done) → RanAll al 0 desks lines done
+    → ((i : ℕ) (d : Ask) → i < length lines → (get_or lines i d).core < length desks) → Fitting lines done
+fitting al desks lines done all inside = record {
+  inside = λ i d lt. omega (arith, inside i d lt, same_width al 0 desks lines done all);
+  fits = λ k e lt.
+      let ran = rw zero-add at (ran_at al 0 desks lines done k e.desk e all lt) in
+      run_spots (memory_of al) (list_of (get_or desks k e.desk)) (asks_by k lines) (get_or done k e).answers.items
+      (list_of (get_or done k e).desk) ran.run;
+}
 
 -- what stands at one place of the list
 at_mapped : (done : List Done) (k : ℕ) (d : Desk) → k < length done
@@ -348,7 +226,7 @@ at_mapped (f ∷ done) zero d lt = (f, refl, refl)
 at_mapped (f ∷ done) (suc k) d lt = let less : k < length done = omega arith in at_mapped done k d less
 
 -- the desks lend together as many blocks as before
-same_lents : (al : Allocator) (core : ℕ) (desks : List Desk) (lines : List Stretch) (done : List Done) → RanAll al core desks lines done
+same_lents : (al : Allocator) (core : ℕ) (desks : List Desk) (lines : List Ask) (done : List Done) → RanAll al core desks lines done
     → lent_by_desks (map (λ (x : Done). x.desk) done) ≡ lent_by_desks desks
 unfolding lent_through
 same_lents al core [] lines [] all = refl
@@ -357,9 +235,8 @@ same_lents al core (b ∷ desks) lines [] all = absurd all
 same_lents al core (b ∷ desks) lines (f ∷ done) all =
     ap₂ ◌+ℤ◌ all.0.lent (same_lents al (core + 1) desks lines done all.1)
 
-pub round_ran : (al : Allocator) (old : List Desk) (lines : List Stretch) (done : List Done) (answers : List Answer) (new : List Desk)
-    → RanAll al 0 old lines done → Merged all_answers (asks_of lines) (told_by done) answers → new ≡ map (λ (d : Done). d.desk) done
-    → RoundRan al old (asks_of lines) answers new
+pub round_ran : (al : Allocator) (old : List Desk) (lines : List Ask) (done : List Done) (answers : List Answer) (new : List Desk)
+    → RanAll al 0 old lines done → Merged lines done answers → new ≡ map (λ (d : Done). d.desk) done → RoundRan al old lines answers new
 round_ran al old lines done answers new all m is =
     let width = same_width al 0 old lines done all in
     record {
@@ -376,9 +253,49 @@ round_ran al old lines done answers new all m is =
           let low : k < length done = omega (arith, width) in
           let x = at_mapped done k d low in
           let ran = rw (zero-add, x.1) at (ran_at al 0 old lines done k d x.0 all low) in
-          let wide : k < length (told_by done) = omega (arith, low, length-map done (λ (d : Done). d.answers)) in
-          let own : answers_by k answers ≡ all_answers x.0.answers =
-          m.each k x.0.answers wide ∙ (ap all_answers (told_at done k x.0 x.0.answers low) ∙ ap (λ (e : Done). all_answers e.answers) x.1) in
+          let own : answers_by k answers ≡ x.0.answers.items = m.each k x.0 low ∙ ap (λ (e : Done). e.answers.items) x.1 in
           let here : get_or new k d ≡ x.0.desk = ap (λ (ds : List Desk). get_or ds k d) is ∙ x.2 in
           rw (own, here) ran.run;
     }
+
+-- what a request is by itself
+pub blank : Ask
+blank = record { number = 0; core = 0; request = request.GiveAt 0 0 }
+
+-- the turn of a request: it has a place, and so has its core
+pub record Turn (lines : List Ask) (done : List Done) (i core : ℕ) : Type 0 where
+  pub within : i < length lines
+  pub is : core ≡ (get_or lines i blank).core
+  pub low : core < length done
+
+pub turn_of : (first : ℕ) (lines : List Line) (i : ℕ) (item : Line) (core : ℕ) (done : List Done) → All IsAsk lines
+    → i < length lines → item ≡ get_or lines i item → core ≡ ask_core item → Fitting (asks_from first lines) done
+    → Turn (asks_from first lines) done i core
+turn_of first lines i item core done all lt item_is named fit =
+    let within : i < length (asks_from first lines) = omega (arith, ask_count first lines all, lt) in
+    let is = named ∙ (ap ask_core item_is ∙ sym (ask_core_is first lines i item blank all lt)) in
+    record { within = within; is = is; low = omega (arith, is, fit.inside i blank within) }
+
+-- its core has an answer left
+pub room_at : (lines : List Ask) (done : List Done) (i : ℕ) (next : List ℕ) (all : List Answer) (e : Done) (k : ℕ)
+    → Fitting lines done → Merging lines done i next all → Turn lines done i k
+    → get_or next k 0 < length (get_or done k e).answers.items
+room_at lines done i next all e k fit m turn =
+    let R : ℕ → Type 0 = λ j. get_or next j 0 < length (get_or done j e).answers.items in
+    subst R (sym turn.is) (room lines done i next all blank e fit m turn.within)
+
+-- which is put last
+pub merge_on : (lines : List Ask) (done : List Done) (i : ℕ) (next : List ℕ) (all : List Answer) (e : Done)
+    (k : ℕ) (answer : Answer) → Fitting lines done → Merging lines done i next all → Turn lines done i k
+    → answer ≡ get_or (get_or done k e).answers.items (get_or next k 0) answer
+    → Merging lines done (i + 1) (set next k (get_or next k 0 + 1)) (all ++ answer ∷ [])
+merge_on lines done i next all e k answer fit m turn found =
+    let c : ℕ = (get_or lines i blank).core in
+    let more = goes_on lines done i next all blank e answer fit m turn.within in
+    let found_c : answer ≡ get_or (get_or done c e).answers.items (get_or next c 0) answer =
+    found ∙ ap (λ (j : ℕ). get_or (get_or done j e).answers.items (get_or next j 0) answer) turn.is in
+    let P : Answer → Type 0 =
+    λ x. Merging lines done (i + 1) (set next c (get_or next c 0 + 1)) (all ++ x ∷ []) in
+    let R : ℕ → Type 0 =
+    λ j. Merging lines done (i + 1) (set next j (get_or next j 0 + 1)) (all ++ answer ∷ []) in
+    subst R (sym turn.is) (subst P (sym found_c) more)

@@ -1,8 +1,7 @@
 -- A round: what the desks of several cores answer to requests, each core on a thread of its own.
 use Rattle.std.specs.Prelude.{ℕ, ℤ, ◌≡◌, ◌≢◌, ◌==◌, ◌+◌, ◌<◌, List, [], ◌∷◌, ◌++◌, filter, map, length}
-use Rattle.std.specs.Prelude.{◌≤◌, ◌-◌, true, drop, take, slice_index_or, Result, Ok, Err}
-use Rattle.std.specs.Borrow.{Bor}
-use Rattle.std.specs.List.{All, flat_map}
+use Rattle.std.specs.Prelude.{◌≤◌, true, take, slice_index_or, Result, Ok, Err}
+use Rattle.std.specs.List.{All}
 use Rattle.std.specs.declared.alloc.Global.{Global}
 use Rattle.std.specs.declared.vec.Vec.{Vec}
 use Rattle.frame_model.specs.declared.key.Key.{Key}
@@ -17,7 +16,6 @@ use Rattle.core_frames.specs.Desks.{list_of, core_of, IsDeskOf}
 use Rattle.core_frames.specs.declared.shared.allocator.Allocator.{Allocator}
 use Rattle.core_frames.specs.declared.shared.desk.Desk.{Desk}
 use Rattle.llfree_trace.specs.Outcome.{DeskStep, Moves, Runs}
-use Rattle.trace_text.specs.AnswerText.{answer_rows_text}
 use Rattle.trace_text.specs.declared.line.Line.{Line}
 use Rattle.trace_text.specs.declared.line.Line.TheVariants as line
 use Rattle.trace_text.specs.declared.line.Request.{Request}
@@ -27,7 +25,6 @@ use Rattle.trace_text.specs.declared.reply.Answer.{Answer}
 use Rattle.trace_text.specs.declared.reply.Reply.{Reply}
 use Rattle.trace_text.specs.declared.reply.Reply.TheVariants as reply
 use Rattle.llfree_trace.specs.declared.rounds.Running.{Running}
-use Rattle.llfree_trace.specs.declared.stretch_texts.Spelling.{Spelling}
 
 -- Replies.
 
@@ -68,33 +65,12 @@ pub record Ask : Type 0 where
   pub core : ℕ
   pub request : Request
 
--- records that follow one another: the number of the first, and they themselves
-abbrev pub Stretch : Type 0
-Stretch = ℕ × Bor (List Line)
-
 -- the requests of these records, the first of which has this number
 unfoldable pub asks_from : ℕ → List Line → List Ask
 asks_from number [] = []
 asks_from number (line.Ask core request ∷ lines) =
     record { number = number; core = core; request = request } ∷ asks_from (number + 1) lines
 asks_from number (_ ∷ lines) = asks_from (number + 1) lines
-
--- the requests of a stretch of records
-abbrev pub asks_in : Stretch → List Ask
-asks_in s = asks_from s.0 s.1.now
-
--- the requests of stretches, one behind the other
-abbrev pub asks_of : List Stretch → List Ask
-asks_of stretches = flat_map asks_in stretches
-
--- the requests of the stretches from a place on, so many of them
-abbrev pub asks_between : List Stretch → ℕ → ℕ → List Ask
-asks_between stretches from count = asks_of (take count (drop from stretches))
-
--- each record of a stretch is a request, and no number is too great
-pub record IsRunnable (s : Stretch) : Type 0 where
-  pub asks : All IsAsk s.1.now
-  pub few : s.0 + length s.1.now ≤ 2_000_000
 
 -- the requests of one core
 abbrev pub asks_by : ℕ → List Ask → List Ask
@@ -124,72 +100,43 @@ DeskRun key old (ask ∷ asks) (a ∷ answers) new =
     × DeskRun key mid asks answers new
 DeskRun key old _ _ new = ⊥
 
--- the requests of a stretch may run from a desk of a sealed memory
-pub record MayAnswer (a : Allocator) (own : Desk) (s : Stretch) : Type 0 where
+-- records, the first of which has this number, may run from a desk of a sealed memory: each is a
+-- request, and no number is too great
+pub record MayRun (a : Allocator) (own : Desk) (first : ℕ) (records : List Line) : Type 0 where
   pub desk : IsDeskOf a own
   pub sealed : (memory_of a).sealed ≡ true
-  pub runnable : IsRunnable s
+  pub asks : All IsAsk records
+  pub few : first + length records ≤ 2_000_000
 
--- the requests of stretches may run from a desk of a sealed memory
-pub record MayRun (a : Allocator) (own : Desk) (stretches : List Stretch) : Type 0 where
-  pub desk : IsDeskOf a own
-  pub sealed : (memory_of a).sealed ≡ true
-  pub runnable : All IsRunnable stretches
-
--- the requests of stretches may run from desks of a sealed memory
-pub record MayRunAll (a : Allocator) (all : List Desk) (stretches : List Stretch) : Type 0 where
+-- they may run from these desks
+pub record MayRunAll (a : Allocator) (all : List Desk) (first : ℕ) (records : List Line) : Type 0 where
   pub desks : All (IsDeskOf a) all
   pub sealed : (memory_of a).sealed ≡ true
-  pub runnable : All IsRunnable stretches
+  pub asks : All IsAsk records
+  pub few : first + length records ≤ 2_000_000
 
--- the requests of one core in a stretch were answered, from one desk to another that lends as many blocks
-pub record Answered (a : Allocator) (core : ℕ) (old : Desk) (s : Stretch) (answers : List Answer) (new : Desk)
-    : Type 0 where
-  pub desk : IsDeskOf a new
-  pub lent : lent_by (core_of new) ≡ lent_by (core_of old)
-  pub run : DeskRun (memory_of a) (list_of old) (asks_by core (asks_in s)) answers (list_of new)
-
--- what a core answered: a list for each stretch
-abbrev pub Told : Type 0
-Told = Vec (Vec Answer Global) Global
-
--- all answers of a core
-abbrev pub all_answers : Told → List Answer
-all_answers t = flat_map (λ v. v.items) t.items
-
--- the answers of a core to the stretches from a place on, so many of them
-abbrev pub answers_to : ℕ → ℕ → Told → List Answer
-answers_to from count t = flat_map (λ v. v.items) (take count (drop from t.items))
-
--- what each core answered
-abbrev pub told_by : List Done → List Told
-told_by done = map (λ d. d.answers) done
-
--- the requests of one core ran, from one desk to another that lends as many blocks; each list of answers is
--- to the requests of its stretch
-pub record Ran (a : Allocator) (core : ℕ) (old : Desk) (stretches : List Stretch) (done : Done) : Type 0 where
+-- the requests of one core ran, from one desk to another that lends as many blocks
+pub record Ran (a : Allocator) (core : ℕ) (old : Desk) (asks : List Ask) (done : Done) : Type 0 where
   pub desk : IsDeskOf a done.desk
   pub lent : lent_by (core_of done.desk) ≡ lent_by (core_of old)
-  pub run : DeskRun (memory_of a) (list_of old) (asks_by core (asks_of stretches)) (all_answers done.answers)
+  pub run : DeskRun (memory_of a) (list_of old) (asks_by core asks) done.answers.items
       (list_of done.desk)
-  pub width : length done.answers.items ≤ length stretches
-  pub each : (p : ℕ) (s : Stretch) → p < length stretches
-      → map spot (answers_to p 1 done.answers) ≡ map ask_spot (asks_by core (asks_in (slice_index_or stretches p s)))
 
 -- the promise of a core's thread is that these records run so from this desk
-pub record IsPromiseOf (a : Allocator) (own : ℕ) (desk : Desk) (all : List Stretch)
+pub record IsPromiseOf (a : Allocator) (own : ℕ) (desk : Desk) (number : ℕ) (records : List Line)
     (promise : Running) : Type 0 where
   pub allocator : promise.allocator.now ≡ a
   pub core : promise.core ≡ own
   pub was : promise.was.value ≡ desk
-  pub stretches : promise.stretches.now ≡ all
+  pub first : promise.first ≡ number
+  pub lines : promise.lines.now ≡ records
 
 -- each desk of the list, from a core on, ran the requests of its core
-abbrev pub RanAll : Allocator → ℕ → List Desk → List Stretch → List Done → Type 0
-RanAll a core [] stretches [] = Unit {0}
-RanAll a core (d ∷ desks) stretches (e ∷ done) =
-    Ran a core d stretches e × RanAll a (core + 1) desks stretches done
-RanAll a core _ stretches _ = ⊥
+abbrev pub RanAll : Allocator → ℕ → List Desk → List Ask → List Done → Type 0
+RanAll a core [] asks [] = Unit {0}
+RanAll a core (d ∷ desks) asks (e ∷ done) =
+    Ran a core d asks e × RanAll a (core + 1) desks asks done
+RanAll a core _ asks _ = ⊥
 
 -- these were done first, and then this
 pub record Follows (first : Result (Vec Done Global) Fault) (last : Result Done Fault) (all : List Done) : Type 0 where
@@ -199,42 +146,17 @@ pub record Follows (first : Result (Vec Done Global) Fault) (last : Result Done 
   pub is_last : last ≡ Ok done
   pub is_all : all ≡ others.items ++ done ∷ []
 
--- a core has at most so many lists of answers
-abbrev pub HasLists : ℕ → Told → Type 0
-HasLists count t = length t.items ≤ count
+-- each core has an answer to each of its requests
+pub record Fitting (asks : List Ask) (done : List Done) : Type 0 where
+  pub inside : (i : ℕ) (d : Ask) → i < length asks → (slice_index_or asks i d).core < length done
+  pub fits : (k : ℕ) (d : Done) → k < length done
+      → map spot (slice_index_or done k d).answers.items ≡ map ask_spot (asks_by k asks)
 
--- each core has an answer of its own to each of its requests
-pub record Fitting (own : Told → List Answer) (asks : List Ask) (told : List Told) : Type 0 where
-  pub inside : (i : ℕ) (d : Ask) → i < length asks → (slice_index_or asks i d).core < length told
-  pub fits : (k : ℕ) (t : Told) → k < length told
-      → map spot (own (slice_index_or told k t)) ≡ map ask_spot (asks_by k asks)
-
--- an answer to each request, in their order, and each core's are its own
-pub record Merged (own : Told → List Answer) (asks : List Ask) (told : List Told) (answers : List Answer)
-    : Type 0 where
+-- an answer to each request, in their order, and each core's are those that it gave
+pub record Merged (asks : List Ask) (done : List Done) (answers : List Answer) : Type 0 where
   pub spots : map spot answers ≡ map ask_spot asks
-  pub each : (k : ℕ) (t : Told) → k < length told → answers_by k answers ≡ own (slice_index_or told k t)
-
--- each core has an answer to each of its requests in each of these stretches
-pub record MaySpell (stretches : List Stretch) (told : List Told) : Type 0 where
-  pub runnable : All IsRunnable stretches
-  pub fits : (p : ℕ) (s : Stretch) → p < length stretches
-      → Fitting (answers_to p 1) (asks_in (slice_index_or stretches p s)) told
-
--- the text is of an answer to each request of the stretches from a place to another, in their order, and each
--- core's answers are those that it gave to these
-pub record Spells (stretches : List Stretch) (told : List Told) (from end : ℕ) (text : List ℕ) : Type 0 where
-  pub answers : List Answer
-  pub merged : Merged (answers_to from (end - from)) (asks_between stretches from (end - from)) told answers
-  pub spells : text ≡ answer_rows_text answers
-
--- the promise of a thread is to spell the answers to these stretches
-pub record IsSpellingOf (all : List Stretch) (lists : List Told) (first last : ℕ) (promise : Spelling)
-    : Type 0 where
-  pub stretches : promise.stretches.now ≡ all
-  pub told : promise.told.now ≡ lists
-  pub from : promise.from ≡ first
-  pub end : promise.end ≡ last
+  pub each : (k : ℕ) (d : Done) → k < length done
+      → answers_by k answers ≡ (slice_index_or done k d).answers.items
 
 -- the seats of the cores of these desks
 abbrev pub seats_at : List Desk → List CoreSeat

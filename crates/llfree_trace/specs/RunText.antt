@@ -1,8 +1,6 @@
 -- The text that a run of a trace shows, and why a trace is not run.
-use Rattle.std.specs.Prelude.{ℕ, ◌≡◌, ◌≢◌, List, [], Ok}
+use Rattle.std.specs.Prelude.{ℕ, ◌≡◌, ◌≢◌, List, Ok}
 use Rattle.core_frames.specs.Ranges.{MayHoldBack}
-use Rattle.core_frames.specs.declared.shared.allocator.Allocator.{Allocator}
-use Rattle.core_frames.specs.declared.shared.desk.Desk.{Desk}
 use Rattle.frame_core.specs.Image.{Contents, key_in}
 use Rattle.frame_model.specs.Laws.{AddsUp}
 use Rattle.frame_model.specs.Report.{free_frames, held_frames}
@@ -14,13 +12,11 @@ use Rattle.frame_words.specs.declared.fault.Fault.TheVariants as fault
 use Rattle.frame_words.specs.declared.geometry.Geometry.{Geometry}
 use Rattle.held_blocks.specs.Desk.{MayRefuse}
 use Rattle.llfree_trace.specs.Outcome.{IsAnsweredBy, MustRefuseHere, key_under}
-use Rattle.llfree_trace.specs.Rounds.{Merged, RoundRan, Told, all_answers, asks_of}
-use Rattle.trace_text.specs.AnswerText.{answer_rows_text, answers_of}
+use Rattle.trace_text.specs.AnswerText.{answers_of}
 use Rattle.trace_text.specs.Trace.{ranges_in}
 use Rattle.trace_text.specs.TraceText.{ExplainsTrace, trace_of}
 use Rattle.trace_text.specs.declared.line.Line.{Line}
 use Rattle.trace_text.specs.declared.reply.Answer.{Answer}
-use Rattle.llfree_trace.specs.Rounds.{Stretch}
 use Rattle.llfree_trace.specs.declared.streams.Show.{Show}
 use Rattle.llfree_trace.specs.declared.streams.Show.TheVariants as show
 
@@ -35,31 +31,6 @@ abbrev pub shown_of : Show → List Answer → Contents → List ℕ
 shown_of show.Answers answers image = outcome_answers answers image
 shown_of show.Picture answers image = picture_of (drawn image)
 
--- what is shown of a run in front of the last piece: the answers, where they are shown
-abbrev pub front_of : Show → List Answer → List ℕ
-front_of show.Answers answers = answer_rows_text answers
-front_of show.Picture answers = []
-
--- the last piece: the last record behind the answers, or the image
-abbrev pub last_of : Show → Contents → List ℕ
-last_of show.Answers image = outcome_answers [] image
-last_of show.Picture image = picture_of (drawn image)
-
--- the text is what is shown of answers to the requests of these stretches, in their order, and each core's are
--- those that it gave
-pub record ShowsAnswers (show : Show) (stretches : List Stretch) (told : List Told) (text : List ℕ)
-    : Type 0 where
-  pub answers : List Answer
-  pub merged : Merged all_answers (asks_of stretches) told answers
-  pub shows : text ≡ front_of show answers
-
--- a round, and the text is what is shown of its answers in front of the last piece
-pub record IsShownRound (a : Allocator) (old : List Desk) (show : Show) (stretches : List Stretch) (new : List Desk)
-    (text : List ℕ) : Type 0 where
-  pub answers : List Answer
-  pub round : RoundRan a old (asks_of stretches) answers new
-  pub shows : text ≡ front_of show answers
-
 -- the bytes show an outcome that fits what the text says as a trace, whose ranges may be held back;
 -- takes are refused in it as they may be, and its image's counters add up
 pub record IsRunOf (refuses : Key → List FrameBlock → ℕ → Fault → Type 0) (geometry : Geometry)
@@ -73,11 +44,6 @@ pub record IsRunOf (refuses : Key → List FrameBlock → ℕ → Fault → Type
   pub fits : IsAnsweredBy refuses lines answers image
   pub counters : AddsUp (key_under lines image) image.words
   pub spells : out ≡ shown_of show answers image
-
--- the bytes show an outcome that fits these records, whatever text says them
-abbrev pub ShowsRunOf : Geometry → Show → List Line → List ℕ → Type 0
-ShowsRunOf geometry show lines out =
-    (text : List ℕ) → trace_of geometry.cores text ≡ Ok lines → IsRunOf MayRefuse geometry show text out
 
 -- the bytes show such an outcome; on one core a take is refused in it only where no block of its order is
 -- free, on several it may be lost as well

@@ -14,12 +14,9 @@ mod one_core;
 mod outcome;
 mod program;
 mod progress;
-mod round_in_parts;
 mod rounds;
 mod run_desks;
 mod streams;
-mod stretch_texts;
-mod stretches;
 mod transfers;
 
 pub use gate::{Gate, OpenGate};

@@ -1,111 +1,62 @@
 //! The requests of one core, on one thread.
 
-ghost use Rattle.std.specs.Prelude.{◌≡◌, ◌≢◌, ◌+◌, [], true, IfOk, IfErr, IfSome, IfNone};
+ghost use Rattle.std.specs.Prelude.{◌≡◌, ◌≢◌, ◌≤◌, ◌+◌, true, IfOk, IfErr, IfSome, IfNone};
 ghost use Rattle.std.specs.Bool.{OnFalse};
 ghost use Rattle.std.specs.List.{All};
 ghost use Rattle.held_blocks.specs.Desk.{MayRefuse};
 ghost use Rattle.core_frames.specs.Cores.{memory_of, lent_by};
 ghost use Rattle.core_frames.specs.Desks.{list_of, core_of, IsDeskOf};
 ghost use Rattle.llfree_trace.specs.Outcome.{DeskStep};
-ghost use Rattle.llfree_trace.specs.Rounds.{Answered, IsNoAskOf, IsTakenReply, MayAnswer, MayRun, Ran};
-ghost use Rattle.llfree_trace.specs.Rounds.{asks_by, asks_of, given_reply};
+ghost use Rattle.llfree_trace.specs.Rounds.{IsNoAskOf, IsTakenReply, MayRun, Ran, asks_from, given_reply};
+ghost use Rattle.trace_text.specs.Trace.{cores_in};
 
 use crate::gate::Gate;
-use crate::stretches::Stretch;
 use core_frames::{Allocator, Desk};
 use frame_words::Fault;
 use std::alloc::Global;
 use trace_text::{Answer, Line, Reply, Request};
 
-/// A desk after its requests, and its answers to them, a list for each stretch of the records; no list
-/// where it had no requests.
+/// A desk after its requests, and its answers to them.
 #[derive(Drop)]
 pub(crate) struct Done {
     pub(crate) desk: Desk,
-    pub(crate) answers: Vec<Vec<Answer>>,
+    pub(crate) answers: Vec<Answer>,
 }
 
-/// Runs the requests of one core, in order.
+/// Runs the requests of one core, in order. The first record has this number.
 pub(crate) fn run_lines<G: Gate>(
     alloc: Global,
     allocator: &Allocator,
     gate: &G,
     core: u32,
     mut desk: Desk,
-    stretches: &[Stretch],
+    first: u32,
+    lines: &[Line],
 ) -> Result<Done, Fault>
-    requires { MayRun allocator.now desk stretches.now }
-    ensures ran { IfOk result (λ d. Ran allocator.now core desk stretches.now d) }
-    ensures fault { IfErr result (λ e. e ≡ Fault.NoMemory) }
-{
-    let answers = run_stretches(alloc, allocator, gate, core, &mut desk, stretches)?;
-    Ok(Done { desk, answers })
-}
-
-// Runs the requests of one core, in order, and answers a list for each stretch.
-fn run_stretches<G: Gate>(
-    alloc: Global,
-    allocator: &Allocator,
-    gate: &G,
-    core: u32,
-    desk: &mut Desk,
-    stretches: &[Stretch],
-) -> Result<Vec<Vec<Answer>>, Fault>
-    requires { MayRun allocator.now desk.old stretches.now }
-    ensures ran { IfOk result (λ answers. Ran allocator.now core desk.old stretches.now
-        (record { desk = desk.new; answers = answers })) }
-    ensures fault { IfErr result (λ e. e ≡ Fault.NoMemory) }
-{
-    let mut answers = Vec::with_capacity(alloc, stretches.len())?;
-    for stretch in stretches {
-        let own = run_stretch(alloc, allocator, gate, core, desk, stretch)?;
-        answers.push(own)?;
-    }
-    Ok(answers)
-}
-
-// Runs the requests of one core in a stretch, in order.
-fn run_stretch<G: Gate>(
-    alloc: Global,
-    allocator: &Allocator,
-    gate: &G,
-    core: u32,
-    desk: &mut Desk,
-    stretch: &Stretch,
-) -> Result<Vec<Answer>, Fault>
-    requires { MayAnswer allocator.now desk.old stretch.now }
-    ensures ran { IfOk result (λ answers. Answered allocator.now core desk.old stretch.now
-        answers.items desk.new) }
+    requires { MayRun allocator.now desk first lines.now }
+    ensures ran { IfOk result (λ d. Ran allocator.now core desk (asks_from first lines.now) d) }
     ensures fault { IfErr result (λ e. e ≡ Fault.NoMemory) }
 {
     let mut answers = Vec::new(alloc);
-    let mut number = stretch.0;
-    for line in stretch.1 {
+    let mut number = first;
+    for line in lines {
         if let Some(request) = request_of(core, line) {
-            let answer = answer_at(desk, allocator, gate, core, number, request)?;
+            let answer = answer_at(&mut desk, allocator, gate, core, number, request)?;
             answers.push(answer)?;
         }
         number += 1;
     }
-    Ok(answers)
+    Ok(Done { desk, answers })
 }
 
-/// Whether a core has requests.
-pub(crate) fn has_lines(core: u32, stretches: &[Stretch]) -> bool
-    ensures { OnFalse result (asks_by core (asks_of stretches.now) ≡ []) }
-{
-    for stretch in stretches {
-        if has_asks(core, stretch.1) {
-            return true;
-        }
-    }
-    false
-}
-
-// Whether a core has requests among these records.
-fn has_asks(core: u32, lines: &[Line]) -> bool
+/// Whether a core has requests among records that name so many cores.
+pub(crate) fn has_lines(core: u32, named: u32, lines: &[Line]) -> bool
+    requires { All (λ l. cores_in l ≤ named) lines.now }
     ensures { OnFalse result (All (IsNoAskOf core) lines.now) }
 {
+    if core >= named {
+        return false;
+    }
     for line in lines {
         match request_of(core, line) {
             Some(_) => return true,

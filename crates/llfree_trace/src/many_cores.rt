@@ -9,7 +9,7 @@ ghost use Rattle.trace_text.specs.Trace.{core_count, ranges_in};
 
 use crate::gate::Gate;
 use crate::outcome::Outcome;
-use crate::progress::{Progress, run_all};
+use crate::progress::{Progress, run_rounds};
 use crate::run_desks::{close_desks, open_desks};
 use core_frames::Allocator;
 use frame_words::{Fault, Geometry};
@@ -42,7 +42,8 @@ pub fn run_trace<G: Gate, R: Threads + Wait>(
     let desks = open_desks(alloc, &allocator, cores)?;
     let answers = Vec::new(alloc);
     let start = Progress { desks, answers };
-    let end = run_all(rt, alloc, &allocator, gate, start, trace)?;
+    let named = trace.cores();
+    let end = run_rounds(rt, alloc, &allocator, gate, start, named, trace.lines())?;
     let Progress { desks, answers } = end;
     let image = close_desks(alloc, allocator, desks)?;
     Ok(Outcome { answers, image })

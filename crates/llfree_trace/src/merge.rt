@@ -1,17 +1,15 @@
 //! The answers of a round, in the order of its records.
 
-ghost use Rattle.std.specs.Prelude.{◌≡◌, ◌+◌, ◌≤◌, ◌<◌, ◌∷◌, [], length, map, vec_len, IfOk, IfErr};
+ghost use Rattle.std.specs.Prelude.{◌≡◌, ◌+◌, ◌≤◌, ◌<◌, length, map, vec_len, IfOk, IfErr};
 ghost use Rattle.std.specs.Prelude.{slice_index, slice_index_or, slice_set};
 ghost use Rattle.std.specs.List.{All};
 ghost use Rattle.frame_words.specs.Geometry.{most_cores};
-ghost use Rattle.llfree_trace.specs.Rounds.{IsAsk, MayRunAll, answers_to, ask_core, asks_in};
-ghost use Rattle.llfree_trace.specs.Rounds.{Fitting, Merged, RoundRan, told_by};
+ghost use Rattle.llfree_trace.specs.Rounds.{IsAsk, MayRunAll, ask_core, asks_from, Fitting, Merged, RoundRan};
 ghost use Rattle.trace_text.specs.Trace.{cores_in};
 
 use crate::gate::Gate;
 use crate::lines::Done;
 use crate::rounds::run_round;
-use crate::stretches::Stretch;
 use core_frames::{Allocator, Desk};
 use frame_words::Fault;
 use std::alloc::Global;
@@ -19,26 +17,19 @@ use std::sync::Wait;
 use std::thread::Threads;
 use trace_text::{Answer, Line};
 
-/// Puts the answers of all cores to the stretch at this place into the order of its records.
-pub(crate) fn merge(
-    alloc: Global,
-    stretch: &Stretch,
-    place: usize,
-    told: &[Vec<Vec<Answer>>],
-) -> Result<Vec<Answer>, Fault>
-    requires asks { All IsAsk stretch.now.1.now }
-    requires fit { Fitting (answers_to place 1) (asks_in stretch.now) told.now }
-    ensures merged { IfOk result (λ all.
-        Merged (answers_to place 1) (asks_in stretch.now) told.now all.items) }
+// Puts the answers of all cores into the order of the records.
+fn merge(alloc: Global, first: u32, lines: &[Line], done: &[Done]) -> Result<Vec<Answer>, Fault>
+    requires asks { All IsAsk lines.now }
+    requires fit { Fitting (asks_from first lines.now) done.now }
+    ensures merged { IfOk result (λ all. Merged (asks_from first lines.now) done.now all.items) }
     ensures fault { IfErr result (λ e. e ≡ Fault.NoMemory) }
 {
-    let mut used = vec![in alloc; 0usize; told.len()]?;
-    let mut all = Vec::with_capacity(alloc, stretch.1.len())?;
-    for line in stretch.1 {
+    let mut used = vec![in alloc; 0usize; done.len()]?;
+    let mut all = Vec::with_capacity(alloc, lines.len())?;
+    for line in lines {
         let core = core_of(line) as usize;
-        let lists = &told[core];
-        let own = &lists[place];
-        let answer = next_answer(&mut used, core, own.as_slice());
+        let own = &done[core];
+        let answer = next_answer(&mut used, core, own.answers.as_slice());
         all.push(answer)?;
     }
     Ok(all)
@@ -68,22 +59,13 @@ fn core_of(line: &Line) -> u32
     }
 }
 
-/// The desks, and what each core answered.
-pub(crate) fn parted(
-    alloc: Global,
-    done: Vec<Done>,
-) -> Result<(Vec<Desk>, Vec<Vec<Vec<Answer>>>), Fault>
-    ensures desks { IfOk result (λ r. r.0.items ≡ map (λ d. d.desk) done.items) }
-    ensures told { IfOk result (λ r. r.1.items ≡ told_by done.items) }
+// The desks.
+fn desks_of(alloc: Global, done: Vec<Done>) -> Result<Vec<Desk>, Fault>
+    ensures desks { IfOk result (λ v. v.items ≡ map (λ d. d.desk) done.items) }
     ensures fault { IfErr result (λ e. e ≡ Fault.NoMemory) }
 {
-    let mut desks = Vec::with_capacity(alloc, done.len())?;
-    let mut told = Vec::with_capacity(alloc, done.len())?;
-    for one in done {
-        desks.push(one.desk)?;
-        told.push(one.answers)?;
-    }
-    Ok((desks, told))
+    let desks = done.into_iter().map(|one| one.desk).collect(alloc)?;
+    Ok(desks)
 }
 
 /// Runs a round, and puts its answers into the order of its records.
@@ -93,18 +75,20 @@ pub(crate) fn answer_round<G: Gate, R: Threads + Wait>(
     allocator: &Allocator,
     gate: &G,
     desks: Vec<Desk>,
-    stretch: Stretch,
+    named: u32,
+    first: u32,
+    lines: &[Line],
 ) -> Result<(Vec<Desk>, Vec<Answer>), Fault>
     requires few { vec_len desks ≤ most_cores }
-    requires all { MayRunAll allocator.now desks.items (stretch ∷ []) }
-    requires inside { All (λ l. cores_in l ≤ vec_len desks) stretch.1.now }
+    requires named { named ≤ vec_len desks }
+    requires all { MayRunAll allocator.now desks.items first lines.now }
+    requires inside { All (λ l. cores_in l ≤ named) lines.now }
     ensures round { IfOk result (λ r. RoundRan allocator.now desks.items
-        (asks_in stretch.entry) r.1.items r.0.items) }
+        (asks_from first lines.now) r.1.items r.0.items) }
     ensures fault { IfErr result (λ e. e ≡ Fault.NoMemory) }
 {
-    let stretches = [stretch];
-    let done = run_round(rt, alloc, allocator, gate, desks, &stretches)?;
-    let (desks, told) = parted(alloc, done)?;
-    let answers = merge(alloc, &stretch, 0, told.as_slice())?;
+    let done = run_round(rt, alloc, allocator, gate, desks, named, first, lines)?;
+    let answers = merge(alloc, first, lines, done.as_slice())?;
+    let desks = desks_of(alloc, done)?;
     Ok((desks, answers))
 }

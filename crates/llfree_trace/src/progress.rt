@@ -13,14 +13,13 @@ ghost use Rattle.trace_text.specs.declared.line.Line.{Line as OneLine};
 
 use crate::gate::Gate;
 use crate::merge::answer_round;
-use crate::stretches::Stretch;
 use crate::transfers::move_block;
 use core_frames::{Allocator, Desk};
 use frame_words::Fault;
 use std::alloc::Global;
 use std::sync::Wait;
 use std::thread::Threads;
-use trace_text::{Answer, Line, Trace, number_after};
+use trace_text::{Answer, Line, number_after};
 
 /// The desks of all cores, and the answers so far.
 #[derive(Drop)]
@@ -29,43 +28,21 @@ pub(crate) struct Progress {
     pub(crate) answers: Vec<Answer>,
 }
 
-/// Runs all records of a trace: requests in rounds, every other record between two of them. Where they are one
-/// round its end is not looked for.
-pub(crate) fn run_all<G: Gate, R: Threads + Wait>(
+/// Runs records, which name so many cores: requests in rounds, every other record between two of them.
+pub(crate) fn run_rounds<G: Gate, R: Threads + Wait>(
     rt: &R,
     alloc: Global,
     allocator: &Allocator,
     gate: &G,
     start: Progress,
-    trace: &Trace,
-) -> Result<Progress, Fault>
-    requires few { vec_len start.desks ≤ most_cores }
-    requires desks { All (IsDeskOf allocator.now) start.desks.items }
-    requires sealed { (memory_of allocator.now).sealed ≡ true }
-    requires inside { All (λ l. cores_in l ≤ vec_len start.desks) trace.now }
-    ensures goes { IfOk result (λ p. GoesOn allocator.now 1 trace.now start p) }
-    ensures fault { IfErr result (λ e. e ≡ Fault.NoMemory) }
-{
-    if trace.is_one_round() {
-        let lines = trace.lines();
-        return run_asks(rt, alloc, allocator, gate, start, (1, lines));
-    }
-    run_rounds(rt, alloc, allocator, gate, start, trace.lines())
-}
-
-// Runs records, whose rounds are not known.
-fn run_rounds<G: Gate, R: Threads + Wait>(
-    rt: &R,
-    alloc: Global,
-    allocator: &Allocator,
-    gate: &G,
-    start: Progress,
+    named: u32,
     lines: &[Line],
 ) -> Result<Progress, Fault>
     requires few { vec_len start.desks ≤ most_cores }
+    requires named { named ≤ vec_len start.desks }
     requires desks { All (IsDeskOf allocator.now) start.desks.items }
     requires sealed { (memory_of allocator.now).sealed ≡ true }
-    requires inside { All (λ l. cores_in l ≤ vec_len start.desks) lines.now }
+    requires inside { All (λ l. cores_in l ≤ named) lines.now }
     requires end { length lines.now ≤ most_records }
     ensures goes { IfOk result (λ p. GoesOn allocator.now 1 lines.now start p) }
     ensures fault { IfErr result (λ e. e ≡ Fault.NoMemory) }
@@ -74,7 +51,16 @@ fn run_rounds<G: Gate, R: Threads + Wait>(
     let mut done = 0;
     while done < lines.len() {
         let number = number_after(done);
-        let (next, count) = run_part(rt, alloc, allocator, gate, progress, number, &lines[done..])?;
+        let (next, count) = run_part(
+            rt,
+            alloc,
+            allocator,
+            gate,
+            progress,
+            named,
+            number,
+            &lines[done..],
+        )?;
         progress = next;
         done += count;
     }
@@ -89,13 +75,15 @@ fn run_part<G: Gate, R: Threads + Wait>(
     allocator: &Allocator,
     gate: &G,
     progress: Progress,
+    named: u32,
     number: u32,
     lines: &[Line],
 ) -> Result<(Progress, usize), Fault>
     requires few { vec_len progress.desks ≤ most_cores }
+    requires named { named ≤ vec_len progress.desks }
     requires desks { All (IsDeskOf allocator.now) progress.desks.items }
     requires sealed { (memory_of allocator.now).sealed ≡ true }
-    requires inside { All (λ l. cores_in l ≤ vec_len progress.desks) lines.now }
+    requires inside { All (λ l. cores_in l ≤ named) lines.now }
     requires lines { (0 < length lines.now) × (number + length lines.now ≤ 2_000_000) }
     ensures goes { IfOk result (λ r.
         GoesOnBy allocator.now number lines.now progress r.0 r.1) }
@@ -106,8 +94,16 @@ fn run_part<G: Gate, R: Threads + Wait>(
         let next = run_mark(allocator, progress, number, &lines[0])?;
         return Ok((next, 1));
     }
-    let stretch = (number, &lines[..count]);
-    let next = run_asks(rt, alloc, allocator, gate, progress, stretch)?;
+    let next = run_asks(
+        rt,
+        alloc,
+        allocator,
+        gate,
+        progress,
+        named,
+        number,
+        &lines[..count],
+    )?;
     Ok((next, count))
 }
 
@@ -135,17 +131,19 @@ fn run_asks<G: Gate, R: Threads + Wait>(
     allocator: &Allocator,
     gate: &G,
     progress: Progress,
-    stretch: Stretch,
+    named: u32,
+    number: u32,
+    lines: &[Line],
 ) -> Result<Progress, Fault>
     requires few { vec_len progress.desks ≤ most_cores }
-    requires all { MayRunAll allocator.now progress.desks.items (stretch ∷ []) }
-    requires inside { All (λ l. cores_in l ≤ vec_len progress.desks) stretch.1.now }
-    ensures goes { IfOk result (λ p.
-        GoesOn allocator.now stretch.entry.0 stretch.entry.1.now progress p) }
+    requires named { named ≤ vec_len progress.desks }
+    requires all { MayRunAll allocator.now progress.desks.items number lines.now }
+    requires inside { All (λ l. cores_in l ≤ named) lines.now }
+    ensures goes { IfOk result (λ p. GoesOn allocator.now number lines.now progress p) }
     ensures fault { IfErr result (λ e. e ≡ Fault.NoMemory) }
 {
     let Progress { desks, answers } = progress;
-    let (desks, more) = answer_round(rt, alloc, allocator, gate, desks, stretch)?;
+    let (desks, more) = answer_round(rt, alloc, allocator, gate, desks, named, number, lines)?;
     let answers = joined(answers, more)?;
     Ok(Progress { desks, answers })
 }

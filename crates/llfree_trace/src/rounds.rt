@@ -1,12 +1,13 @@
 //! A round: the requests of each core on a thread of their own.
 
 ghost use Rattle.std.specs.Prelude.{◌≡◌, ◌≤◌, [], vec_len, IfOk, IfErr};
+ghost use Rattle.std.specs.List.{All};
 ghost use Rattle.frame_words.specs.Geometry.{most_cores};
-ghost use Rattle.llfree_trace.specs.Rounds.{Follows, IsPromiseOf, MayRun, MayRunAll, Ran, RanAll};
+ghost use Rattle.llfree_trace.specs.Rounds.{Follows, IsPromiseOf, MayRun, MayRunAll, asks_from, Ran, RanAll};
+ghost use Rattle.trace_text.specs.Trace.{cores_in};
 
 use crate::gate::Gate;
 use crate::lines::{Done, has_lines, run_lines};
-use crate::stretches::Stretch;
 use core_frames::{Allocator, Desk};
 use frame_words::Fault;
 use std::alloc::Global;
@@ -14,6 +15,7 @@ use std::snapshot::Snapshot;
 use std::sync::Wait;
 use std::thread;
 use std::thread::{Promise, PromisedHandle, Scope, Threads};
+use trace_text::Line;
 
 /// What a core's thread promises: that the core's requests ran, from the desk that it was given.
 #[derive(Drop)]
@@ -21,16 +23,17 @@ pub(crate) struct Running<'a> {
     allocator: &'a Allocator,
     core: u32,
     was: Snapshot<Desk>,
-    stretches: &'a [Stretch<'a>],
+    first: u32,
+    lines: &'a [Line],
 }
 
 impl<'a> Promise<Result<Done, Fault>> for Running<'a> {
     ghost use Rattle.std.specs.Prelude.{◌≡◌, IfOk, IfErr};
     ghost use Rattle.frame_words.specs.declared.fault.Fault.TheVariants.{NoMemory};
-    ghost use Rattle.llfree_trace.specs.Rounds.{Ran};
+    ghost use Rattle.llfree_trace.specs.Rounds.{asks_from, Ran};
 
     ghost kept_by = { λ p r.
-        IfOk r (λ d. Ran p.allocator.now p.core p.was.value p.stretches.now d)
+        IfOk r (λ d. Ran p.allocator.now p.core p.was.value (asks_from p.first p.lines.now) d)
         × IfErr r (λ e. e ≡ NoMemory) };
 }
 
@@ -42,25 +45,27 @@ fn start<'s, E, G: Gate>(
     gate: &'s G,
     core: u32,
     desk: Desk,
-    stretches: &'s [Stretch<'s>],
+    first: u32,
+    lines: &'s [Line],
 ) -> Result<PromisedHandle<Result<Done, Fault>, Running<'s>>, Fault>
-    requires run { MayRun allocator.now desk stretches.now }
+    requires run { MayRun allocator.now desk first lines.now }
     ensures promise { IfOk result (λ h.
-        IsPromiseOf allocator.now core desk stretches.now h.promise) }
+        IsPromiseOf allocator.now core desk first lines.now h.promise) }
     ensures fault { IfErr result (λ e. e ≡ Fault.NoMemory) }
 {
     let promise = Running {
         allocator,
         core,
         was: Snapshot::of(&desk),
-        stretches,
+        first,
+        lines,
     };
     let run = move || -> Result<Done, Fault>
-        requires { MayRun allocator.now desk stretches.now }
+        requires { MayRun allocator.now desk first lines.now }
         ensures ran { IfOk result (λ d.
-            Ran allocator.entry.now core desk stretches.entry.now d) }
+            Ran allocator.entry.now core desk (asks_from first lines.entry.now) d) }
         ensures fault { IfErr result (λ e. e ≡ Fault.NoMemory) }
-    { run_lines(alloc, allocator, gate, core, desk, stretches) };
+    { run_lines(alloc, allocator, gate, core, desk, first, lines) };
     match scope.spawn_with(promise, run) {
         Ok(child) => Ok(child),
         Err(_) => Err(Fault::NoMemory),
@@ -76,25 +81,32 @@ fn run_cores<'s, E, G: Gate, R: Threads>(
     allocator: &'s Allocator,
     gate: &'s G,
     mut desks: Vec<Desk>,
-    stretches: &'s [Stretch<'s>],
+    named: u32,
+    first: u32,
+    lines: &'s [Line],
 ) -> Result<Vec<Done>, Fault>
     requires few { vec_len desks ≤ most_cores }
-    requires all { MayRunAll allocator.now desks.items stretches.now }
+    requires all { MayRunAll allocator.now desks.items first lines.now }
+    requires inside { All (λ l. cores_in l ≤ named) lines.now }
     ensures ran { IfOk result (λ all.
-        RanAll allocator.now 0 desks.items stretches.now all.items) }
+        RanAll allocator.now 0 desks.items (asks_from first lines.now) all.items) }
     ensures fault { IfErr result (λ e. e ≡ Fault.NoMemory) }
 {
     let Some(desk) = desks.pop() else {
         return Ok(Vec::new(alloc));
     };
     let core = desks.len() as u32;
-    if !has_lines(core, stretches) {
-        let others = run_cores(scope, rt, alloc, allocator, gate, desks, stretches);
+    if !has_lines(core, named, lines) {
+        let others = run_cores(
+            scope, rt, alloc, allocator, gate, desks, named, first, lines,
+        );
         return followed(others, Ok(idle(alloc, desk)));
     }
-    let child = start(scope, alloc, allocator, gate, core, desk, stretches)?;
+    let child = start(scope, alloc, allocator, gate, core, desk, first, lines)?;
     // No `?` here: the thread is joined first.
-    let others = run_cores(scope, rt, alloc, allocator, gate, desks, stretches);
+    let others = run_cores(
+        scope, rt, alloc, allocator, gate, desks, named, first, lines,
+    );
     followed(others, child.join(rt))
 }
 
@@ -127,12 +139,15 @@ pub(crate) fn run_round<G: Gate, R: Threads + Wait>(
     allocator: &Allocator,
     gate: &G,
     desks: Vec<Desk>,
-    stretches: &[Stretch],
+    named: u32,
+    first: u32,
+    lines: &[Line],
 ) -> Result<Vec<Done>, Fault>
     requires few { vec_len desks ≤ most_cores }
-    requires all { MayRunAll allocator.now desks.items stretches.now }
+    requires all { MayRunAll allocator.now desks.items first lines.now }
+    requires inside { All (λ l. cores_in l ≤ named) lines.now }
     ensures ran { IfOk result (λ all.
-        RanAll allocator.now 0 desks.items stretches.now all.items) }
+        RanAll allocator.now 0 desks.items (asks_from first lines.now) all.items) }
     ensures fault { IfErr result (λ e. e ≡ Fault.NoMemory) }
 {
     thread::scope(
@@ -140,10 +155,15 @@ pub(crate) fn run_round<G: Gate, R: Threads + Wait>(
         rt,
         |scope| -> Result<Vec<Done>, Fault>
             requires few { vec_len desks ≤ most_cores }
-            requires all { MayRunAll allocator.now desks.items stretches.now }
+            requires all { MayRunAll allocator.now desks.items first lines.now }
+            requires inside { All (λ l. cores_in l ≤ named) lines.now }
             ensures ran { IfOk result (λ all. RanAll allocator.entry.now 0 desks.items
-                stretches.entry.now all.items) }
+                (asks_from first lines.entry.now) all.items) }
             ensures fault { IfErr result (λ e. e ≡ Fault.NoMemory) }
-        { run_cores(scope, rt, alloc, allocator, gate, desks, stretches) },
+        {
+            run_cores(
+                scope, rt, alloc, allocator, gate, desks, named, first, lines,
+            )
+        },
     )
 }

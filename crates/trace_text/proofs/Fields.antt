@@ -1,5 +1,5 @@
 -- Rows of four fields.
-use Rattle.std.proofs.Common.{◌≡◌, ◌≢◌, Bool, true, false, List, [], ◌∷◌, length, Option, Some, None, refl, arith, ℕ}
+use Rattle.std.proofs.Common.{◌≡◌, ◌≢◌, List, [], ◌∷◌, length, Some, None, refl, arith, ℕ}
 use Rattle.csv.specs.Records.{field_at}
 use Rattle.trace_text.specs.TraceText.{line_of}
 

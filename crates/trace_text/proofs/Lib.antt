@@ -5,6 +5,5 @@ pub mod Parsing
 pub mod Cutting
 pub mod Joining
 pub mod InParts
-pub mod RoundParts
 pub mod AnswerRows
 pub mod Spelling

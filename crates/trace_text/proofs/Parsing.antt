@@ -1,11 +1,8 @@
 -- How a trace grows by one record.
-use Rattle.std.proofs.Common.{◌≡◌, ◌∙◌, ◌+◌, ◌<◌, ◌≤◌, ℕ, List, [], ◌∷◌, ◌++◌, ap, Bool, true, length, Some, None, Ok, Err, arith, refl}
-use Rattle.std.specs.Prelude.{◌&&◌}
-use Rattle.std.proofs.Math.Bool.{and-true}
+use Rattle.std.proofs.Common.{◌≡◌, ◌∙◌, ◌+◌, ◌<◌, ◌≤◌, ℕ, List, [], ◌∷◌, ◌++◌, length, max, Some, None, Ok, Err, arith, refl}
 use Rattle.std.proofs.lemmas.List.{length_push}
-use Rattle.std.proofs.lemmas.List.Folds.{list_all-append}
 use Rattle.frame_text.specs.Records.{read_records, records_of}
-use Rattle.trace_text.specs.Trace.{core_count, cores_in, is_ask, is_one_round, most_records, range_in, ranges_in}
+use Rattle.trace_text.specs.Trace.{core_count, cores_in, most_records, range_in, ranges_in}
 use Rattle.trace_text.specs.declared.line.Line.{Line}
 use Rattle.trace_text.specs.TraceText.{IsReadTo, line_after, lines_with, trace_of}
 use Rattle.trace_text.proofs.Cores.{core_count_more}
@@ -32,33 +29,22 @@ pub read_all : (cores number : ℕ) (lines : List Line)
 unfolding read_records
 read_all cores number lines = refl
 
--- records, and others behind them, are one round where both are
-pub one_round_both : (front behind : List Line)
-    → is_one_round (front ++ behind) ≡ (is_one_round front && is_one_round behind)
-one_round_both front behind = list_all-append is_ask front behind
-
--- one more record
-one_round_more : (lines : List Line) (line : Line)
-    → is_one_round (lines ++ line ∷ []) ≡ (is_one_round lines && is_ask line)
-one_round_more lines line =
-    one_round_both lines (line ∷ []) ∙ ap (λ (b : Bool). is_one_round lines && b) (and-true (is_ask line))
-
 -- a row that is a record goes behind the records that a text was read to
-pub reads_more : (cores : ℕ) (text : List ℕ) (lines : List Line) (ranges : List (ℕ × ℕ)) (round : Bool)
+pub reads_more : (cores : ℕ) (text : List ℕ) (lines : List Line) (ranges : List (ℕ × ℕ)) (count : ℕ)
     (row : List (List ℕ)) (rows : List (List (List ℕ))) (line : Line)
-    → IsReadTo cores text lines ranges round (row ∷ rows) → Some line ≡ line_after cores lines row
+    → IsReadTo cores text lines ranges count (row ∷ rows) → Some line ≡ line_after cores lines row
     → cores_in line ≤ cores → length lines < most_records
-    → IsReadTo cores text (lines ++ line ∷ []) (ranges ++ range_in line) (round && is_ask line) rows
-reads_more cores text lines ranges round row rows line so_far is inside few =
+    → IsReadTo cores text (lines ++ line ∷ []) (ranges ++ range_in line) (max (cores_in line) count) rows
+reads_more cores text lines ranges count row rows line so_far is inside few =
     record {
       says = so_far.says ∙ rw (length_push lines line) (read_more cores (length lines + 1) lines row rows line is);
       few = rw (length_push lines line) (omega (arith, few));
       within = rw (core_count_more lines line) (omega (arith, inside, so_far.within));
       holds = rw (ranges_in_more lines line, so_far.holds) refl;
-      one = rw (so_far.one, one_round_more lines line) refl;
+      named = rw (so_far.named, core_count_more lines line) refl;
     }
 
 -- no record is read of a text yet
-pub reads_none : (cores : ℕ) (text : List ℕ) → IsReadTo cores text [] [] true (records_of text)
+pub reads_none : (cores : ℕ) (text : List ℕ) → IsReadTo cores text [] [] 0 (records_of text)
 unfolding trace_of core_count ranges_in
-reads_none cores text = record { says = refl; few = omega arith; within = omega arith; holds = refl; one = refl }
+reads_none cores text = record { says = refl; few = omega arith; within = omega arith; holds = refl; named = refl }

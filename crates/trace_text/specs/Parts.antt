@@ -2,7 +2,7 @@
 use Rattle.std.specs.Prelude.{ℕ, ◌≡◌, ◌≢◌, ◌≤◌, ◌-◌, ◌⊎◌, ◌++◌, Bool, true, List, [], ◌∷◌, length, slice_index, Ok}
 use Rattle.std.specs.List.{All, flat_map}
 use Rattle.csv.specs.Reading.{strip_bom}
-use Rattle.trace_text.specs.Trace.{core_count, is_one_round, most_records}
+use Rattle.trace_text.specs.Trace.{core_count, most_records}
 use Rattle.trace_text.specs.TraceText.{last_line, may_follow, trace_of}
 use Rattle.trace_text.specs.declared.line.Line.{Line}
 use Rattle.trace_text.specs.declared.parts.Reading.{Reading}
@@ -38,29 +38,6 @@ pub record IsJoint (front behind lines : List Line) : Type 0 where
   pub is : lines ≡ front ++ behind
   pub few : length lines ≤ most_records
   pub goes : goes_behind front behind ≡ true
-
--- the records of parts, one part behind the other
-abbrev pub lines_of : List (List Line) → List Line
-lines_of parts = flat_map (λ part. part) parts
-
--- each of the records is a request
-abbrev pub IsOneRound : List Line → Type 0
-IsOneRound lines = is_one_round lines ≡ true
-
--- there is one part alone, or the records of all are one round
-abbrev pub IsRoundOrWhole : List (List Line) → Type 0
-IsRoundOrWhole parts = (length parts ≡ 1) ⊎ All IsOneRound parts
-
--- the records of a part stand behind those of the others
-pub record IsPutBehind (parts : List (List Line)) (part : List Line) (more : List (List Line)) : Type 0 where
-  pub joint : IsJoint (lines_of parts) part (lines_of more)
-  pub rounds : IsRoundOrWhole more
-
--- the text has no quote, and says the records of these parts
-pub record SaysInParts (cores : ℕ) (text : List ℕ) (parts : List (List Line)) : Type 0 where
-  pub says : SaysPlainly cores text (lines_of parts)
-  pub rounds : IsRoundOrWhole parts
-  pub few : length (lines_of parts) ≤ most_records
 
 -- the promise of a part's thread is about this text
 pub record IsReadingOf (number : ℕ) (part : List ℕ) (promise : Reading) : Type 0 where

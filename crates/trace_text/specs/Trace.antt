@@ -1,6 +1,6 @@
 -- What the records of a trace name.
-use Rattle.std.specs.Prelude.{ℕ, ◌+◌, Bool, true, false, List, [], ◌∷◌, max}
-use Rattle.std.specs.List.{flat_map, list_all}
+use Rattle.std.specs.Prelude.{ℕ, ◌+◌, List, [], ◌∷◌, max}
+use Rattle.std.specs.List.{flat_map}
 use Rattle.trace_text.specs.declared.line.Line.{Line}
 use Rattle.trace_text.specs.declared.line.Line.TheVariants as line
 
@@ -19,15 +19,6 @@ cores_in (line.Reserve frame count) = 0
 unfoldable pub core_count : List Line → ℕ
 core_count [] = 0
 core_count (line ∷ lines) = max (cores_in line) (core_count lines)
-
--- the record is a request
-abbrev pub is_ask : Line → Bool
-is_ask (line.Ask core request) = true
-is_ask _ = false
-
--- each record is a request, so that all belong to one round
-abbrev pub is_one_round : List Line → Bool
-is_one_round lines = list_all is_ask lines
 
 -- the range that a record holds back, if it is of that kind: a first frame, and how many frames
 abbrev pub range_in : Line → List (ℕ × ℕ)

@@ -9,7 +9,7 @@ use Rattle.frame_text.specs.Numbers.{number_below}
 use Rattle.frame_text.specs.Records.{read_records, records_of}
 use Rattle.frame_words.specs.declared.fault.Fault.{Fault}
 use Rattle.frame_words.specs.declared.fault.Fault.TheVariants as fault
-use Rattle.trace_text.specs.Trace.{core_count, is_one_round, most_records, ranges_in}
+use Rattle.trace_text.specs.Trace.{core_count, most_records, ranges_in}
 use Rattle.trace_text.specs.declared.line.Line.{Line}
 use Rattle.trace_text.specs.declared.line.Line.TheVariants as line
 use Rattle.trace_text.specs.declared.line.Request.{Request}
@@ -120,14 +120,14 @@ unfoldable pub trace_of : ℕ → List ℕ → Result (List Line) ℕ
 trace_of cores text = read_records (lines_with cores) 1 [] (records_of text)
 
 -- what the text says is what these records and then these rows say; the records are few enough, name only
--- the cores, and hold these ranges back, and it is known whether they are one round
-pub record IsReadTo (cores : ℕ) (text : List ℕ) (lines : List Line) (ranges : List (ℕ × ℕ)) (round : Bool)
+-- the cores, so many of them, and hold these ranges back
+pub record IsReadTo (cores : ℕ) (text : List ℕ) (lines : List Line) (ranges : List (ℕ × ℕ)) (count : ℕ)
     (rows : List (List (List ℕ))) : Type 0 where
   pub says : trace_of cores text ≡ read_records (lines_with cores) (length lines + 1) lines rows
   pub few : length lines ≤ most_records
   pub within : core_count lines ≤ cores
   pub holds : ranges ≡ ranges_in lines
-  pub one : round ≡ is_one_round lines
+  pub named : count ≡ core_count lines
 
 -- why a trace was not read: memory ran out, or this is the number of the lowest refused record
 abbrev pub ExplainsTrace : Fault → Result (List Line) ℕ → Type 0

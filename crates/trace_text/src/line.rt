@@ -1,10 +1,8 @@
 //! The records of a trace.
 
-ghost use Rattle.std.specs.Prelude.{◌≡◌, ◌≤◌, ◌+◌, ◌++◌, ◌&&◌, length, max, IfOk};
+ghost use Rattle.std.specs.Prelude.{◌≡◌, ◌≤◌, ◌+◌, ◌++◌, length, max, IfOk};
 ghost use Rattle.frame_words.specs.Geometry.{most_cores};
-ghost use Rattle.trace_text.specs.Trace.{core_count, cores_in as the_cores_in};
-ghost use Rattle.trace_text.specs.Trace.{is_ask as the_test_of_ask, is_one_round as the_test_of_round};
-ghost use Rattle.trace_text.specs.Trace.{most_records, ranges_in};
+ghost use Rattle.trace_text.specs.Trace.{core_count, cores_in as the_cores_in, most_records, ranges_in};
 
 use held_blocks::Label;
 use std::alloc::AllocError;
@@ -37,14 +35,14 @@ pub struct Trace {
     lines: Vec<Line>,
     // The ranges of the records, in order.
     ranges: Vec<(u32, u32)>,
-    one_round: bool,
+    cores: u32,
 }
 
 impl Model for Trace {
     ghost use Rattle.std.specs.Prelude.{List, ◌≡◌, ◌≤◌, length};
     ghost use Rattle.trace_text.specs.declared.line.Line.{Line};
     ghost use Rattle.frame_words.specs.Geometry.{most_cores};
-    ghost use Rattle.trace_text.specs.Trace.{core_count, is_one_round, most_records, ranges_in};
+    ghost use Rattle.trace_text.specs.Trace.{core_count, most_records, ranges_in};
 
     ghost Value = { List Line };
 
@@ -53,22 +51,21 @@ impl Model for Trace {
     ghost invariant = { λ t. (length t.lines.items ≤ most_records)
         × (core_count t.lines.items ≤ most_cores)
         × (t.ranges.items ≡ ranges_in t.lines.items)
-        × (t.one_round ≡ is_one_round t.lines.items) };
+        × (t.cores ≡ core_count t.lines.items) };
 }
 
 impl Trace {
-    // The trace of these records, beside the ranges that they hold back, and whether they are one round.
-    pub(crate) fn of(lines: Vec<Line>, ranges: Vec<(u32, u32)>, one_round: bool) -> Trace
+    // The trace of these records, beside the ranges that they hold back and the cores that they name.
+    pub(crate) fn of(lines: Vec<Line>, ranges: Vec<(u32, u32)>, cores: u32) -> Trace
         requires few { length lines.items ≤ most_records }
-        requires cores { core_count lines.items ≤ most_cores }
+        requires cores { (cores ≡ core_count lines.items) × (cores ≤ most_cores) }
         requires ranges { ranges.items ≡ ranges_in lines.items }
-        requires round { one_round ≡ the_test_of_round lines.items }
         ensures { result ≡ lines.items }
     {
         Trace {
             lines,
             ranges,
-            one_round,
+            cores,
         }
     }
 
@@ -80,19 +77,19 @@ impl Trace {
         let Trace {
             mut lines,
             mut ranges,
-            one_round,
+            cores,
         } = self;
         let Trace {
             lines: mut more_lines,
             ranges: mut more_ranges,
-            one_round: one_more,
+            cores: more_cores,
         } = behind;
         lines.append(&mut more_lines)?;
         ranges.append(&mut more_ranges)?;
         Ok(Trace {
             lines,
             ranges,
-            one_round: one_round && one_more,
+            cores: cores.max(more_cores),
         })
     }
 
@@ -104,23 +101,12 @@ impl Trace {
         self.lines.as_slice()
     }
 
-    /// Whether each record is a request, so that all belong to one round.
-    pub fn is_one_round(&self) -> bool
-        ensures { result ≡ the_test_of_round self.now }
-    {
-        self.one_round
-    }
-
     /// One more than the greatest core that a record names, or 0 where none names one.
     pub fn cores(&self) -> u32
         ensures value { result ≡ core_count self.now }
         ensures few { result ≤ most_cores }
     {
-        let mut count = 0;
-        for line in &self.lines {
-            count = cores_with(count, line);
-        }
-        count
+        self.cores
     }
 
     /// The ranges that the records hold back, in their order: the first frame of each, and how many
@@ -132,13 +118,6 @@ impl Trace {
     }
 }
 
-/// Whether records that are one round, or not, are one with this behind them.
-pub(crate) fn stays_one_round(one_round: bool, line: &Line) -> bool
-    ensures { result ≡ (one_round && the_test_of_ask line.now) }
-{
-    one_round && matches!(line, Line::Ask { .. })
-}
-
 /// The number of the record behind so many.
 pub fn number_after(count: usize) -> u32
     requires { count ≤ most_records }
@@ -147,8 +126,8 @@ pub fn number_after(count: usize) -> u32
     count as u32 + 1
 }
 
-// The cores that a record names, where those before it name so many.
-fn cores_with(count: u32, line: &Line) -> u32
+/// The cores that a record names, where those before it name so many.
+pub(crate) fn cores_with(count: u32, line: &Line) -> u32
     requires { the_cores_in line.now ≤ most_cores }
     ensures { result ≡ max (the_cores_in line.now) count }
 {

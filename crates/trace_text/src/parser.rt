@@ -9,7 +9,7 @@ ghost use Rattle.trace_text.specs.Trace.{core_count, cores_in, most_records, ran
 ghost use Rattle.trace_text.specs.TraceText as Spec;
 ghost use Rattle.trace_text.specs.TraceText.{ExplainsTrace, trace_of};
 
-use crate::line::{Line, Request, Trace, number_after, stays_one_round};
+use crate::line::{Line, Request, Trace, cores_with, number_after};
 use csv::ByteRecord;
 use frame_text::{RecordReader, field, number_below};
 use frame_words::{Fault, Geometry};
@@ -34,18 +34,18 @@ pub fn parse_trace(alloc: Global, geometry: &Geometry, text: &[u8]) -> Result<Tr
     let mut records = RecordReader::new(alloc, text);
     let mut row = ByteRecord::new(alloc);
     let mut lines = Vec::with_capacity(alloc, most_records_of(text))?;
-    let mut one_round = true;
+    let mut named = 0;
     let mut ranges = Vec::new(alloc);
     loop {
         let found = records.read(&mut row)?;
         if !found {
-            return Ok(Trace::of(lines, ranges, one_round));
+            return Ok(Trace::of(lines, ranges, named));
         }
         let number = number_after(lines.len());
         match line_after(cores, lines.as_slice(), &row) {
             Some(line) => {
                 note_range(&mut ranges, &line)?;
-                one_round = stays_one_round(one_round, &line);
+                named = cores_with(named, &line);
                 lines.push(line)?;
             }
             None => return Err(Fault::BadTrace { line: number }),

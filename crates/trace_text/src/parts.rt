@@ -1,13 +1,11 @@
 //! A long text, read as a trace in parts, each on a thread of its own.
 
-ghost use Rattle.std.specs.Prelude.{◌≡◌, ◌≤◌, ◌<◌, ◌-◌, ◌∷◌, [], false, true, length, slice_index};
+ghost use Rattle.std.specs.Prelude.{◌≡◌, ◌≤◌, ◌<◌, ◌-◌, [], false, length, slice_index};
 ghost use Rattle.std.specs.Prelude.{IfErr, IfOk, IfSome};
-ghost use Rattle.std.specs.List.{All};
 ghost use Rattle.csv.specs.Reading.{strip_bom};
-ghost use Rattle.trace_text.specs.Parts.{IsCut, IsJoint, IsOneRound, IsPutBehind, IsReadingOf};
-ghost use Rattle.trace_text.specs.Parts.{IsRoundOrWhole, SaysInParts, SaysPlainly, line_feed, lines_of};
+ghost use Rattle.trace_text.specs.Parts.{IsCut, IsJoint, IsReadingOf, SaysPlainly, line_feed};
 ghost use Rattle.trace_text.specs.Parts.{goes_behind as the_first_goes_behind};
-ghost use Rattle.trace_text.specs.Trace.{core_count, most_records};
+ghost use Rattle.trace_text.specs.Trace.{core_count};
 ghost use Rattle.trace_text.specs.TraceText.{ExplainsTrace, trace_of};
 
 use crate::in_flight::{Going, TURNS, join_all, keep};
@@ -48,30 +46,22 @@ impl<'a> Promise<Result<Option<Trace>, Fault>> for Reading<'a> {
 
 /// Reads a text as a trace, as `parse_trace` does. A long text without a quote is read in parts, on as
 /// many threads at once as there are cores; where that finds a record refused, the whole is read again.
-///
-/// The records come in parts only where all are one round; else they are put in a row.
 pub fn parse_parts<R: Threads + Wait>(
     rt: &R,
     alloc: Global,
     geometry: &Geometry,
     text: &[u8],
-) -> Result<Vec<Trace>, Fault>
-    ensures found { IfOk result (λ parts.
-        trace_of geometry.now.cores text.now ≡ Ok (lines_of parts.items)) }
-    ensures cores { IfOk result (λ parts. core_count (lines_of parts.items) ≤ geometry.now.cores) }
-    ensures rounds { IfOk result (λ parts. IsRoundOrWhole parts.items) }
-    ensures few { IfOk result (λ parts. length (lines_of parts.items) ≤ most_records) }
+) -> Result<Trace, Fault>
+    ensures found { IfOk result (λ trace. trace_of geometry.now.cores text.now ≡ Ok trace) }
+    ensures cores { IfOk result (λ trace. core_count trace ≤ geometry.now.cores) }
     ensures refused { IfErr result (λ e. ExplainsTrace e (trace_of geometry.now.cores text.now)) }
 {
     if text.len() >= LEAST_TEXT && !has_mark(text) {
-        if let Some(parts) = read_apart(rt, alloc, geometry, text)? {
-            return Ok(parts);
+        if let Some(trace) = read_apart(rt, alloc, geometry, text)? {
+            return Ok(trace);
         }
     }
-    let trace = parse_trace(alloc, geometry, text)?;
-    // By a clause of its own they are as few as `few` says.
-    let _lines = trace.lines();
-    alone(alloc, trace)
+    parse_trace(alloc, geometry, text)
 }
 
 // Reads a text in parts. `None` where it is to be read whole: a part has a quote, or a record is
@@ -81,20 +71,18 @@ fn read_apart<R: Threads + Wait>(
     alloc: Global,
     geometry: &Geometry,
     text: &[u8],
-) -> Result<Option<Vec<Trace>>, Fault>
+) -> Result<Option<Trace>, Fault>
     requires { strip_bom text.now ≡ text.now }
-    ensures found { IfOk result (λ found.
-        IfSome found (λ parts. SaysInParts geometry.now.cores text.now parts.items)) }
+    ensures found { IfOk result (λ found. IfSome found (SaysPlainly geometry.now.cores text.now)) }
     ensures fault { IfErr result (λ e. e ≡ Fault.NoMemory) }
 {
     thread::scope(
         thread::scope_env(),
         rt,
-        |scope| -> Result<Option<Vec<Trace>>, Fault>
+        |scope| -> Result<Option<Trace>, Fault>
             requires { strip_bom text.now ≡ text.now }
             ensures found { IfOk result (λ found.
-                IfSome found (λ parts.
-                SaysInParts geometry.entry.now.cores text.entry.now parts.items)) }
+                IfSome found (SaysPlainly geometry.entry.now.cores text.entry.now)) }
             ensures fault { IfErr result (λ e. e ≡ Fault.NoMemory) }
         {
             let mut going = VecDeque::new(alloc);
@@ -115,17 +103,16 @@ fn read_parts<'s, E, R: Threads>(
     geometry: &'s Geometry,
     text: &'s [u8],
     going: &mut Going<Result<Option<Trace>, Fault>, Reading<'s>>,
-) -> Result<Option<Vec<Trace>>, Fault>
+) -> Result<Option<Trace>, Fault>
     requires none { going.old.items ≡ [] }
     requires unmarked { strip_bom text.now ≡ text.now }
-    ensures found { IfOk result (λ found.
-        IfSome found (λ parts. SaysInParts geometry.now.cores text.now parts.items)) }
+    ensures found { IfOk result (λ found. IfSome found (SaysPlainly geometry.now.cores text.now)) }
     ensures fault { IfErr result (λ e. e ≡ Fault.NoMemory) }
 {
     let most = geometry.cores() as usize;
     let size = (text.len() / (TURNS * most)).max(LEAST_PART);
-    let room = most_records_of(text);
-    let mut parts = Vec::new(alloc);
+    let lines = Vec::with_capacity(alloc, most_records_of(text))?;
+    let mut trace = Trace::of(lines, Vec::new(alloc), 0);
     let mut rest = text;
     loop {
         if going.len() < most {
@@ -142,13 +129,13 @@ fn read_parts<'s, E, R: Threads>(
         let Some(part) = child.join(rt)? else {
             return Ok(None);
         };
-        let Some(more) = put_behind(alloc, room, parts, part)? else {
+        let Some(more) = joined(trace, part)? else {
             return Ok(None);
         };
-        parts = more;
+        trace = more;
     }
     match read_part(alloc, geometry, rest)? {
-        Some(last) => put_behind(alloc, room, parts, last),
+        Some(last) => joined(trace, last),
         None => Ok(None),
     }
 }
@@ -213,102 +200,6 @@ fn line_end(text: &[u8], size: usize) -> Option<usize>
 {
     let feed = memrchr(b'\n', &text[..size])?;
     Some(feed + 1)
-}
-
-// Puts a part behind those so far: apart from them where all are one round, and else in a row with them.
-// `None` where its records may not come behind theirs.
-fn put_behind(
-    alloc: Global,
-    room: usize,
-    parts: Vec<Trace>,
-    part: Trace,
-) -> Result<Option<Vec<Trace>>, Fault>
-    requires few { length (lines_of parts.items) ≤ most_records }
-    requires rounds { IsRoundOrWhole parts.items }
-    ensures put { IfOk result (λ found. IfSome found (λ more.
-        IsPutBehind parts.items part more.items)) }
-    ensures fault { IfErr result (λ e. e ≡ Fault.NoMemory) }
-{
-    if part.is_one_round() && are_rounds(parts.as_slice()) {
-        return pushed(parts, part);
-    }
-    let Some(front) = in_a_row(alloc, room, parts)? else {
-        return Ok(None);
-    };
-    match joined(front, part)? {
-        Some(trace) => Ok(Some(alone(alloc, trace)?)),
-        None => Ok(None),
-    }
-}
-
-// Whether each part is one round.
-fn are_rounds(parts: &[Trace]) -> bool
-    ensures { result ≡ true → All IsOneRound parts.now }
-{
-    for part in parts {
-        if !part.is_one_round() {
-            return false;
-        }
-    }
-    true
-}
-
-// The parts, and behind them one more, all of one round. `None` where there are too many records.
-fn pushed(mut parts: Vec<Trace>, part: Trace) -> Result<Option<Vec<Trace>>, Fault>
-    requires few { length (lines_of parts.items) ≤ most_records }
-    requires rounds { All IsOneRound parts.items }
-    requires round { IsOneRound part }
-    ensures put { IfOk result (λ found. IfSome found (λ more.
-        IsPutBehind parts.items part more.items)) }
-    ensures fault { IfErr result (λ e. e ≡ Fault.NoMemory) }
-{
-    if count_of(parts.as_slice()) + part.lines().len() > MOST_RECORDS {
-        return Ok(None);
-    }
-    parts.push(part)?;
-    Ok(Some(parts))
-}
-
-// How many records the parts have.
-fn count_of(parts: &[Trace]) -> usize
-    requires { length (lines_of parts.now) ≤ most_records }
-    ensures { result ≡ length (lines_of parts.now) }
-{
-    let mut count = 0;
-    for part in parts {
-        count += part.lines().len();
-    }
-    count
-}
-
-// The records of the parts in a row, with room for so many; what is in a row already stays where it is. `None`
-// where those of a part may not come behind the others.
-fn in_a_row(alloc: Global, room: usize, mut parts: Vec<Trace>) -> Result<Option<Trace>, Fault>
-    ensures row { IfOk result (λ found. IfSome found (λ trace. trace ≡ lines_of parts.items)) }
-    ensures fault { IfErr result (λ e. e ≡ Fault.NoMemory) }
-{
-    if parts.len() == 1 && !parts[0].is_one_round() {
-        return Ok(parts.pop());
-    }
-    let lines = Vec::with_capacity(alloc, room)?;
-    let mut row = Trace::of(lines, Vec::new(alloc), true);
-    for part in parts {
-        let Some(more) = joined(row, part)? else {
-            return Ok(None);
-        };
-        row = more;
-    }
-    Ok(Some(row))
-}
-
-// A trace as one part.
-fn alone(alloc: Global, trace: Trace) -> Result<Vec<Trace>, Fault>
-    ensures only { IfOk result (λ parts. parts.items ≡ trace ∷ []) }
-    ensures fault { IfErr result (λ e. e ≡ Fault.NoMemory) }
-{
-    let mut parts = Vec::with_capacity(alloc, 1)?;
-    parts.push(trace)?;
-    Ok(parts)
 }
 
 // The records of two parts. `None` where those of the second may not come behind.

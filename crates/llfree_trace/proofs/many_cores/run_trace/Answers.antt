@@ -9,12 +9,22 @@ use Rattle.llfree_trace.proofs.Ended.{adds_up, image_is, is_answered}
 use Rattle.llfree_trace.proofs.NewDesks.{none_lent}
 use Rattle.llfree_trace.proofs.many_cores.run_trace.Goals as goal
 
-pub run_all-requires-clause-inside : goal.run_all-requires-clause-inside
-run_all-requires-clause-inside g c κs within =
+pub run_rounds-requires-clause-named : goal.run_rounds-requires-clause-named
+run_rounds-requires-clause-named g c κs within =
     let desks = c.in_ok-desks.desks in
-    let wide : length desks.items ≡ c.args.geometry.cores =
-    omega (arith, ap length c.in_ok-desks.ensures.cores, length-map desks.items core_of, c.in_ok-allocator.ensures.opened.count) in
-    λ k d lt. omega (arith, cores_in_at c.args.trace.now k d lt, c.requires, wide, desks.ok)
+    omega (
+      arith,
+      ap length c.in_ok-desks.ensures.cores,
+      length-map desks.items core_of,
+      c.in_ok-allocator.ensures.opened.count,
+      c.requires,
+      c.cores-named.ensures.value,
+      desks.ok,
+    )
+
+pub run_rounds-requires-clause-inside : goal.run_rounds-requires-clause-inside
+run_rounds-requires-clause-inside g c κs within =
+    rw (c.lines.ensures.value, c.cores-named.ensures.value) (cores_in_at c.args.trace.now)
 
 pub close_desks-requires : goal.close_desks-requires
 close_desks-requires g c = c.in_ok-end.ensures.goes.desks
@@ -23,7 +33,7 @@ pub returns-clause-fits : goal.returns-clause-fits
 returns-clause-fits g c =
     let a = c.in_ok-allocator.allocator in
     let opened = c.in_ok-allocator.ensures.opened in
-    let goes = c.in_ok-end.ensures.goes in
+    let goes = rw c.lines.ensures.value at c.in_ok-end.ensures.goes in
     let closing = c.in_ok-image.ensures.closing in
     let start = c.in_ok-desks.desks in
     let count : vec_len c.in_ok-allocator.cores ≡ c.args.geometry.cores = omega (arith, opened.count, c.in_ok-allocator.cores.ok) in
@@ -37,7 +47,7 @@ pub returns-clause-geometry : goal.returns-clause-geometry
 returns-clause-geometry g c =
     let a = c.in_ok-allocator.allocator in
     let opened = c.in_ok-allocator.ensures.opened in
-    let goes = c.in_ok-end.ensures.goes in
+    let goes = rw c.lines.ensures.value at c.in_ok-end.ensures.goes in
     let closing = c.in_ok-image.ensures.closing in
     image_is a c.in_ok-end.end.desks.items c.in_ok-image.image (ap (λ (k : Key). k.sealed) opened.memory) goes.desks closing
     (goes.lent ∙ none_lent a c.in_ok-desks.desks.items c.in_ok-allocator.cores.items c.in_ok-desks.ensures.cores opened.each)
@@ -47,7 +57,7 @@ pub returns-clause-counters : goal.returns-clause-counters
 returns-clause-counters g c =
     let a = c.in_ok-allocator.allocator in
     let opened = c.in_ok-allocator.ensures.opened in
-    let goes = c.in_ok-end.ensures.goes in
+    let goes = rw c.lines.ensures.value at c.in_ok-end.ensures.goes in
     let closing = c.in_ok-image.ensures.closing in
     adds_up a c.in_ok-end.end.desks.items c.in_ok-image.image (ap (λ (k : Key). k.sealed) opened.memory) goes.desks closing
     (goes.lent ∙ none_lent a c.in_ok-desks.desks.items c.in_ok-allocator.cores.items c.in_ok-desks.ensures.cores opened.each)

@@ -23,8 +23,8 @@ loop-ranges-preserved c =
     let good : is_ok c.push.result ≡ true = search rules in
     let items = rw good at c.push.ensures.items in
     let more = reads_more c.cores-cores.result c.args.text.now c.loop-ranges.lines.items c.loop-ranges.ranges.items
-    c.loop-ranges.one_round _ c.read.new.self.rows c.in-Some.line so_far line c.in-Some.ensures.core few in
-    rw (items, c.in_ok-note_range-in-Some.ensures, c.stays_one_round-one_round.ensures) more
+    c.loop-ranges.named _ c.read.new.self.rows c.in-Some.line so_far line c.in-Some.ensures.core few in
+    rw (items, c.in_ok-note_range-in-Some.ensures, c.cores_with-named.ensures) more
 
 pub returns-in-None-clause-refused : goal.returns-in-None-clause-refused
 returns-in-None-clause-refused c =
