@@ -1,13 +1,12 @@
 -- What no exported call answers.
-use Rattle.std.proofs.Common.{◌≡◌, ℕ, ◌<◌, Option, Some, None, ⊎_elim, subst, arith}
-use Rattle.core_frames.specs.declared.shared.allocator.Allocator.{Allocator}
-use Rattle.core_frames.specs.declared.shared.allocator.Core.{Core}
+use Rattle.std.proofs.Common.{ℕ, Some, None, ⊎_elim, inl, refl, sym, ◌∙◌, arith}
+use Rattle.std.proofs.lemmas.Bool.{true≢false}
 use Rattle.zone_slots.proofs.WrongTakes.{fewer_moves_unsought, loss_unsought, number_in_no_zone, taken_from_a_hole}
 use Rattle.zone_slots.specs.Calls.{zones_of}
 use Rattle.zone_slots.specs.Uses.{FindsNothingAnywhere}
 use Rattle.zone_slots.specs.WrongTakes.{SkipsTrees, LosesSome}
 use Rattle.zone_slots.specs.declared.core_state.CoreState.{CoreState}
-use Rattle.llfree_c.specs.WrongCalls.{NumberIsOfAHole, NoBlockIsUnsought, CountIsTooHigh}
+use Rattle.llfree_c.specs.WrongCalls.{NumberIsOfAHole, NoBlockIsUnsought, CountIsTooHigh, SplitIsRefusedForNothing, HalvesAreRefusedForNothing}
 
 pub number_is_of_a_hole : NumberIsOfAHole
 number_is_of_a_hole order frame x h s t none = (
@@ -48,4 +47,35 @@ count_is_too_high n s (Some t) = (
   λ over counts. absurd (omega (arith, over, counts.counts.few)),
   λ some counts. absurd (omega (arith, some, counts.0)),
   λ some counts. absurd (omega (arith, some, counts.0)),
+)
+
+pub split_is_refused_for_nothing : SplitIsRefusedForNothing
+split_is_refused_for_nothing order s t = (
+  inl (refl, refl, refl, refl),
+  λ some why. ⊎_elim (λ is. absurd (omega (arith, some, is.1)))
+      (λ rest. ⊎_elim (λ other. absurd (omega (arith, other.0))) (λ other. absurd (omega (arith, other.0))) rest) why,
+  λ why. ⊎_elim (λ other. absurd (omega (arith, other.0)))
+      (λ rest. ⊎_elim (λ is. absurd (omega (arith, is.1))) (λ other. absurd (omega (arith, other.0))) rest) why,
+  λ why. ⊎_elim (λ other. absurd (omega (arith, other.0)))
+      (λ rest. ⊎_elim (λ other. absurd (omega (arith, other.0))) (λ is. absurd (omega (arith, is.1))) rest) why,
+  λ moved. (
+    λ why. ⊎_elim (λ is. moved is.2)
+        (λ rest. ⊎_elim (λ other. absurd (omega (arith, other.0))) (λ other. absurd (omega (arith, other.0))) rest) why,
+    λ why. ⊎_elim (λ other. absurd (omega (arith, other.0)))
+        (λ rest. ⊎_elim (λ is. moved is.2) (λ other. absurd (omega (arith, other.0))) rest) why,
+  ),
+  λ uncounted why. ⊎_elim (λ other. absurd (omega (arith, other.0)))
+      (λ rest. ⊎_elim (λ other. absurd (omega (arith, other.0))) (λ is. uncounted is.2) rest) why,
+)
+
+pub halves_are_refused_for_nothing : HalvesAreRefusedForNothing
+halves_are_refused_for_nothing held upper s t = (
+  λ single. (refl, inl (refl, single)),
+  λ some why. ⊎_elim (λ is. absurd (omega (arith, some, is.1)))
+      (λ rest. ⊎_elim (λ other. absurd (omega (arith, other.0))) (λ other. absurd (omega (arith, other.0))) rest) why.1,
+  λ live why. ⊎_elim (λ other. absurd (omega (arith, other.0)))
+      (λ rest. ⊎_elim (λ is. absurd (true≢false (sym live ∙ is.1))) (λ other. absurd (omega (arith, other.0))) rest) why.1,
+  λ empty why. ⊎_elim (λ other. absurd (omega (arith, other.0)))
+      (λ rest. ⊎_elim (λ other. absurd (omega (arith, other.0))) (λ is. absurd (true≢false (sym is.1 ∙ empty))) rest) why.1,
+  λ moved status why. moved why.0,
 )

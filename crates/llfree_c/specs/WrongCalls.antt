@@ -1,16 +1,16 @@
 -- Answers of exported calls that would be wrong.
-use Rattle.std.specs.Prelude.{ℕ, ◌*◌, ◌<◌, Option, Some, None}
+use Rattle.std.specs.Prelude.{◌≡◌, ℕ, ◌*◌, ◌<◌, Option, Some, None, true, false}
 use Rattle.frame_words.specs.Geometry.{child_frames}
 use Rattle.frame_zones.specs.Frames.{IsInNoZone}
-use Rattle.zone_slots.specs.Calls.{zones_of, TakesFor, frames_by}
+use Rattle.zone_slots.specs.Calls.{zones_of, TakesFor, frames_by, CountsOne, KeepsCore}
 use Rattle.zone_slots.specs.FreeCounts.{CountsFrames, CountsHuge}
 use Rattle.zone_slots.specs.WrongTakes.{LiesFrom, SkipsTrees, LosesSome}
 use Rattle.zone_slots.specs.declared.core_state.CoreState.{CoreState}
 use Rattle.llfree_c.specs.Blocks.{TakesHeld}
 use Rattle.llfree_c.specs.FreeCounts.{CountsBehind}
-use Rattle.llfree_c.specs.RefusedCalls.{RefusesTakeAs, RefusesBlockAs}
+use Rattle.llfree_c.specs.RefusedCalls.{RefusesTakeAs, RefusesBlockAs, RefusesSplitAs, RefusesHalvesAs}
 use Rattle.llfree_c.specs.SeenCores.{OnCores}
-use Rattle.llfree_c.specs.Status.{no_block}
+use Rattle.llfree_c.specs.Status.{no_block, bad_order, not_held, not_closed, contended}
 use Rattle.llfree_c.specs.declared.block_handle.BlockHandle.{BlockHandle}
 
 -- no take answers the number of a block with a frame that no zone has, in a hole or past the end, and none
@@ -36,3 +36,23 @@ CountIsTooHigh = (n : ℕ) (s : CoreState) (later : Option CoreState)
     × (frames_by s < child_frames * n → ¬ CountsBehind CountsHuge n (Some s) later)
     × (0 < n → ¬ CountsBehind CountsFrames n None later)
     × (0 < n → ¬ CountsBehind CountsHuge n None later)
+
+-- a split of a single frame by numbers is refused as a bad order, and no other one is; none is refused as not held
+-- or as a bad order after a move, and none as contended with no block counted that found no slot
+abbrev pub SplitIsRefusedForNothing : Type 0
+SplitIsRefusedForNothing = (order : ℕ) (s t : CoreState)
+    → RefusesSplitAs 0 bad_order s s
+    × (0 < order → ¬ RefusesSplitAs order bad_order s t)
+    × (¬ RefusesSplitAs 0 not_held s t) × (¬ RefusesSplitAs 0 contended s t)
+    × (¬ KeepsCore s t → (¬ RefusesSplitAs order bad_order s t) × (¬ RefusesSplitAs order not_held s t))
+    × (¬ CountsOne s t → ¬ RefusesSplitAs order contended s t)
+
+-- what a struct carries is refused a split as a bad order just where it is a single frame, as not held only where
+-- none is carried, and for the other struct only where that carries one; and none is after a move
+abbrev pub HalvesAreRefusedForNothing : Type 0
+HalvesAreRefusedForNothing = (held upper : BlockHandle) (s t : CoreState)
+    → (held.order ≡ 0 → RefusesHalvesAs held upper bad_order s s)
+    × (0 < held.order → ¬ RefusesHalvesAs held upper bad_order s t)
+    × (held.live ≡ true → ¬ RefusesHalvesAs held upper not_held s t)
+    × (upper.live ≡ false → ¬ RefusesHalvesAs held upper not_closed s t)
+    × (¬ KeepsCore s t → (status : ℕ) → ¬ RefusesHalvesAs held upper status s t)
