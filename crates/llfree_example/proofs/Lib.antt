@@ -1,2 +1,3 @@
 mod NothingHeld
+mod Surviving
 mod TwoNodes

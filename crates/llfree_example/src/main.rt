@@ -1,10 +1,11 @@
 //! A first program: two threads take and give blocks of one memory. Each hands a block back, the two share no
-//! frame, and once both are given no frame is held. Then one core of all, and a machine with two nodes and a hole
-//! between them.
+//! frame, and once both are given no frame is held. Then one core of all, a block that survives a stop, and a
+//! machine with two nodes and a hole between them.
 #![tactic(auto)]
 
 mod nodes;
 mod one_core;
+mod survivors;
 
 ghost use Rattle.std.specs.Prelude.{◌≡◌, ◌+◌, ◌+ℤ◌, ◌≤◌, ℕ, pos, [], IfOk, IfSome};
 ghost use Rattle.std.specs.List.{All};
@@ -23,6 +24,7 @@ use one_core::alone;
 use std::alloc::Global;
 use std::io;
 use std::thread::{Threads, join};
+use survivors::survivor;
 
 /// Eight children, 4,096 page frames, and two cores.
 fn open(alloc: Global) -> Result<(Allocator, Vec<Core>), Fault>
@@ -134,6 +136,10 @@ fn main(rt: HostRuntime) -> io::Result<()> {
     }
     match alone(rt.alloc()) {
         Ok(free) => println!(rt; "alone: a huge frame is taken, {free} of 4096 frames are free")?,
+        Err(fault) => println!(rt; "{fault}")?,
+    }
+    match survivor(rt.alloc()) {
+        Ok(frame) => println!(rt; "after a stop: the huge frame at {frame} is adopted")?,
         Err(fault) => println!(rt; "{fault}")?,
     }
     match two_nodes(rt.alloc()) {
