@@ -1,5 +1,5 @@
 -- A frame of a block lies in a range, and the place of a block says which one it is.
-use Rattle.std.proofs.Common.{◌≡◌, ℕ, ◌+◌, ◌-◌, ◌*◌, ◌/◌, ◌^◌, ◌<◌, ◌≤◌, List, length, slice_index_or, true, inl, inr, refl, arith}
+use Rattle.std.proofs.Common.{◌≡◌, ℕ, ◌+◌, ◌*◌, ◌/◌, ◌^◌, ◌<◌, ◌≤◌, List, length, slice_index_or, true, inl, inr, refl, arith}
 use Rattle.std.proofs.lemmas.Bool.Decides.{nat_tests}
 use Rattle.std.proofs.lemmas.List.Folds.{list_any_at}
 use Rattle.std.proofs.lemmas.Nat.{pow_pos}
@@ -32,7 +32,12 @@ all_accounted frames ranges s all frame order few aligned inside apart =
       | inr meeting ↦ absurd (apart meeting)
     ]
 
--- the place of a block says where it begins
-pub begins_at : (frame order place frames other : ℕ) → frames ≡ 2 ^ order → place_for frame order ≡ place
-    → other ≡ (place - (frames - 1)) / 2 → other ≡ frame
-begins_at frame order place frames other is at from = omega (arith, is, at, from, pow_pos order)
+-- a block has the frame at half its place
+pub by_middle : (ranges : List (ℕ × ℕ)) (place frame order : ℕ) → place_for frame order ≡ place
+    → MeetsRanges ranges (place / 2) 0 → MeetsRanges ranges frame order
+by_middle ranges place frame order at one = record {
+  held = one.held;
+  from = omega (arith, at, one.from, pow_pos order);
+  to = omega (arith, at, one.to, pow_pos order);
+  in_range = one.in_range;
+}

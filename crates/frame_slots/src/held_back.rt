@@ -11,6 +11,10 @@ pub(crate) fn is_held_back(ranges: &[(u32, u32)], place: usize) -> bool
     ensures { IsTrue result → (frame order : ℕ) → order ≤ huge_order → frame % 2 ^ order ≡ 0
         → place_for frame order ≡ place → MeetsRanges ranges.now frame order }
 {
+    // A block's middle frame stands at half its place.
+    if meet(ranges, place / 2, 0) {
+        return true;
+    }
     for order in 0..HUGE_ORDER + 1 {
         if !is_held_back_of(ranges, place, order) {
             return false;
