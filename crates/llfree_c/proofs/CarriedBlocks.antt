@@ -1,21 +1,25 @@
 -- Blocks of zones, as C carries them.
-use Rattle.std.proofs.Common.{◌≡◌, ℕ, [], refl, ap, sym, subst}
+use Rattle.std.proofs.Common.{◌≡◌, ◌∙◌, ℕ, [], ◌∷◌, None, refl, ap, sym, subst}
 use Rattle.std.specs.Arc.{arc_value}
 use Rattle.atomic_table.specs.Seated.{TableId}
 use Rattle.atomic_table.specs.Table.{Me}
 use Rattle.frame_model.specs.Block.{block}
-use Rattle.frame_model.specs.Events.{eye}
+use Rattle.frame_model.specs.View.{holder}
+use Rattle.frame_table.specs.Rule.{watch}
 use Rattle.frame_table.specs.declared.rule.Watch.{Watch}
 use Rattle.frame_zones.specs.Zones.{first_frame_in, IsOutOfItsZone}
 use Rattle.frame_zones.specs.declared.block.ZoneBlock.{ZoneBlock}
 use Rattle.frame_zones.specs.declared.zones.Zones.{Zones}
-use Rattle.zone_slots.specs.Blocks.{IsRightIn}
+use Rattle.zone_slots.specs.FrameCalls.{IsSingleFor}
+use Rattle.zone_slots.specs.Rights.{IsRightIn}
+use Rattle.zone_slots.specs.declared.single_frame.SingleFrame.{SingleFrame}
 use Rattle.frame_words.specs.declared.fault.TakeFault.TheVariants.{NoBlock}
 use Rattle.frame_zones.specs.declared.zones.ZoneCore.{ZoneCore}
 use Rattle.zone_slots.specs.Calls.{zones_of}
 use Rattle.zone_slots.specs.Uses.{FindsNothingAnywhere, IsRefusedBlock}
 use Rattle.zone_slots.specs.declared.core_state.CoreState.{CoreState}
 use Rattle.llfree_c.specs.Blocks.{Carries, IsOutOfOne}
+use Rattle.llfree_c.specs.Rights.{first_frame, local_in, IsRightTo}
 use Rattle.llfree_c.specs.declared.block_handle.BlockHandle.{BlockHandle}
 
 -- the seat of a block that is out is the right to it
@@ -65,3 +69,26 @@ found_nothing zs order c d refused z a x less = record {
   unlost = refused.0.1 z a x less;
   lent = refused.1 z a x less;
 }
+
+-- the seat of a single frame is the right to one
+pub single_right : (me : Me (Unit {0}) Watch) (local : ℕ) → me ≡ (watch (holder me.0.view.about (block local 0)) [] None, [])
+    → IsRightTo 0 (me.0 ∷ [])
+single_right me local is =
+    let at : local_in (me.0 ∷ []) ≡ local = ap (λ (m : Me (Unit {0}) Watch). first_frame m.0.view.own) is in
+    ap (λ (e : Watch). e ∷ [])
+    (ap (λ (m : Me (Unit {0}) Watch). m.0) is ∙ ap (λ k. watch (holder me.0.view.about (block k 0)) [] None) (sym at))
+
+-- a single frame is out as the struct carries it
+pub single_out : (s : CoreState) (f : SingleFrame) (h : BlockHandle) → IsSingleFor s f → Carries h f.frame 0 f.seat
+    → IsOutOfOne s h
+single_out s f h single is =
+    let zs : Zones = zones_of s in
+    let me : Me (Unit {0}) Watch = (f.seat.me.0, []) in
+    let bare : f.seat.me ≡ me = ap (λ e. (f.seat.me.0, e)) is.bare in record {
+      eye = f.seat.me.0;
+      views = is.views;
+      right = subst (λ (k : ℕ). IsRightIn zs k h.order h.right.badge.table_id me) (sym is.frame)
+          (subst (λ (k : ℕ). IsRightIn zs f.frame k h.right.badge.table_id me) (sym is.order)
+          (subst (λ (t : TableId). IsRightIn zs f.frame 0 t me) (sym is.table)
+          (subst (λ (m : Me (Unit {0}) Watch). IsRightIn zs f.frame 0 f.seat.table_id m) bare single)));
+    }

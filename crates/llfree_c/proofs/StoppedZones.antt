@@ -17,6 +17,7 @@ use Rattle.frame_zones.specs.declared.zones.Zones.{Zones}
 use Rattle.frame_zones.specs.declared.zones.ZoneCore.{ZoneCore}
 use Rattle.frame_zones.proofs.Parted.{some_of}
 use Rattle.zone_slots.specs.Calls.{zones_of, image_numbers_by}
+use Rattle.zone_slots.specs.FrameCalls.{StopsWithout}
 use Rattle.zone_slots.specs.ImageParts.{numbers_before, numbers_from}
 use Rattle.zone_slots.specs.declared.core_state.CoreState.{CoreState}
 use Rattle.zone_slots.proofs.Reopened.{before_more}
@@ -104,22 +105,28 @@ module _ (zs : Zones) (c : ZoneCore) (x : Core) (images : List ZoneImage) (are :
       ) ∙ ap (numbers_before zs) (sym next))
 
 -- all of them have as many together as the image of the core's zones
-pub all_ahead : (s : CoreState) (images : List ZoneImage) → AreStopped (zones_of s) s.core images
+pub all_ahead : (s : CoreState) (images : List ZoneImage) → StopsWithout s images
     → numbers_ahead images (length images) ≡ image_numbers_by s
-all_ahead s images are =
+all_ahead s images left =
     let zs : Zones = zones_of s in
     let some : 0 < zone_count zs = omega (arith, s.is_core.home) in
-    let x : Core = some_of s.core.cores.items (omega (arith, some, s.is_core.parts.count)) in
-    ap (numbers_ahead images) are.count ∙ ahead_is zs s.core x images are some (zone_count zs) (omega arith)
+    let x : Core = some_of left.core.cores.items (omega (arith, some, left.rest.are_cores.parts.count)) in
+    ap (numbers_ahead images) left.stopped.count ∙ ahead_is zs left.core x images left.stopped some (zone_count zs) (omega arith)
 
-pub stops : (s : CoreState) (images : List ZoneImage) (numbers : List ℕ) → AreStopped (zones_of s) s.core images
+pub stops : (s : CoreState) (images : List ZoneImage) (numbers : List ℕ) → StopsWithout s images
     → SaysEach images numbers → StopsCore s numbers
-stops s images numbers are says z within a x =
+stops s images numbers left says =
     let zs : Zones = zones_of s in
-    let i : ZoneImage = some_of images (omega (arith, within, are.count)) in
-    let image : Contents = (slice_index_or images z i).image in
-    let said : SaysImage image (numbers_from zs numbers z) =
-    subst (λ (n : ℕ). SaysImage image (drop n numbers)) (ahead_is zs s.core x images are (omega (arith, within)) z (omega (arith, within)))
-    (says z i (omega (arith, within, are.count))) in
-    leaves_stop (memory_of (zone_at zs z a)) (seat_of (core_at s.core z x)) image (numbers_from zs numbers z)
-    ((are.each z i within).stopped a x) said
+    let are : AreStopped zs left.core images = left.stopped in
+    record {
+      core = left.core;
+      rest = left.rest;
+      zones = λ z within a x.
+          let i : ZoneImage = some_of images (omega (arith, within, are.count)) in
+          let image : Contents = (slice_index_or images z i).image in
+          let said : SaysImage image (numbers_from zs numbers z) =
+          subst (λ (n : ℕ). SaysImage image (drop n numbers)) (ahead_is zs left.core x images are (omega (arith, within)) z (omega (arith, within)))
+          (says z i (omega (arith, within, are.count))) in
+          leaves_stop (memory_of (zone_at zs z a)) (seat_of (core_at left.core z x)) image (numbers_from zs numbers z)
+          ((are.each z i within).stopped a x) said;
+    }

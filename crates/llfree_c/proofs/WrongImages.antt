@@ -126,6 +126,6 @@ pub zone_stands_at_anothers_place : ZoneStandsAtAnothersPlace
 zone_stands_at_anothers_place s numbers others zone another within same none stops =
     let zs : Zones = zones_of s in
     let a : Allocator = some_of zs.zones.items (omega (arith, within)) in
-    let x : Core = some_of s.core.cores.items (omega (arith, within, s.is_core.parts.count)) in
+    let x : Core = some_of stops.core.cores.items (omega (arith, within, stops.rest.are_cores.parts.count)) in
     none a (leaves_still (memory_of (zone_at zs zone a)) (numbers_from zs numbers zone) (numbers_from zs others another)
-    (same a) (stops zone within a x).stop)
+    (same a) (stops.zones zone within a x).stop)

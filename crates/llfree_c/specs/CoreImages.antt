@@ -19,7 +19,10 @@ use Rattle.core_frames.specs.declared.shared.allocator.Allocator.{Allocator}
 use Rattle.core_frames.specs.declared.shared.allocator.Core.{Core}
 use Rattle.frame_zones.specs.Zones.{zone_count, zone_at, core_at}
 use Rattle.frame_zones.specs.declared.image.ZoneImage.{ZoneImage}
+use Rattle.frame_zones.specs.declared.zones.Zones.{Zones}
+use Rattle.frame_zones.specs.declared.zones.ZoneCore.{ZoneCore}
 use Rattle.zone_slots.specs.Calls.{zones_of, image_numbers_by}
+use Rattle.zone_slots.specs.FrameCalls.{HasGivenRest}
 use Rattle.zone_slots.specs.ImageParts.{numbers_from}
 use Rattle.zone_slots.specs.declared.core_state.CoreState.{CoreState}
 use Rattle.llfree_c.specs.Images.{SaysAll}
@@ -71,14 +74,16 @@ pub record LeavesStopWith (key : Key) (last : CoreSeat) (numbers : List ℕ) : T
   pub kept_held : All (IsHeldIn key stop.words) (view_of last).kept
 
 -- the numbers from those of this zone on are those of an image of it, at a stop with the core's own seat there
-abbrev pub StopsZone : CoreState → List ℕ → ℕ → Type 0
-StopsZone s numbers z = (a : Allocator) (x : Core)
-    → LeavesStopWith (memory_of (zone_at (zones_of s) z a)) (seat_of (core_at s.core z x))
-    (numbers_from (zones_of s) numbers z)
+abbrev pub StopsZone : Zones → ZoneCore → List ℕ → ℕ → Type 0
+StopsZone zs c numbers z = (a : Allocator) (x : Core)
+    → LeavesStopWith (memory_of (zone_at zs z a)) (seat_of (core_at c z x)) (numbers_from zs numbers z)
 
--- these are the numbers of an image of the core's memory: it is so of each zone
-abbrev pub StopsCore : CoreState → List ℕ → Type 0
-StopsCore s numbers = (z : ℕ) → z < zone_count (zones_of s) → StopsZone s numbers z
+-- these are the numbers of an image of the core's memory, once all that rested with it has gone back: it is so of
+-- each zone
+pub record StopsCore (s : CoreState) (numbers : List ℕ) : Type 0 where
+  pub core : ZoneCore
+  pub rest : HasGivenRest s core
+  pub zones : (z : ℕ) → z < zone_count (zones_of s) → StopsZone (zones_of s) core numbers z
 
 -- how many numbers an image has of the memory of the core behind a handle, or 0
 abbrev pub image_numbers_behind : Option CoreState → ℕ

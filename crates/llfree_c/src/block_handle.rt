@@ -1,6 +1,6 @@
 //! A block with its right, as C carries it.
 
-ghost use Rattle.std.specs.Prelude.{◌≡◌, true, false, IfSome, IfNone};
+ghost use Rattle.std.specs.Prelude.{◌≡◌, ◌∷◌, [], true, false, IfSome, IfNone};
 ghost use Rattle.llfree_c.specs.Rights.{IsRightTo};
 
 use crate::block_right::BlockRight;
@@ -8,6 +8,7 @@ use atomic_table::Seat;
 use frame_core::HeldBlock;
 use frame_table::{Block, Watch};
 use std::mem::replace;
+use zone_slots::SingleFrame;
 
 /// Where all of its bytes are 0 it carries no block.
 #[repr(C)]
@@ -45,6 +46,23 @@ impl BlockHandle {
             live: true,
             frame,
             order,
+            right: BlockRight::of(badge),
+        }
+    }
+
+    /// The single frame, whose number is over all zones.
+    #[inline(always)]
+    pub(crate) fn of_frame(held: SingleFrame) -> BlockHandle
+        requires right { IsRightTo 0 (held.seat.me.0 ∷ []) }
+        requires bare { held.seat.me.1 ≡ [] }
+        ensures { Carries result held.frame 0 held.seat }
+    {
+        let SingleFrame { frame, seat } = held;
+        let badge = seat.into_badge();
+        BlockHandle {
+            live: true,
+            frame,
+            order: 0,
             right: BlockRight::of(badge),
         }
     }

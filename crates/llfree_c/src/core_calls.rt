@@ -14,6 +14,7 @@ use crate::core_handle::CoreHandle;
 use crate::core_images::leave_core_image;
 use crate::core_openings::open_even;
 use crate::core_steps::{give, split, take};
+use crate::frame_steps::end;
 use crate::ranges::FrameRange;
 use crate::statuses::{CLOSED, OK};
 use std::alloc::Global;
@@ -116,16 +117,22 @@ pub extern "C" fn llfree_frames(handle: &mut CoreHandle, heap: Global) -> u32
     frames
 }
 
-/// Closes the handle of a core. The last core of an allocator frees it.
+/// Closes the handle of a core, once all frames have gone back that rest with it. The last core of an allocator
+/// frees it.
 #[unsafe(no_mangle)]
 pub extern "C" fn llfree_close(handle: &mut CoreHandle, heap: Global)
     ensures { handle.new.live ≡ false }
 {
-    let _state = handle.take_out(heap);
+    let Some(mut state) = handle.take_out(heap) else {
+        return;
+    };
+    state.drain();
+    end(state);
 }
 
 /// Writes the numbers of the memory's image, as many as `llfree_image_words` says of each zone, zone after
-/// zone, from the last open handle of a memory, frees the memory, and closes the handle.
+/// zone, from the last open handle of a memory, once all frames have gone back that rest with its core, frees the
+/// memory, and closes the handle.
 #[unsafe(no_mangle)]
 pub extern "C" fn llfree_close_image(
     handle: &mut CoreHandle,

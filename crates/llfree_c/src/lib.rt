@@ -14,6 +14,8 @@ mod core_images;
 mod core_openings;
 mod core_steps;
 mod crossings;
+mod frame_calls;
+mod frame_steps;
 mod free_calls;
 mod handle;
 mod images;

@@ -11,11 +11,10 @@ use Rattle.frame_zones.proofs.Rounds.{some_zone}
 use Rattle.frame_zones.specs.Frames.{IsFrameIn, IsLastFrom}
 use Rattle.frame_zones.specs.Zones.{zone_count, zone_at, first_frame_of}
 use Rattle.frame_zones.specs.declared.zones.Zones.{Zones}
-use Rattle.zone_slots.specs.Blocks.{IsRightAt, IsRightIn}
+use Rattle.zone_slots.specs.Rights.{IsRightAt, IsRightFrom}
 use Rattle.zone_slots.specs.Layouts.{most_numbers}
 use Rattle.zone_slots.specs.Memories.{HaveNumbers, IsFirstOf}
 use Rattle.zone_slots.specs.declared.first_zone.FirstZone.{FirstZone}
-use Rattle.zone_slots.proofs.Rights.{right_found}
 
 -- a list whose first number is above another one has a first number
 some_number : (l : List ℕ) (n : ℕ) → n < slice_index_or l 0 0 → 0 < length l
@@ -68,8 +67,8 @@ first_fits zs first numbered some is =
 
 -- the right, said of the place that was found
 pub right_placed : (zs : Zones) (frame order z local : ℕ) (id : TableId) (me : Me (Unit {0}) Watch)
-    → IsRightIn zs frame order id me → IsLastFrom zs frame z → first_frame_of zs z + local ≡ frame
+    → IsRightFrom zs frame order id me → IsLastFrom zs frame z → first_frame_of zs z + local ≡ frame
     → IsRightAt zs order id me z local
 right_placed zs frame order z local id me right last sum =
     let here : frame - first_frame_of zs z ≡ local = omega (arith, sum) in
-    subst (λ k. IsRightAt zs order id me z k) here (right_found zs frame order z id me right last)
+    subst (λ k. IsRightAt zs order id me z k) here (right.right z last)

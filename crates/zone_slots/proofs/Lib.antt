@@ -11,3 +11,4 @@ pub mod FirstZones
 pub mod Rights
 pub mod Reopened
 pub mod Homes
+pub mod Rested

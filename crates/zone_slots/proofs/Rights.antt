@@ -1,6 +1,6 @@
 -- The zone of a right, by the number of its block.
-use Rattle.std.proofs.Common.{◌≡◌, ℕ, ◌-◌, ◌*◌, ◌<◌, inl, inr, sym, ◌∙◌, ap, subst, arith}
-use Rattle.std.proofs.lemmas.Bool.{cases_order}
+use Rattle.std.proofs.Common.{◌≡◌, ℕ, zero, suc, ◌-◌, ◌*◌, ◌<◌, ◌≤◌, inl, inr, sym, ◌∙◌, ap, subst, arith}
+use Rattle.std.proofs.lemmas.Bool.{cases_eq, cases_lt, cases_order}
 use Rattle.std.proofs.Math.Nat.{one-le-pow}
 use Rattle.atomic_table.specs.declared.shared.Seat.{Seat}
 use Rattle.atomic_table.specs.Seated.{TableId}
@@ -15,7 +15,7 @@ use Rattle.frame_zones.specs.Frames.{IsLastFrom, BeginBehind}
 use Rattle.frame_zones.specs.Zones.{zone_count, zone_at, first_frame_of, first_frame_in, IsOutOfItsZone}
 use Rattle.frame_zones.specs.declared.block.ZoneBlock.{ZoneBlock}
 use Rattle.frame_zones.specs.declared.zones.Zones.{Zones}
-use Rattle.zone_slots.specs.Blocks.{IsRightAt, IsRightIn}
+use Rattle.zone_slots.specs.Rights.{IsRightAt, IsRightIn, IsRightFrom}
 use Rattle.zone_slots.specs.Layouts.{most_numbers}
 use Rattle.zone_slots.specs.Memories.{HaveNumbers}
 
@@ -59,6 +59,55 @@ right_found zs frame order z id me right last =
     let local : right.local ≡ frame - first_frame_of zs right.zone = omega (arith, right.number) in
     subst (λ k. IsRightAt zs order id me k (frame - first_frame_of zs k)) zone
     (subst (λ k. IsRightAt zs order id me right.zone k) local right.holds)
+
+-- so it is the right, said of that zone
+pub right_from : (zs : Zones) (frame order : ℕ) (id : TableId) (me : Me (Unit {0}) Watch) → IsRightIn zs frame order id me
+    → IsRightFrom zs frame order id me
+right_from zs frame order id me right = record {
+  some = zone_there zs frame order id me right;
+  right = λ z last. right_found zs frame order z id me right last;
+}
+
+-- of the zones below this one some begins there or before it, where the others begin behind it
+last_below : (zs : Zones) (frame n : ℕ) → n ≤ zone_count zs
+    → ((k : ℕ) → n ≤ k → k < zone_count zs → frame < first_frame_of zs k) → ¬ BeginBehind zs frame
+    → (z : ℕ) × IsLastFrom zs frame z
+last_below zs frame zero few behind some = absurd (some (λ k within. behind k (omega arith) within))
+last_below zs frame (suc n) few behind some =
+    elim (cases_lt frame (first_frame_of zs n)) as (λ _. (z : ℕ) × IsLastFrom zs frame z) [
+      | inl less ↦ last_below zs frame n (omega (arith, few)) (λ k past within.
+          elim (cases_eq k n) as (λ _. frame < first_frame_of zs k) [
+            | inl same ↦ subst (λ i. frame < first_frame_of zs i) (sym same) less
+            | inr other ↦ behind k (above n k past other) within
+          ]) some
+      | inr from ↦ (
+        n,
+        record {
+          zone = omega (arith, few);
+          from = from;
+          last = λ k past within. behind k (omega (arith, past)) within;
+        },
+      )
+    ]
+  where
+    above : (n k : ℕ) → n ≤ k → ¬ (k ≡ n) → suc n ≤ k
+    above n k past other = elim (cases_lt n k) as (λ _. suc n ≤ k) [
+      | inl less ↦ omega (arith, less)
+      | inr not ↦ absurd (other (omega (arith, past, not)))
+    ]
+
+-- the right, with its zone
+pub right_in : (zs : Zones) (frame order : ℕ) (id : TableId) (me : Me (Unit {0}) Watch) → IsRightFrom zs frame order id me
+    → IsRightIn zs frame order id me
+right_in zs frame order id me right =
+    let found = last_below zs frame (zone_count zs) (omega arith) (λ k past within. absurd (omega (arith, past, within))) right.some in
+    record {
+      zone = found.0;
+      local = frame - first_frame_of zs found.0;
+      within = found.1.zone;
+      number = omega (arith, found.1.from);
+      holds = right.right found.0 found.1;
+    }
 
 -- the number of a block that is out is one of all numbers
 pub out_fits : (zs : Zones) (b : ZoneBlock) → HaveNumbers zs → IsOutOfItsZone zs b → first_frame_in zs b < most_numbers

@@ -1,21 +1,16 @@
 -- What takes, gives and splits of blocks leave whose rights the caller keeps.
-use Rattle.std.specs.Prelude.{◌≡◌, ℕ, [], Some, None}
+use Rattle.std.specs.Prelude.{◌≡◌, ℕ}
 use Rattle.atomic_table.specs.Seated.{TableId}
 use Rattle.atomic_table.specs.Table.{Me}
-use Rattle.core_frames.specs.Cores.{memory_of}
-use Rattle.core_frames.specs.declared.shared.allocator.Allocator.{Allocator}
-use Rattle.frame_model.specs.Block.{block, IsBlock}
-use Rattle.frame_table.specs.Rule.{watch}
-use Rattle.frame_model.specs.View.{holder}
 use Rattle.frame_table.specs.declared.rule.Watch.{Watch}
 use Rattle.core_frames.specs.Splits.{AreHalves}
-use Rattle.frame_table.specs.Seats.{block_in, id_of}
-use Rattle.frame_zones.specs.Zones.{zone_at, first_frame_in, IsOutOfItsZone}
+use Rattle.frame_table.specs.Seats.{block_in}
+use Rattle.frame_zones.specs.Zones.{first_frame_in, IsOutOfItsZone}
 use Rattle.frame_zones.specs.declared.block.ZoneBlock.{ZoneBlock}
 use Rattle.frame_zones.specs.declared.zones.Zones.{Zones}
 use Rattle.frame_zones.specs.declared.zones.ZoneCore.{ZoneCore}
 use Rattle.zone_slots.specs.Calls.{zones_of}
-use Rattle.zone_slots.specs.Memories.{IsInZone}
+use Rattle.zone_slots.specs.Rights.{IsRightIn}
 use Rattle.zone_slots.specs.Uses.{TakesInZone, SplitsInZone}
 use Rattle.zone_slots.specs.declared.core_state.CoreState.{CoreState}
 
@@ -40,17 +35,6 @@ IsOutFor s b = IsOutOfItsZone (zones_of s) b
 -- the number of the block's first frame among those of all zones
 abbrev pub frame_for : CoreState → ZoneBlock → ℕ
 frame_for s b = first_frame_in (zones_of s) b
-
--- a seat with this identity is the right to the block of the order that begins at this frame of the zone
-pub record IsRightAt (zs : Zones) (order : ℕ) (id : TableId) (me : Me (Unit {0}) Watch) (z local : ℕ) : Type 0 where
-  pub owns : me ≡ (watch (holder me.0.view.about (block local order)) [] None, [])
-  pub table : (a : Allocator) → id ≡ id_of (zone_at zs z a).table
-  pub about : (a : Allocator) → me.0.view.about ≡ Some (memory_of (zone_at zs z a))
-  pub is_block : (a : Allocator) → IsBlock (memory_of (zone_at zs z a)) (block local order)
-
--- it is the right to the block of the order that begins at the frame of this number
-abbrev pub IsRightIn : Zones → (frame order : ℕ) → TableId → Me (Unit {0}) Watch → Type 0
-IsRightIn zs frame order id me = IsInZone zs frame (IsRightAt zs order id me)
 
 -- the same in the zones of the core
 abbrev pub IsRightThrough : CoreState → (frame order : ℕ) → TableId → Me (Unit {0}) Watch → Type 0

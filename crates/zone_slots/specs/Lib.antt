@@ -4,10 +4,13 @@ pub mod ZoneClaims
 pub mod ImageParts
 pub mod ZoneSpans
 pub mod Memories
+pub mod Rights
 pub mod Uses
+pub mod Resting
 pub mod Calls
 pub mod Refusals
 pub mod Blocks
+pub mod FrameCalls
 pub mod FreeCounts
 pub mod WrongTakes
 pub mod Openings

@@ -1,5 +1,5 @@
 -- What the cores of an opening of zones share.
-use Rattle.std.specs.Prelude.{◌≡◌, ◌⊎◌, ℕ, ◌<◌, ◌≤◌, Bool, true, false, List, length, map, reverse, slice_index_or, vec_capacity}
+use Rattle.std.specs.Prelude.{◌≡◌, ◌⊎◌, ℕ, ◌<◌, ◌≤◌, Bool, true, false, List, [], length, map, reverse, slice_index_or, vec_capacity}
 use Rattle.std.specs.Arc.{arc_value}
 use Rattle.std.specs.List.{All}
 use Rattle.frame_words.specs.declared.fault.Fault.{Fault}
@@ -56,9 +56,9 @@ IsUsedAlike zs c d = InEach zs (λ _ x y. IsUsedAsBefore x y) c d
 abbrev pub IsUnusedCore : ZoneCore → Type 0
 IsUnusedCore c = All IsUnused c.cores.items
 
--- the same of a core with what all share
+-- the same of a core with what all share, with which no frame rests
 abbrev pub IsUnusedState : CoreState → Type 0
-IsUnusedState s = IsUnusedCore s.core
+IsUnusedState s = IsUnusedCore s.core × (s.rest.list.items ≡ [])
 
 -- the span ends where frames have numbers
 abbrev pub HasNumbers : Span → Type 0

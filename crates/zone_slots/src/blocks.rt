@@ -4,7 +4,8 @@ ghost use Rattle.std.specs.Prelude.{◌≡◌, ◌+◌, IfOk, IfErr};
 ghost use Rattle.frame_zones.specs.Frames.{IsLastFrom, BeginBehind};
 ghost use Rattle.frame_zones.specs.Uses.{IsGivenFor};
 ghost use Rattle.frame_zones.specs.Zones.{AreCoresOf, IsOutOfItsZone, first_frame_of, first_frame_in};
-ghost use Rattle.zone_slots.specs.Blocks.{HasTakenBlock, HasSplitBlock, TakesBlockFor, SplitsBlockFor, IsOutFor, frame_for, IsRightThrough, IsRightIn};
+ghost use Rattle.zone_slots.specs.Blocks.{HasTakenBlock, HasSplitBlock, TakesBlockFor, SplitsBlockFor, IsOutFor, frame_for, IsRightThrough};
+ghost use Rattle.zone_slots.specs.Rights.{IsRightFrom};
 ghost use Rattle.zone_slots.specs.Calls.{SharesOne, GivesFor, CountsNone, RemembersLast, KeepsCore, RefusesBlock};
 ghost use Rattle.zone_slots.specs.Memories.{IsFirstOf};
 ghost use Rattle.zone_slots.specs.Uses.{GivesInZone, IsRefusedBlock};
@@ -79,7 +80,8 @@ impl CoreState {
 }
 
 impl Memory {
-    fn take_from(&self, core: &mut ZoneCore, order: u8) -> Result<ZoneBlock, TakeFault>
+    #[inline(always)]
+    pub(crate) fn take_from(&self, core: &mut ZoneCore, order: u8) -> Result<ZoneBlock, TakeFault>
         requires { AreCoresOf self.now.zones core.old }
         ensures core { AreCoresOf self.now.zones core.new }
         ensures taken { IfOk result (HasTakenBlock self.now.zones order core.old core.new) }
@@ -88,7 +90,8 @@ impl Memory {
         self.zones.take(core, order)
     }
 
-    fn give_to(&self, core: &mut ZoneCore, held: ZoneBlock) -> GivenBlock
+    #[inline(always)]
+    pub(crate) fn give_to(&self, core: &mut ZoneCore, held: ZoneBlock) -> GivenBlock
         requires core { AreCoresOf self.now.zones core.old }
         requires out { IsOutOfItsZone self.now.zones held }
         ensures core { AreCoresOf self.now.zones core.new }
@@ -119,7 +122,7 @@ impl Memory {
     }
 
     #[inline(always)]
-    fn frame_at(&self, known: FirstZone, held: &ZoneBlock) -> u32
+    pub(crate) fn frame_at(&self, known: FirstZone, held: &ZoneBlock) -> u32
         requires known { IsFirstOf self.now.zones known }
         requires out { IsOutOfItsZone self.now.zones held.now }
         ensures { result ≡ first_frame_in self.now.zones held.now }
@@ -128,9 +131,15 @@ impl Memory {
     }
 
     #[inline(always)]
-    fn block_at(&self, known: FirstZone, frame: u32, order: u8, seat: Seat<(), Watch>) -> ZoneBlock
+    pub(crate) fn block_at(
+        &self,
+        known: FirstZone,
+        frame: u32,
+        order: u8,
+        seat: Seat<(), Watch>,
+    ) -> ZoneBlock
         requires known { IsFirstOf self.now.zones known }
-        requires right { IsRightIn self.now.zones frame order seat.table_id seat.me }
+        requires right { IsRightFrom self.now.zones frame order seat.table_id seat.me }
         ensures out { IsOutOfItsZone self.now.zones result }
         ensures frame { first_frame_in self.now.zones result ≡ frame }
         ensures order { result.block.order ≡ order }

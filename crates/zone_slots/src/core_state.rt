@@ -3,8 +3,10 @@
 ghost use Rattle.std.specs.Arc.{arc_value};
 ghost use Rattle.frame_zones.specs.Zones.{AreCoresOf};
 ghost use Rattle.zone_slots.specs.Memories.{IsFirstOf};
+ghost use Rattle.zone_slots.specs.Resting.{AreSingles};
 
 use crate::first_zone::FirstZone;
+use crate::frame_list::FrameList;
 use crate::memory::Memory;
 use crate::zone_receipt::ZoneReceipt;
 use frame_zones::{GivenBlock, ZoneCore};
@@ -25,8 +27,11 @@ pub struct CoreState {
     // Of the halves that its last split laid down, the lower first.
     pub(crate) halves: Option<(ZoneReceipt, ZoneReceipt)>,
     pub(crate) first: FirstZone,
+    // Single frames that were given to the core, and rest with it.
+    pub(crate) rest: FrameList,
     // No two cores share a cache line.
     pub(crate) apart: [u64; 14],
     pub ghost is_core: { AreCoresOf (arc_value shared).zones core },
+    pub ghost rests: { AreSingles (arc_value shared).zones rest.list.items },
     pub ghost known: { IsFirstOf (arc_value shared).zones first },
 }

@@ -1,6 +1,6 @@
 //! The cores of a fresh memory of zones.
 
-ghost use Rattle.std.specs.Prelude.{◌≡◌, ◌+◌, ◌<◌, true, MatchBool, IfOk, IfErr, vec_len, map};
+ghost use Rattle.std.specs.Prelude.{◌≡◌, ◌+◌, ◌<◌, [], true, MatchBool, IfOk, IfErr, vec_len, map};
 ghost use Rattle.std.specs.Arc.{arc_value};
 ghost use Rattle.std.specs.List.{All};
 ghost use Rattle.frame_zones.specs.Openings.{AreOpened, HaveHomes};
@@ -12,6 +12,7 @@ ghost use Rattle.zone_slots.specs.Openings.{HasNumbers, MayBeOpened, IsNoOpening
 ghost use Rattle.zone_slots.specs.Openings.{parts_from_last, HaveSameHomes, HoldBack};
 
 use crate::core_state::CoreState;
+use crate::frame_list::FrameList;
 use crate::layouts::MOST_NUMBERS;
 use crate::memory::Memory;
 use frame_slots::SlotList;
@@ -191,7 +192,7 @@ pub(crate) fn cores_over(
 {
     let mut states = Vec::new(alloc);
     while let Some(core) = cores.pop() {
-        let state = state_over(shared, core)?;
+        let state = state_over(alloc, shared, core)?;
         let Ok(()) = states.push(state) else {
             return Err(Fault::NoMemory);
         };
@@ -199,15 +200,21 @@ pub(crate) fn cores_over(
     Ok(states)
 }
 
-pub(crate) fn state_over(shared: &Arc<Memory, Global>, core: ZoneCore) -> Result<CoreState, Fault>
+pub(crate) fn state_over(
+    alloc: Global,
+    shared: &Arc<Memory, Global>,
+    core: ZoneCore,
+) -> Result<CoreState, Fault>
     requires { AreCoresOf (arc_value shared.now).zones core }
     ensures shared { IfOk result (Shares (arc_value shared.now)) }
     ensures core { IfOk result (λ s. s.core ≡ core) }
+    ensures rest { IfOk result (λ s. s.rest.list.items ≡ []) }
     ensures err { IfErr result (λ e. e ≡ Fault.NoMemory) }
 {
     let Ok(shared) = Arc::try_clone(shared) else {
         return Err(Fault::NoMemory);
     };
+    let rest = FrameList::new(alloc)?;
     let first = shared.first_zone();
     Ok(CoreState {
         shared,
@@ -217,6 +224,7 @@ pub(crate) fn state_over(shared: &Arc<Memory, Global>, core: ZoneCore) -> Result
         given: None,
         halves: None,
         first,
+        rest,
         apart: [0; 14],
     })
 }

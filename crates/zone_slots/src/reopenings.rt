@@ -44,7 +44,7 @@ pub fn reopen_cores(
         return Err(Fault::NoMemory);
     };
     let mut states = cores_over(alloc, &shared, parts)?;
-    let keeper = state_over(&shared, keeper)?;
+    let keeper = state_over(alloc, &shared, keeper)?;
     let Ok(()) = states.push(keeper) else {
         return Err(Fault::NoMemory);
     };

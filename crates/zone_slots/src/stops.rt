@@ -1,8 +1,7 @@
 //! The last core of a memory of zones stops it.
 
 ghost use Rattle.std.specs.Prelude.{◌≡◌, ◌⊎◌, IfOk, IfErr};
-ghost use Rattle.frame_zones.specs.Stops.{AreStopped};
-ghost use Rattle.zone_slots.specs.Calls.{zones_of};
+ghost use Rattle.zone_slots.specs.FrameCalls.{StopsWithout};
 
 use crate::core_state::CoreState;
 use frame_words::Fault;
@@ -30,12 +29,13 @@ impl Debug for StopFault {
 }
 
 impl CoreState {
-    /// The words of each zone, in order, from the one core that is left: they fit some views, of which
-    /// one is that core's own there, and all that it keeps there is held. That blocks which rest at
-    /// their slots are held too is by the body, which writes no word. Refused as `MissingCores` where
+    /// The words of each zone, in order, from the one core that is left, once the frames that rest with it
+    /// have gone back: they fit some views, of which one is that core's own there, and all that it keeps
+    /// there is held. That blocks which rest at their slots are held too is by the body, which writes no
+    /// word. Refused as `MissingCores` where
     /// other cores are open, else for lack of memory; no zone is stopped then.
     pub fn stop(self, alloc: Global) -> Result<Vec<ZoneImage>, StopFault>
-        ensures images { IfOk result (λ images. AreStopped (zones_of self) self.core images.items) }
+        ensures images { IfOk result (λ images. StopsWithout self images.items) }
         ensures same { IfErr result (λ e. e.core ≡ self) }
         ensures refused { IfErr result (λ e.
             (e.fault ≡ Fault.MissingCores) ⊎ (e.fault ≡ Fault.NoMemory)) }
@@ -48,16 +48,21 @@ impl CoreState {
         };
         let CoreState {
             shared,
-            core,
+            mut core,
             slotless,
             last,
             given,
             halves,
             first,
+            mut rest,
             apart,
         } = self;
         match Arc::try_unwrap(shared) {
-            Ok(shared) => Ok(shared.zones.stop(core, room)),
+            Ok(shared) => {
+                let count = rest.len();
+                shared.give_last(first, &mut core, &mut rest, count);
+                Ok(shared.zones.stop(core, room))
+            }
             Err(shared) => Err(StopFault {
                 fault: Fault::MissingCores,
                 core: CoreState {
@@ -68,6 +73,7 @@ impl CoreState {
                     given,
                     halves,
                     first,
+                    rest,
                     apart,
                 },
             }),

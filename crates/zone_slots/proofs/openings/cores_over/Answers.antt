@@ -31,8 +31,11 @@ loop-core-preserved c =
           let popped = All-pop IsUnusedCore c.loop-core.cores.items c.pop.new.self.items c.pop.result c.pop.ensures.items before.0 in (
             popped.0,
             subst (λ (states : List CoreState). All IsUnusedState states) (sym c.in-Ok.ensures.items)
-                (All-push IsUnusedState _ _ before.1 (subst IsUnusedCore (sym c.in_ok-state.ensures.core)
-                (subst (λ (r : Option ZoneCore). IfSome r IsUnusedCore) c.in-Some.is popped.1))),
+                (All-push IsUnusedState _ _ before.1 (
+                  subst IsUnusedCore (sym c.in_ok-state.ensures.core)
+                      (subst (λ (r : Option ZoneCore). IfSome r IsUnusedCore) c.in-Some.is popped.1),
+                  c.in_ok-state.ensures.rest,
+                )),
           );
       order = subst (λ (states : List CoreState). c.pop.new.self.items ++ parts_from_last states ≡ c.args.cores.items) (sym c.in-Ok.ensures.items)
           (order_more c.loop-core.cores.items c.pop.new.self.items c.args.cores.items c.in-Some.core c.loop-core.states.items c.in_ok-state.state

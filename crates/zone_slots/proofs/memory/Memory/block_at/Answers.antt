@@ -1,10 +1,9 @@
 use Rattle.zone_slots.proofs.FirstZones.{right_placed}
-use Rattle.zone_slots.proofs.Rights.{zone_there, right_out}
+use Rattle.zone_slots.proofs.Rights.{right_out}
 use Rattle.zone_slots.proofs.memory.Memory.block_at.Goals as goal
 
 pub place_of-zone-requires-clause-some : goal.place_of-zone-requires-clause-some
-place_of-zone-requires-clause-some c =
-    zone_there c.args.self.now.zones c.args.frame c.args.order c.args.seat.table_id c.args.seat.me c.requires.right
+place_of-zone-requires-clause-some c = c.requires.right.some
 
 pub of-block-requires : goal.of-block-requires
 of-block-requires c =

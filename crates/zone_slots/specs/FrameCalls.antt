@@ -1,0 +1,78 @@
+-- What takes and gives of single frames that rest with a core leave.
+use Rattle.std.specs.Prelude.{◌≡◌, ℕ, ℤ, pos, ◌+ℤ◌, ◌-ℤ◌, ◌<◌, ◌∷◌, ◌++◌, [], List, Result, Ok}
+use Rattle.core_frames.specs.Cores.{lent_by}
+use Rattle.core_frames.specs.declared.shared.allocator.Core.{Core}
+use Rattle.frame_words.specs.declared.fault.TakeFault.{TakeFault}
+use Rattle.frame_zones.specs.Stops.{AreStopped}
+use Rattle.frame_zones.specs.Zones.{zone_count, core_at, AreCoresOf}
+use Rattle.frame_zones.specs.declared.image.ZoneImage.{ZoneImage}
+use Rattle.frame_zones.specs.declared.zones.ZoneCore.{ZoneCore}
+use Rattle.zone_slots.specs.Blocks.{IsRightThrough}
+use Rattle.zone_slots.specs.Calls.{zones_of, KeepsCore, RefusesBlock}
+use Rattle.zone_slots.specs.Resting.{one_in, lent_besides}
+use Rattle.zone_slots.specs.declared.core_state.CoreState.{CoreState}
+use Rattle.zone_slots.specs.declared.single_frame.SingleFrame.{SingleFrame}
+
+-- what rests with the core, the one that came first in front
+abbrev pub resting_in : CoreState → List SingleFrame
+resting_in s = s.rest.list.items
+
+-- the same frames rest with the core
+abbrev pub KeepsRest : CoreState → CoreState → Type 0
+KeepsRest s t = resting_in t ≡ resting_in s
+
+-- it is the right to a single frame of the zones of the core
+abbrev pub IsSingleFor : CoreState → SingleFrame → Type 0
+IsSingleFor s f = IsRightThrough s f.frame 0 f.seat.table_id f.seat.me
+
+-- how many blocks of a zone more the core handed out than came in, without those that rest with it
+abbrev pub lent_out : CoreState → ℕ → Core → ℤ
+lent_out s z x = lent_besides (zones_of s) s.core (resting_in s) z x
+
+-- one block more is lent out in the zone of the frame of this number, and as many as before in each other
+abbrev pub LendsOneMore : ℕ → CoreState → CoreState → Type 0
+LendsOneMore n s t = (z : ℕ) (x : Core) → z < zone_count (zones_of s)
+    → lent_out t z x ≡ lent_out s z x +ℤ pos (one_in (zones_of s) z n)
+
+-- one block less is lent out in the zone of the frame of this number, and as many as before in each other
+abbrev pub LendsOneLess : ℕ → CoreState → CoreState → Type 0
+LendsOneLess n s t = (z : ℕ) (x : Core) → z < zone_count (zones_of s)
+    → lent_out t z x ≡ lent_out s z x -ℤ pos (one_in (zones_of s) z n)
+
+-- as many are lent out in each zone as before
+abbrev pub LendsAsMany : CoreState → CoreState → Type 0
+LendsAsMany s t = (z : ℕ) (x : Core) → z < zone_count (zones_of s) → lent_out t z x ≡ lent_out s z x
+
+-- the right to a single frame left the core
+pub record TakesSingle (s t : CoreState) (f : SingleFrame) : Type 0 where
+  pub is_single : IsSingleFor s f
+  pub lent : LendsOneMore f.frame s t
+
+-- the answer is the frame that came last, which rests no more; the core is as it was in each zone
+pub record TakesLast (answer : Result SingleFrame TakeFault) (s t : CoreState) : Type 0 where
+  pub frame : SingleFrame
+  pub is_it : answer ≡ Ok frame
+  pub last : resting_in s ≡ resting_in t ++ frame ∷ []
+  pub core : KeepsCore s t
+
+-- the frame came to rest last; the core is as it was in each zone
+pub record RestsLast (f : SingleFrame) (s t : CoreState) : Type 0 where
+  pub last : resting_in t ≡ resting_in s ++ f ∷ []
+  pub core : KeepsCore s t
+
+-- why no single frame was taken: none rested, and a take of one through the core was refused
+pub record RefusesSingle (s t : CoreState) (fault : TakeFault) : Type 0 where
+  pub why : RefusesBlock 0 s t fault
+  pub none : resting_in s ≡ []
+  pub none_then : resting_in t ≡ []
+
+-- all that rested went back through the core
+pub record HasGivenRest (s : CoreState) (d : ZoneCore) : Type 0 where
+  pub are_cores : AreCoresOf (zones_of s) d
+  pub lent : (z : ℕ) (x : Core) → z < zone_count (zones_of s) → lent_by (core_at d z x) ≡ lent_out s z x
+
+-- these are the images of all zones, once all that rested has gone back
+pub record StopsWithout (s : CoreState) (images : List ZoneImage) : Type 0 where
+  pub core : ZoneCore
+  pub rest : HasGivenRest s core
+  pub stopped : AreStopped (zones_of s) core images

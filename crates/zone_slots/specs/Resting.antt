@@ -1,0 +1,61 @@
+-- Single frames that rest with a core, and what each zone lends besides.
+use Rattle.std.specs.Prelude.{◌≡◌, ℕ, ℤ, pos, ◌-ℤ◌, ◌<◌, Bool, ◌&&◌, nat_le, nat_lt, if◌then◌else◌, List, slice_index_or}
+use Rattle.std.specs.List.{All, sum_by}
+use Rattle.core_frames.specs.Cores.{lent_by}
+use Rattle.core_frames.specs.declared.shared.allocator.Core.{Core}
+use Rattle.frame_zones.specs.Zones.{zone_count, core_at, first_frame_of, AreCoresOf}
+use Rattle.frame_zones.specs.declared.zones.Zones.{Zones}
+use Rattle.frame_zones.specs.declared.zones.ZoneCore.{ZoneCore}
+use Rattle.zone_slots.specs.Layouts.{Stretch, end_of_children}
+use Rattle.zone_slots.specs.Rights.{IsRightFrom}
+use Rattle.zone_slots.specs.Uses.{TakesByNumber}
+use Rattle.zone_slots.specs.declared.single_frame.SingleFrame.{SingleFrame}
+
+-- how many frames rest with a core at most
+abbrev pub most_resting : ℕ
+most_resting = 128
+
+-- how many of them go back where there is no place for one more
+abbrev pub half_resting : ℕ
+half_resting = 64
+
+-- it is the right to the frame of its number
+abbrev pub IsSingleIn : Zones → SingleFrame → Type 0
+IsSingleIn zs f = IsRightFrom zs f.frame 0 f.seat.table_id f.seat.me
+
+-- each of them is
+pub record AreSingles (zs : Zones) (frames : List SingleFrame) : Type 0 where
+  pub each : All (IsSingleIn zs) frames
+
+-- the frames of a zone, by their numbers
+abbrev pub stretch_of : Zones → ℕ → Stretch
+stretch_of zs z = (first_frame_of zs z, slice_index_or zs.frames.items z 0)
+
+-- the frame of this number lies in a child of the zone
+abbrev pub lies_in : Zones → (zone number : ℕ) → Bool
+lies_in zs z n = nat_le (first_frame_of zs z) n && nat_lt n (end_of_children (stretch_of zs z))
+
+-- 1 for the zone in which the frame of this number lies, and 0 for each other
+abbrev pub one_in : Zones → (zone number : ℕ) → ℕ
+one_in zs z n = if lies_in zs z n then 1 else 0
+
+-- how many of these frames lie in the zone
+abbrev pub count_in : Zones → List SingleFrame → ℕ → ℕ
+count_in zs frames z = sum_by (λ f. one_in zs z f.frame) frames
+
+-- how many blocks of a zone more were handed out than came in, where these frames rest: they are lent to nobody
+abbrev pub lent_besides : Zones → ZoneCore → List SingleFrame → ℕ → Core → ℤ
+lent_besides zs c frames z x = lent_by (core_at c z x) -ℤ pos (count_in zs frames z)
+
+-- the cores are of these zones, all that rests are rights to single frames of them, and each zone lends as many
+-- blocks besides as before
+pub record GivesBack (zs : Zones) (c : ZoneCore) (before : List SingleFrame) (d : ZoneCore) (after : List SingleFrame)
+    : Type 0 where
+  pub are_cores : AreCoresOf zs d
+  pub are_singles : AreSingles zs after
+  pub lent : (z : ℕ) (x : Core) → z < zone_count zs → lent_besides zs d after z x ≡ lent_besides zs c before z x
+
+-- the right to a single frame was taken through the core
+pub record HasTakenSingle (zs : Zones) (c d : ZoneCore) (f : SingleFrame) : Type 0 where
+  pub is_single : IsSingleIn zs f
+  pub taken : TakesByNumber zs 0 f.frame c d

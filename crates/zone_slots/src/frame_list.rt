@@ -1,0 +1,71 @@
+//! The single frames that rest with a core, in a list of its own.
+
+ghost use Rattle.std.specs.Prelude.{◌≡◌, ◌<◌, ◌≤◌, ◌∷◌, ◌++◌, [], length, drop, take, vec_capacity, IfOk, IfErr, IfSome, IfNone};
+
+use crate::single_frame::SingleFrame;
+use frame_words::Fault;
+use std::alloc::Global;
+
+/// How many frames rest with a core at most.
+pub(crate) const MOST_RESTING: usize = 128;
+
+/// How many of them go back where there is no place for one more.
+pub(crate) const HALF: usize = 64;
+
+// Room for a cache line more: behind what one core writes lies nothing that another one does.
+const ROOM: usize = 144;
+
+/// The frames that rest with a core, the one that came first in front. It has room for all from the start.
+#[derive(Drop)]
+pub struct FrameList {
+    pub(crate) list: Vec<SingleFrame>,
+    pub(crate) ghost few: { length list.items ≤ 128 },
+    pub(crate) ghost room: { 128 ≤ vec_capacity list },
+}
+
+impl FrameList {
+    /// None rests. Refused for lack of memory alone.
+    pub(crate) fn new(alloc: Global) -> Result<FrameList, Fault>
+        ensures empty { IfOk result (λ l. l.list.items ≡ []) }
+        ensures err { IfErr result (λ e. e ≡ Fault.NoMemory) }
+    {
+        match Vec::with_capacity(alloc, ROOM) {
+            Ok(list) => Ok(FrameList { list }),
+            Err(_) => Err(Fault::NoMemory),
+        }
+    }
+
+    #[inline(always)]
+    pub(crate) fn len(&self) -> usize
+        ensures { result ≡ length self.now.list.items }
+    {
+        self.list.len()
+    }
+
+    /// The frame that came last, if one rests.
+    #[inline(always)]
+    pub(crate) fn pop(&mut self) -> Option<SingleFrame>
+        ensures some { IfSome result (λ f. self.old.list.items ≡ self.new.list.items ++ f ∷ []) }
+        ensures none { IfNone result ((self.old.list.items ≡ []) × (self.new.list.items ≡ [])) }
+    {
+        self.list.pop()
+    }
+
+    /// The frame rests last.
+    #[inline(always)]
+    pub(crate) fn push(&mut self, frame: SingleFrame)
+        requires { length self.old.list.items < 128 }
+        ensures { self.new.list.items ≡ self.old.list.items ++ frame ∷ [] }
+    {
+        self.list.push_reserved(frame);
+    }
+
+    /// The ones that came first stand last.
+    pub(crate) fn turn(&mut self)
+        requires { 64 ≤ length self.old.list.items }
+        ensures turned { self.new.list.items ≡ drop 64 self.old.list.items ++ take 64 self.old.list.items }
+        ensures len { length self.new.list.items ≡ length self.old.list.items }
+    {
+        self.list.as_mut_slice().rotate_left(HALF);
+    }
+}

@@ -1,0 +1,115 @@
+//! Takes and gives of single frames, of which some rest with a core.
+
+ghost use Rattle.std.specs.Prelude.{◌≡◌, ◌<◌, ◌≤◌, ◌∷◌, ◌++◌, [], drop, length, IfOk, IfErr};
+ghost use Rattle.zone_slots.specs.Calls.{SharesOne, CountsNone, RemembersLast};
+ghost use Rattle.zone_slots.specs.Resting.{most_resting, half_resting};
+ghost use Rattle.zone_slots.specs.FrameCalls.{resting_in, IsSingleFor, LendsOneLess, LendsAsMany};
+ghost use Rattle.zone_slots.specs.FrameCalls.{TakesSingle, TakesLast, RestsLast, RefusesSingle};
+
+use crate::core_state::CoreState;
+use crate::frame_list::{HALF, MOST_RESTING};
+use crate::single_frame::SingleFrame;
+use frame_words::TakeFault;
+
+impl CoreState {
+    /// Takes a single frame: the one that came to rest last, with no step of the allocator; where none rests,
+    /// one as `take_block` takes it.
+    #[inline(always)]
+    pub fn take_frame(&mut self) -> Result<SingleFrame, TakeFault>
+        ensures shared { SharesOne self.old self.new }
+        ensures taken { IfOk result (TakesSingle self.old self.new) }
+        ensures refused { IfErr result (RefusesSingle self.old self.new) }
+        ensures hits { 0 < length (resting_in self.old) → TakesLast result self.old self.new }
+        ensures counted { CountsNone self.old self.new }
+        ensures last { RemembersLast self.old self.new }
+    {
+        match self.rest.pop() {
+            Some(frame) => Ok(frame),
+            None => self.shared.take_single(self.first, &mut self.core),
+        }
+    }
+
+    /// Gives a single frame back, whichever core took it: it comes to rest. Where 128 rest, the 64 that came
+    /// first go back before. It always succeeds.
+    #[inline(always)]
+    pub fn give_frame(&mut self, frame: SingleFrame)
+        requires { IsSingleFor self.old frame }
+        ensures shared { SharesOne self.old self.new }
+        ensures lent { LendsOneLess frame.frame self.old self.new }
+        ensures rests { length (resting_in self.old) < most_resting → RestsLast frame self.old self.new }
+        ensures full { length (resting_in self.old) ≡ most_resting
+            → resting_in self.new ≡ drop half_resting (resting_in self.old) ++ frame ∷ [] }
+        ensures counted { CountsNone self.old self.new }
+        ensures last { RemembersLast self.old self.new }
+    {
+        if self.rest.len() < MOST_RESTING {
+            self.lay(frame);
+            return;
+        }
+        self.lay_anew(frame);
+    }
+
+    // The frame rests last, once there is room for it.
+    #[inline(never)]
+    fn lay_anew(&mut self, frame: SingleFrame)
+        requires single { IsSingleFor self.old frame }
+        requires full { length (resting_in self.old) ≡ most_resting }
+        ensures shared { SharesOne self.old self.new }
+        ensures lent { LendsOneLess frame.frame self.old self.new }
+        ensures rest { resting_in self.new ≡ drop half_resting (resting_in self.old) ++ frame ∷ [] }
+        ensures counted { CountsNone self.old self.new }
+        ensures last { RemembersLast self.old self.new }
+    {
+        self.flush();
+        self.lay(frame);
+    }
+
+    // The frame rests last.
+    #[inline(always)]
+    fn lay(&mut self, frame: SingleFrame)
+        requires single { IsSingleFor self.old frame }
+        requires room { length (resting_in self.old) < most_resting }
+        ensures shared { SharesOne self.old self.new }
+        ensures lent { LendsOneLess frame.frame self.old self.new }
+        ensures rests { RestsLast frame self.old self.new }
+        ensures counted { CountsNone self.old self.new }
+        ensures last { RemembersLast self.old self.new }
+    {
+        self.rest.push(frame);
+    }
+
+    // Gives the half of the frames back that came first.
+    fn flush(&mut self)
+        requires { length (resting_in self.old) ≡ most_resting }
+        ensures shared { SharesOne self.old self.new }
+        ensures lent { LendsAsMany self.old self.new }
+        ensures rest { resting_in self.new ≡ drop half_resting (resting_in self.old) }
+        ensures less { length (resting_in self.new) ≡ half_resting }
+        ensures counted { CountsNone self.old self.new }
+        ensures last { RemembersLast self.old self.new }
+    {
+        self.rest.turn();
+        self.shared
+            .give_last(self.first, &mut self.core, &mut self.rest, HALF);
+    }
+
+    /// Gives all frames back that rest with the core.
+    pub fn drain(&mut self)
+        ensures shared { SharesOne self.old self.new }
+        ensures empty { resting_in self.new ≡ [] }
+        ensures lent { LendsAsMany self.old self.new }
+        ensures counted { CountsNone self.old self.new }
+        ensures last { RemembersLast self.old self.new }
+    {
+        let count = self.rest.len();
+        self.shared
+            .give_last(self.first, &mut self.core, &mut self.rest, count);
+    }
+
+    /// How many frames rest with the core, at most 128. They count as held.
+    pub fn resting(&self) -> u32
+        ensures { result ≡ length (resting_in self.now) }
+    {
+        self.rest.len() as u32
+    }
+}
