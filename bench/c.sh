@@ -1,9 +1,9 @@
 #!/usr/bin/env bash
-# Measures takes and gives from C through the library, by numbers and with blocks in structs (unchecked),
-# beside a buddy allocator with lists for each processor, as Linux has it, a bitmap and a buddy allocator under a
-# mutex (bench/c/peers.h, locked.h), and malloc (bench/c/pairs.c), and the allocator's own pairs
-# (crates/llfree_bench). It needs a C compiler, and a built build/llfree_bench; the library is built where it is not
-# there.
+# Measures takes and gives from C through the library, by numbers, with blocks in structs (unchecked) and with single
+# frames that rest with a core (resting), beside a buddy allocator with lists for each processor, as Linux has it, a
+# bitmap and a buddy allocator under a mutex (bench/c/peers.h, locked.h), and malloc (bench/c/pairs.c), and the
+# allocator's own pairs (crates/llfree_bench). It needs a C compiler, and a built build/llfree_bench; the library is
+# built where it is not there.
 # The two programs run in turn, RUNS times, each time with PAIRS pairs a thread; each figure is the median
 # of all runs, in nanoseconds for a take and a give of one thread. `own` is the allocator's own pair, and
 # each `ratio` the library's to it; `times` is how many times as long as the library the other one takes.
@@ -27,9 +27,9 @@ for run in $(seq "$runs"); do
 done
 shows
 
-printf '%7s %5s %10s %8s %6s %13s %6s %9s %9s %6s %10s %6s %9s %6s %9s %6s\n' threads order \
-    'llfree ns' 'own ns' ratio 'unchecked ns' ratio 'plain ns' 'lists ns' times 'bitmap ns' times 'buddy ns' times \
-    'malloc ns' times
+printf '%7s %5s %10s %8s %6s %13s %6s %11s %9s %9s %6s %10s %6s %9s %6s %9s %6s\n' threads order \
+    'llfree ns' 'own ns' ratio 'unchecked ns' ratio 'resting ns' 'plain ns' 'lists ns' times 'bitmap ns' times \
+    'buddy ns' times 'malloc ns' times
 sort -t, -k1,1n -k2,2n -k3,3 -k4,4n "$folder/lines" | awk -F, '
     { key = $1 "," $2; who = $3; figure[key, who, ++n[key, who]] = $4 / 10 }
     !(key in seen) { seen[key] = 1; rows[++count] = key }
@@ -44,7 +44,9 @@ sort -t, -k1,1n -k2,2n -k3,3 -k4,4n "$folder/lines" | awk -F, '
             a = median("llfree"); own = median("own"); free = median("unchecked")
             b = median("bitmap"); c = median("buddy"); d = median("malloc"); e = median("lists")
             plain = (key, "plain") in n ? sprintf("%.1f", median("plain")) : ""
-            printf "%7d %5d %10.1f %8.1f %6.2f %13.1f %6.2f %9s %9.1f %6.2f %10.1f %6.2f %9.1f %6.2f %9.1f %6.2f\n",
-                part[1], part[2], a, own, a / own, free, free / own, plain, e, e / a, b, b / a, c, c / a, d, d / a
+            resting = (key, "resting") in n ? sprintf("%.1f", median("resting")) : ""
+            printf "%7d %5d %10.1f %8.1f %6.2f %13.1f %6.2f %11s %9s %9.1f %6.2f %10.1f %6.2f %9.1f %6.2f %9.1f %6.2f\n",
+                part[1], part[2], a, own, a / own, free, free / own, resting, plain, e, e / a, b, b / a, c, c / a,
+                d, d / a
         }
     }'

@@ -28,9 +28,9 @@
  *     openings and closings call them, several threads at once if these overlap. Each returns (no longjmp, no
  *     exception) and calls nothing of this header. Unchecked.
  *
- * A take, a give or a split allocates nothing (tested, not proved). It needs less than 1 KiB of stack, an
- * opening or a closing with an image less than 6 KiB (measured, not proved). The code is for x86-64 processors
- * with popcnt, in kernels too.
+ * A take, a give, a split or a drain allocates nothing (tested, not proved). It needs less than 1 KiB of stack, an
+ * opening or a closing with an image less than 6 KiB, an llfree_give_frame that finds 128 frames at rest less than
+ * 8 KiB (measured, not proved). The code is for x86-64 processors with popcnt, in kernels too.
  */
 #ifndef LLFREE_H
 #define LLFREE_H
@@ -243,8 +243,9 @@ uint32_t llfree_free_frames(llfree_core *handle);
  * not count. */
 uint32_t llfree_free_huge(llfree_core *handle);
 
-/* Closes the handle of a core, if it is open. The last handle of an allocator frees it, together with all
- * blocks that are still held (that all its memory is freed is tested, not proved). */
+/* Closes the handle of a core, if it is open, and gives back what rests with it (see llfree_take_frame). The last
+ * handle of an allocator frees it, together with all blocks that are still held (that all its memory is freed, and
+ * what rested, is tested, not proved). */
 void llfree_close(llfree_core *handle);
 
 /* Writes the memory's image, zone after zone (see llfree_image_words), and then closes the last handle of an
@@ -313,6 +314,37 @@ enum llfree_status llfree_give_block(llfree_core *handle, llfree_block *block);
  * BAD_ORDER (order 0) and CLOSED_HANDLE nothing changes. */
 LLFREE_NODISCARD
 enum llfree_status llfree_split_block(llfree_core *handle, llfree_block *block, llfree_block *upper);
+
+/* Single frames that rest with a core. Beside each core is a list of up to 128 frames, which only the calls below
+ * use. A frame that is given rests there, and is the next one that is taken: neither makes a step that other cores
+ * see. This is for frames that are soon taken again on the same CPU. (Which frame is taken first is tested, not
+ * proved.)
+ *  - A frame that rests counts as held in llfree_free_frames; llfree_resting says how many do. After a kill, or
+ *    where a call through the handle never ends, they stay held: at most 128 frames more for each core.
+ *  - No other core reaches it. While frames rest, other cores may be told NO_BLOCK, and all cores that a larger
+ *    block is not free. llfree_drain gives back what rests with one core, so each thread drains its own (in a
+ *    kernel an interrupt asks each CPU), above all before it stops for long.
+ *  - A closing, with an image or without, first gives back what rests with its core. */
+
+/* Takes a single frame into an empty struct: the one that came to rest with this core last; if none rests, as
+ * llfree_take_block takes one of order 0. On failure the struct is unchanged and nothing more is held: NO_BLOCK
+ * and CONTENDED as that call, and only if no frame rests with this core; CLOSED_HANDLE; OPEN_HANDLE if the struct
+ * holds a block. It works with cores of llfree_open too; such a frame is not on their list. */
+LLFREE_NODISCARD
+enum llfree_status llfree_take_frame(llfree_core *handle, llfree_block *block);
+
+/* Gives the single frame that the struct holds, whichever core took it and by whichever call for structs, and
+ * empties the struct. The frame rests with this core. If 128 rest there already, 64 of them go back first. On
+ * NOT_HELD (an empty struct), BAD_ORDER (a larger block) and CLOSED_HANDLE nothing changes. It never locks or
+ * waits. */
+enum llfree_status llfree_give_frame(llfree_core *handle, llfree_block *block);
+
+/* Gives back all frames that rest with this core. It never locks or waits. If the handle is closed it does
+ * nothing. */
+void llfree_drain(llfree_core *handle);
+
+/* The number of frames that rest with this core, at most 128; 0 if the handle is closed. */
+uint32_t llfree_resting(llfree_core *handle);
 
 /* An allocator for one thread. It refuses a take only if no block of the order is free, and needs one byte a
  * frame beside its words. */

@@ -140,6 +140,25 @@ static inline enum llfree_status llfree_give_block_told(llfree_core *handle, voi
     return llfree_give_block(handle, block);
 }
 
+/* llfree_take_frame. */
+LLFREE_NODISCARD
+static inline enum llfree_status llfree_take_frame_told(llfree_core *handle, void *address, llfree_block *block)
+{
+    enum llfree_status status = llfree_take_frame(handle, block);
+
+    if (status == LLFREE_OK)
+        llfree_tell(address, block->frame, 0, true);
+    return status;
+}
+
+/* llfree_give_frame. */
+static inline enum llfree_status llfree_give_frame_told(llfree_core *handle, void *address, llfree_block *block)
+{
+    if (block->live && block->order == 0)
+        llfree_tell(address, block->frame, 0, false);
+    return llfree_give_frame(handle, block);
+}
+
 #ifdef __cplusplus
 }
 #endif

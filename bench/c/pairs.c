@@ -1,7 +1,7 @@
 /* How long a take and a give take from C: the library with a core for each thread, the same with blocks
- * in structs, the library for one thread, a buddy allocator with lists for each processor as Linux has it, a bitmap
- * and a buddy allocator, each under a mutex, and the C library's own aligned_alloc and free of as much memory, which
- * nobody touches.
+ * in structs, and with single frames that rest with the core, the library for one thread, a buddy allocator with
+ * lists for each processor as Linux has it, a bitmap and a buddy allocator, each under a mutex, and the C library's own
+ * aligned_alloc and free of as much memory, which nobody touches.
  *
  *     pairs COUNT ROUNDS [zones]
  *
@@ -71,6 +71,8 @@ PAIRS(core_pairs, uint32_t, llfree_take(&me->core, order, &block) == LLFREE_OK,
       llfree_give(&me->core, block, order) == LLFREE_OK)
 PAIRS(unchecked_pairs, llfree_block, llfree_take_block(&me->core, order, &block) == LLFREE_OK,
       llfree_give_block(&me->core, &block) == LLFREE_OK)
+PAIRS(resting_pairs, llfree_block, llfree_take_frame(&me->core, &block) == LLFREE_OK,
+      llfree_give_frame(&me->core, &block) == LLFREE_OK)
 PAIRS(plain_pairs, uint32_t, llfree_plain_take(&plain, order, &block) == LLFREE_OK,
       llfree_plain_give(&plain, block, order) == LLFREE_OK)
 PAIRS(bitmap_pairs, uint32_t, (block = bitmap_take(order)) != NONE,
@@ -185,23 +187,25 @@ static void nothing(void)
 static const struct allocator {
     const char *name;
     int most_threads;
+    uint8_t most_order;
     void (*open)(void);
     void (*run)(struct worker *);
     void (*close)(void);
 } allocators[] = {
-    { "llfree", MOST_THREADS, open_cores, core_pairs, close_cores },
-    { "unchecked", MOST_THREADS, open_unchecked, unchecked_pairs, close_cores },
-    { "plain", 1, open_plain, plain_pairs, close_plain },
-    { "bitmap", MOST_THREADS, nothing, bitmap_pairs, nothing },
-    { "lists", MOST_THREADS, open_lists, lists_pairs, close_lists },
-    { "buddy", MOST_THREADS, open_buddy, buddy_pairs, close_buddy },
-    { "malloc", MOST_THREADS, nothing, malloc_pairs, nothing },
+    { "llfree", MOST_THREADS, MOST_ORDER, open_cores, core_pairs, close_cores },
+    { "unchecked", MOST_THREADS, MOST_ORDER, open_unchecked, unchecked_pairs, close_cores },
+    { "resting", MOST_THREADS, 0, open_unchecked, resting_pairs, close_cores },
+    { "plain", 1, MOST_ORDER, open_plain, plain_pairs, close_plain },
+    { "bitmap", MOST_THREADS, MOST_ORDER, nothing, bitmap_pairs, nothing },
+    { "lists", MOST_THREADS, MOST_ORDER, open_lists, lists_pairs, close_lists },
+    { "buddy", MOST_THREADS, MOST_ORDER, open_buddy, buddy_pairs, close_buddy },
+    { "malloc", MOST_THREADS, MOST_ORDER, nothing, malloc_pairs, nothing },
 };
 
 static const struct allocator in_zones[] = {
-    { "1", MOST_THREADS, open_1_zone, core_pairs, close_cores },
-    { "4", MOST_THREADS, open_4_zones, core_pairs, close_cores },
-    { "64", MOST_THREADS, open_64_zones, core_pairs, close_cores },
+    { "1", MOST_THREADS, MOST_ORDER, open_1_zone, core_pairs, close_cores },
+    { "4", MOST_THREADS, MOST_ORDER, open_4_zones, core_pairs, close_cores },
+    { "64", MOST_THREADS, MOST_ORDER, open_64_zones, core_pairs, close_cores },
 };
 
 static void *work(void *worker)
@@ -257,7 +261,7 @@ int main(int words, char **word)
             for (size_t i = 0; i < sizeof orders; i++) {
                 order = orders[i];
                 for (size_t j = 0; j < count_of; j++)
-                    if (threads <= measured[j].most_threads)
+                    if (threads <= measured[j].most_threads && order <= measured[j].most_order)
                         measure(&measured[j]);
             }
     return 0;

@@ -226,7 +226,7 @@ static void no_calls(void)
 {
     llfree_core cores[CORES] = { LLFREE_CLOSED };
     llfree_plain memory = LLFREE_CLOSED;
-    llfree_block block = LLFREE_EMPTY, upper = LLFREE_EMPTY;
+    llfree_block block = LLFREE_EMPTY, upper = LLFREE_EMPTY, rested[200] = { LLFREE_EMPTY };
     uint32_t frame = 0;
 
     refuse(0, false);
@@ -242,6 +242,12 @@ static void no_calls(void)
         CHECK(llfree_split_block(&cores[2], &block, &upper) == LLFREE_OK);
         CHECK(llfree_give_block(&cores[0], &block) == LLFREE_OK);
         CHECK(llfree_give_block(&cores[0], &upper) == LLFREE_OK);
+        for (int i = 0; i < 200; i++)
+            CHECK(llfree_take_frame(&cores[i % 2], &rested[i]) == LLFREE_OK);
+        for (int i = 0; i < 200; i++)
+            CHECK(llfree_give_frame(&cores[2], &rested[i]) == LLFREE_OK);
+        CHECK(llfree_resting(&cores[2]) > 0);
+        llfree_drain(&cores[2]);
         CHECK(llfree_plain_take(&memory, order, &frame) == LLFREE_OK);
         CHECK(llfree_plain_split(&memory, frame, order) == LLFREE_OK);
         CHECK(llfree_plain_give(&memory, frame, order - 1) == LLFREE_OK);

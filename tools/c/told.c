@@ -75,6 +75,13 @@ static void others(void)
     *number_in(block.frame) = 0;
     CHECK(llfree_give_block_told(&cores[1], memory, &block) == LLFREE_OK);
     CHECK(llfree_give_block_told(&cores[1], memory, &block) == LLFREE_NOT_HELD);
+    CHECK(llfree_take_frame_told(&cores[0], memory, &block) == LLFREE_OK);
+    *number_in(block.frame) = 0;
+    CHECK(llfree_give_frame_told(&cores[1], memory, &block) == LLFREE_OK);
+    CHECK(llfree_give_frame_told(&cores[1], memory, &block) == LLFREE_NOT_HELD);
+    CHECK(llfree_take_frame_told(&cores[1], memory, &block) == LLFREE_OK);
+    *number_in(block.frame) = 0;
+    CHECK(llfree_give_frame_told(&cores[0], memory, &block) == LLFREE_OK);
     CHECK(llfree_give_told(&cores[0], memory, UINT32_MAX, 0) == LLFREE_NOT_HELD);
     CHECK(llfree_give_told(&cores[0], memory, 0, 255) == LLFREE_NOT_HELD);
     CHECK(llfree_give_told(&cores[0], memory, FRAMES - 1, 1) == LLFREE_NOT_HELD);

@@ -1,0 +1,381 @@
+/* The library for C with single frames that rest with cores: every status, which frame comes next, what goes back and
+ * when, what other cores see of it, closings, and frames that are taken here and given there. */
+#include "check.h"
+#include <pthread.h>
+#include <sched.h>
+#include <stdatomic.h>
+
+enum { MOST = 128, HALF = 64, FRAMES = 16 * 512, RING = 256, PAIRS = 2, MIXED = 40000 };
+#if defined __SANITIZE_THREAD__ || defined __SANITIZE_ADDRESS__
+enum { ROUNDS = 30000 };
+#else
+enum { ROUNDS = 500000 };
+#endif
+
+static bool is_empty(const llfree_block *block)
+{
+    return !block->live && block->frame == 0 && block->order == 0;
+}
+
+static void take(llfree_core *core, llfree_block *block)
+{
+    CHECK(llfree_take_frame(core, block) == LLFREE_OK && block->live && block->order == 0);
+}
+
+static void give(llfree_core *core, llfree_block *block)
+{
+    CHECK(llfree_give_frame(core, block) == LLFREE_OK && is_empty(block));
+}
+
+static void open_two(llfree_core *h, uint32_t frames)
+{
+    h[0] = h[1] = (llfree_core) LLFREE_CLOSED;
+    CHECK(llfree_open_unchecked(h, 2, frames, NULL, 0) == LLFREE_OK);
+    CHECK(llfree_resting(&h[0]) == 0 && llfree_resting(&h[1]) == 0);
+}
+
+static void close_two(llfree_core *h)
+{
+    llfree_close(&h[0]);
+    llfree_close(&h[1]);
+}
+
+/* Each status of each call. */
+static void statuses(void)
+{
+    llfree_core h[2] = { LLFREE_CLOSED, LLFREE_CLOSED };
+    llfree_block a = LLFREE_EMPTY, b = LLFREE_EMPTY;
+
+    CHECK(llfree_take_frame(&h[0], &a) == LLFREE_CLOSED_HANDLE && is_empty(&a));
+    CHECK(llfree_give_frame(&h[0], &a) == LLFREE_CLOSED_HANDLE && is_empty(&a));
+    llfree_drain(&h[0]);
+    CHECK(!h[0].live && llfree_resting(&h[0]) == 0);
+    open_two(h, 512);
+    CHECK(llfree_give_frame(&h[0], &a) == LLFREE_NOT_HELD && is_empty(&a));
+    take(&h[0], &a);
+    uint32_t f = a.frame;
+    CHECK(llfree_take_frame(&h[0], &a) == LLFREE_OPEN_HANDLE && a.live && a.frame == f && a.order == 0);
+    CHECK(llfree_take_block(&h[1], 3, &b) == LLFREE_OK);
+    f = b.frame;
+    CHECK(llfree_give_frame(&h[0], &b) == LLFREE_BAD_ORDER && b.live && b.frame == f && b.order == 3);
+    CHECK(llfree_resting(&h[0]) == 0);
+    CHECK(llfree_give_block(&h[0], &b) == LLFREE_OK);
+    give(&h[1], &a);
+    CHECK(llfree_give_frame(&h[1], &a) == LLFREE_NOT_HELD && is_empty(&a));
+    CHECK(llfree_resting(&h[1]) == 1 && llfree_free_frames(&h[0]) == 511);
+    llfree_close(&h[1]);
+    CHECK(llfree_free_frames(&h[0]) == 512);
+    take(&h[0], &a);
+    llfree_close(&h[0]);
+    CHECK(llfree_give_frame(&h[0], &a) == LLFREE_CLOSED_HANDLE && a.live);
+    CHECK(llfree_take_frame(&h[0], &b) == LLFREE_CLOSED_HANDLE && is_empty(&b));
+}
+
+/* What came last is taken first, whichever core took it before. */
+static void last_first(void)
+{
+    llfree_core h[2];
+    llfree_block blocks[3] = { LLFREE_EMPTY };
+    uint32_t frames[3];
+
+    open_two(h, FRAMES);
+    for (int i = 0; i < 3; i++) {
+        take(&h[i == 1], &blocks[i]);
+        frames[i] = blocks[i].frame;
+    }
+    for (uint32_t i = 0; i < 3; i++) {
+        give(&h[0], &blocks[i]);
+        CHECK(llfree_resting(&h[0]) == i + 1 && llfree_free_frames(&h[1]) == FRAMES - 3);
+    }
+    for (int i = 3; i-- > 0;) {
+        take(&h[0], &blocks[i]);
+        CHECK(blocks[i].frame == frames[i] && llfree_resting(&h[0]) == (uint32_t)i);
+    }
+    /* a larger block, and the calls by structs, leave what rests alone */
+    give(&h[0], &blocks[0]);
+    CHECK(llfree_take_block(&h[0], 0, &blocks[0]) == LLFREE_OK && blocks[0].frame != frames[0]);
+    CHECK(llfree_give_block(&h[0], &blocks[0]) == LLFREE_OK && llfree_resting(&h[0]) == 1);
+    for (int i = 1; i < 3; i++)
+        give(&h[1], &blocks[i]);
+    llfree_drain(&h[1]);
+    CHECK(llfree_resting(&h[1]) == 0 && llfree_resting(&h[0]) == 1 && llfree_free_frames(&h[0]) == FRAMES - 1);
+    llfree_drain(&h[0]);
+    llfree_drain(&h[0]);
+    CHECK(llfree_resting(&h[0]) == 0 && llfree_free_frames(&h[0]) == FRAMES);
+    close_two(h);
+}
+
+/* From one give on where 128 rest, the 64 that came first go back. */
+static void borders(void)
+{
+    static llfree_block blocks[3 * MOST];
+    static uint32_t frames[3 * MOST];
+    llfree_core h[2];
+
+    for (uint32_t count = MOST - 1; count <= 2 * MOST + 2; count++) {
+        uint32_t resting = 0;
+        open_two(h, FRAMES);
+        for (uint32_t i = 0; i < count; i++) {
+            take(&h[0], &blocks[i]);
+            frames[i] = blocks[i].frame;
+        }
+        for (uint32_t i = 0; i < count; i++) {
+            resting = (resting == MOST ? HALF : resting) + 1;
+            give(&h[0], &blocks[i]);
+            CHECK(llfree_resting(&h[0]) == resting && resting <= MOST);
+            CHECK(llfree_free_frames(&h[1]) == FRAMES - count + 1 + i - resting);
+        }
+        for (uint32_t i = 0; i < resting; i++) {
+            take(&h[0], &blocks[i]);
+            CHECK(blocks[i].frame == frames[count - 1 - i]);
+        }
+        CHECK(llfree_resting(&h[0]) == 0);
+        for (uint32_t i = 0; i < resting; i++)
+            give(&h[1], &blocks[i]);
+        llfree_drain(&h[1]);
+        CHECK(llfree_free_frames(&h[0]) == FRAMES);
+        close_two(h);
+    }
+}
+
+/* A take is refused only where nothing rests; what rests is hidden from larger takes and from others till a drain. */
+static void refusals(void)
+{
+    static llfree_block blocks[512 + 1];
+    static unsigned char seen[512];
+    llfree_core h[2];
+    llfree_block huge = LLFREE_EMPTY;
+
+    open_two(h, 512);
+    for (uint32_t i = 0; i < 512; i++) {
+        take(&h[0], &blocks[i]);
+        CHECK(blocks[i].frame < 512 && !seen[blocks[i].frame]++);
+    }
+    CHECK(llfree_take_frame(&h[0], &blocks[512]) == LLFREE_NO_BLOCK && is_empty(&blocks[512]));
+    give(&h[0], &blocks[0]);
+    CHECK(llfree_take_frame(&h[1], &blocks[512]) == LLFREE_NO_BLOCK);
+    CHECK(llfree_take_block(&h[0], 0, &blocks[512]) == LLFREE_NO_BLOCK);
+    take(&h[0], &blocks[0]);
+    for (uint32_t i = 0; i < 512; i++)
+        give(&h[0], &blocks[i]);
+    CHECK(llfree_resting(&h[0]) > HALF && llfree_take_block(&h[0], LARGEST, &huge) == LLFREE_NO_BLOCK);
+    llfree_drain(&h[0]);
+    CHECK(llfree_take_block(&h[1], LARGEST, &huge) == LLFREE_OK && huge.frame == 0);
+    CHECK(llfree_take_frame(&h[0], &blocks[0]) == LLFREE_NO_BLOCK);
+    close_two(h);
+}
+
+/* A closing gives all back that rests, and one that is refused nothing. */
+static void closings(void)
+{
+    enum { WORDS = 9 * 8, SMALL = 8 * 512 };
+    static uint64_t words[WORDS];
+    llfree_core h[2];
+    llfree_block blocks[HALF] = { LLFREE_EMPTY }, one = LLFREE_EMPTY;
+
+    open_two(h, SMALL);
+    for (int i = 0; i < HALF; i++)
+        take(&h[0], &blocks[i]);
+    for (int i = 0; i < HALF; i++)
+        give(&h[1], &blocks[i]);
+    CHECK(llfree_free_frames(&h[0]) == SMALL - HALF);
+    llfree_close(&h[1]);
+    CHECK(llfree_free_frames(&h[0]) == SMALL);
+    close_two(h);
+
+    open_two(h, SMALL);
+    for (int i = 0; i < HALF; i++)
+        take(&h[0], &blocks[i]);
+    take(&h[0], &one);
+    for (int i = 0; i < HALF; i++)
+        give(&h[0], &blocks[i]);
+    CHECK(llfree_close_image(&h[0], words, WORDS - 1) == LLFREE_NO_ROOM && llfree_resting(&h[0]) == HALF);
+    CHECK(llfree_close_image(&h[0], words, WORDS) == LLFREE_CORES_OPEN && llfree_resting(&h[0]) == HALF);
+    llfree_close(&h[1]);
+    CHECK(llfree_close_image(&h[0], words, WORDS) == LLFREE_OK && !h[0].live);
+    for (uint32_t c = 0; c < 8; c++) {
+        bool has_it = one.frame / 512 == c;
+        CHECK(words[9 * c] == 512u - has_it);
+        for (uint32_t w = 0; w < 8; w++)
+            CHECK(words[9 * c + 1 + w] == (has_it && one.frame % 512 / 64 == w ? 1ull << one.frame % 64 : 0));
+    }
+}
+
+/* The same calls beside those by numbers, and in zones with a hole between them. */
+static void zones(void)
+{
+    static const llfree_range two[2] = { { 1024, 700 }, { 4096, 600 } };
+    enum { ALL = 700 + 600 };
+    static llfree_block blocks[ALL + 1];
+    static unsigned char seen[4096 + 600];
+    llfree_core h[2] = { LLFREE_CLOSED, LLFREE_CLOSED };
+    uint32_t f = 0;
+
+    CHECK(llfree_open_zones(h, 2, two, 2, NULL, 0) == LLFREE_OK);
+    memset(seen, 0, sizeof seen);
+    for (uint32_t i = 0; i < ALL; i++) {
+        take(&h[i / 100 % 2], &blocks[i]);
+        uint32_t x = blocks[i].frame;
+        CHECK((1024 <= x && x < 1724) || (4096 <= x && x < 4696));
+        CHECK(!seen[x]++ && llfree_give(&h[0], x, 0) == LLFREE_NOT_HELD);
+    }
+    CHECK(llfree_take_frame(&h[0], &blocks[ALL]) == LLFREE_NO_BLOCK);
+    for (uint32_t i = 0; i < ALL; i++)
+        give(&h[i / 7 % 2], &blocks[i]);
+    CHECK(llfree_take(&h[0], 0, &f) == LLFREE_OK && llfree_give(&h[1], f, 0) == LLFREE_OK);
+    llfree_drain(&h[1]);
+    llfree_drain(&h[0]);
+    CHECK(llfree_free_frames(&h[0]) == ALL && llfree_free_huge(&h[0]) == 2);
+    close_two(h);
+}
+
+static _Atomic unsigned char owner[FRAMES];
+
+static void mark(const llfree_block *block, unsigned char from)
+{
+    CHECK(block->live);
+    for (uint32_t f = block->frame; f < block->frame + (1u << block->order); f++)
+        CHECK(f < FRAMES && atomic_exchange(&owner[f], !from) == from);
+}
+
+/* A ring through which one thread hands blocks to another. */
+struct ring {
+    _Alignas(128) _Atomic uint32_t put;
+    _Alignas(128) _Atomic uint32_t got;
+    llfree_block blocks[RING];
+};
+
+static struct ring rings[2 * PAIRS];
+static llfree_core cores[2 * PAIRS];
+
+static bool puts_block(struct ring *ring, llfree_block *block)
+{
+    uint32_t at = atomic_load(&ring->put);
+
+    if (at - atomic_load(&ring->got) == RING)
+        return false;
+    ring->blocks[at % RING] = *block;
+    *block = (llfree_block) LLFREE_EMPTY;
+    atomic_store(&ring->put, at + 1);
+    return true;
+}
+
+static bool gets_block(struct ring *ring, llfree_block *block)
+{
+    uint32_t at = atomic_load(&ring->got);
+
+    if (at == atomic_load(&ring->put))
+        return false;
+    *block = ring->blocks[at % RING];
+    atomic_store(&ring->got, at + 1);
+    return true;
+}
+
+/* Hands so many frames to its neighbour, who gives them, and gives as many of the neighbour's; now and then it gives one
+ * of its own, and takes a larger block. */
+static void *work(void *handle)
+{
+    llfree_core *me = handle;
+    size_t number = (size_t)(me - cores);
+    struct ring *out = &rings[number], *in = &rings[number ^ 1];
+    uint64_t x = 88172645463325252ull + number * 7919;
+    llfree_block mine = LLFREE_EMPTY, theirs = LLFREE_EMPTY, large = LLFREE_EMPTY;
+
+    for (uint32_t put = 0, got = 0; put < ROUNDS || got < ROUNDS;) {
+        bool waits = true;
+        next_random(&x);
+        if (put < ROUNDS && !mine.live) {
+            enum llfree_status status = llfree_take_frame(me, &mine);
+            CHECK(status == LLFREE_OK || status == LLFREE_NO_BLOCK || status == LLFREE_CONTENDED);
+            if (status == LLFREE_OK)
+                mark(&mine, 0);
+        }
+        if (mine.live && x % 8 == 0) {
+            mark(&mine, 1);
+            give(me, &mine);
+        } else if (mine.live && puts_block(out, &mine)) {
+            put++;
+            waits = false;
+        }
+        if (got < ROUNDS && gets_block(in, &theirs)) {
+            mark(&theirs, 1);
+            give(me, &theirs);
+            got++;
+            waits = false;
+        }
+        if (x % 64 == 1 && llfree_take_block(me, (uint8_t)(x >> 20) % 4, &large) == LLFREE_OK) {
+            mark(&large, 0);
+            mark(&large, 1);
+            CHECK(llfree_give_block(me, &large) == LLFREE_OK);
+        }
+        if (x % 4096 == 2)
+            llfree_drain(me);
+        CHECK(llfree_resting(me) <= MOST);
+        if (waits)
+            sched_yield();
+    }
+    CHECK(!mine.live);
+    return NULL;
+}
+
+static void threads(void)
+{
+    pthread_t ids[2 * PAIRS];
+
+    CHECK(llfree_open_unchecked(cores, 2 * PAIRS, FRAMES, NULL, 0) == LLFREE_OK);
+    for (int i = 0; i < 2 * PAIRS; i++)
+        CHECK(pthread_create(&ids[i], NULL, work, &cores[i]) == 0);
+    for (int i = 0; i < 2 * PAIRS; i++)
+        CHECK(pthread_join(ids[i], NULL) == 0);
+    uint32_t resting = 0;
+    for (int i = 0; i < 2 * PAIRS; i++)
+        resting += llfree_resting(&cores[i]);
+    CHECK(resting > 0 && llfree_free_frames(&cores[0]) == FRAMES - resting);
+    for (int i = 1; i < 2 * PAIRS; i++)
+        llfree_close(&cores[i]);
+    llfree_drain(&cores[0]);
+    CHECK(llfree_free_frames(&cores[0]) == FRAMES && llfree_free_huge(&cores[0]) == FRAMES / 512);
+    llfree_close(&cores[0]);
+}
+
+/* Many takes and gives of one thread beside a list of what is held. */
+static void mixed(void)
+{
+    static llfree_block held[600];
+    static unsigned char is_held[FRAMES];
+    uint64_t x = 1234567;
+    uint32_t n = 0;
+    llfree_core h[2];
+
+    open_two(h, FRAMES);
+    for (uint32_t round = 0; round < MIXED; round++) {
+        next_random(&x);
+        llfree_core *core = &h[(x >> 50) % 2];
+        if (n < 600 && (x % 600 >= n || (x >> 40) % 2)) {
+            take(core, &held[n]);
+            CHECK(!is_held[held[n++].frame]++);
+        } else if (n > 0) {
+            uint32_t i = (uint32_t)(x >> 20) % n;
+            CHECK(is_held[held[i].frame]--);
+            give(core, &held[i]);
+            held[i] = held[--n];
+            held[n] = (llfree_block) LLFREE_EMPTY;
+        }
+        CHECK(llfree_free_frames(core) + n + llfree_resting(&h[0]) + llfree_resting(&h[1]) == FRAMES);
+    }
+    close_two(h);
+}
+
+int main(void)
+{
+    statuses();
+    last_first();
+    borders();
+    refusals();
+    closings();
+    zones();
+    mixed();
+    threads();
+    puts("all checks passed");
+    return 0;
+}
