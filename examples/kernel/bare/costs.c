@@ -17,22 +17,22 @@ static uint32_t status;
 
 static void call_open(void)
 {
-    status = llfree_open(&core, 1, frames, ranges, range_count);
+    status = llfree_open(&core, 1, (uint32_t)one_run.frames, one_run.ranges, one_run.range_count);
 }
 
 static void call_open_unchecked(void)
 {
-    status = llfree_open_unchecked(&core, 1, frames, ranges, range_count);
+    status = llfree_open_unchecked(&core, 1, (uint32_t)one_run.frames, one_run.ranges, one_run.range_count);
 }
 
 static void call_reopen(void)
 {
-    status = llfree_reopen(&core, 1, frames, image, llfree_image_words(frames), held, count);
+    status = llfree_reopen(&core, 1, (uint32_t)one_run.frames, image, one_run.numbers, held, count);
 }
 
 static void call_close_image(void)
 {
-    status = llfree_close_image(&core, image, llfree_image_words(frames));
+    status = llfree_close_image(&core, image, one_run.numbers);
 }
 
 static void call_close(void)

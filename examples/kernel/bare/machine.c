@@ -24,6 +24,7 @@ enum { APIC_NUMBER = 0x20, APIC_EOI = 0xb0, APIC_SPURIOUS = 0xf0, APIC_COMMAND =
 
 static uint64_t gates[VECTORS][2];
 static uint64_t interrupts[CPUS];
+static void (*volatile handler)(unsigned number);
 static void (*volatile work_of_others)(unsigned number);
 static bool is_printing;
 
@@ -200,6 +201,7 @@ void interrupt(const struct interrupted *found)
 {
     if (found->vector == TIMER) {
         interrupts[cpu_number()]++;
+        handler(cpu_number());
         *apic(APIC_EOI) = 0;
     } else if (found->vector != SPURIOUS) {
         is_printing = false;
@@ -271,8 +273,9 @@ void allow_sse(void)
     __asm__ volatile("mov %%cr4, %0; or $0x600, %0; mov %0, %%cr4" : "=r"(flags));
 }
 
-void start_timer(uint32_t nanoseconds)
+void start_timer(uint32_t nanoseconds, void (*handle)(unsigned number))
 {
+    handler = handle;
     *apic(APIC_DIVIDER) = 0xb; /* by 1: QEMU's clock has a nanosecond */
     *apic(APIC_TIMER) = PERIODIC | TIMER;
     *apic(APIC_COUNT) = nanoseconds;

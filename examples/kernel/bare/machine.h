@@ -2,7 +2,7 @@
 #ifndef MACHINE_H
 #define MACHINE_H
 
-#define CPUS 64
+#define CPUS 32 /* each has two cores, of 64 */
 #define STACK 16384
 #define GIBIBYTES 8 /* as much as an allocator has frames for */
 #define VECTORS 64
@@ -39,7 +39,7 @@ unsigned count_of_cpus(void);
 unsigned cpu_number(void);
 void start_cpus(void (*work)(unsigned number)); /* on all but this one */
 void allow_sse(void);
-void start_timer(uint32_t nanoseconds); /* of this CPU, which counts its interrupts */
+void start_timer(uint32_t nanoseconds, void (*handle)(unsigned number)); /* of this CPU, which counts its interrupts */
 uint64_t interrupts_of(unsigned number);
 
 size_t deepest_stack(unsigned number); /* the most bytes that this CPU ever had on its stack */

@@ -6,11 +6,16 @@
 
 enum { RANGES = 64 };
 
-extern uint32_t frames;
-extern llfree_range ranges[RANGES];
-extern size_t range_count;
-extern uint64_t reserved; /* frames of the ranges */
-extern uint64_t *image;   /* with as many numbers as an image has */
+/* The frames of the machine as zones. Those that lie in none cost nothing; those of the ranges are never given out. */
+struct memory {
+    llfree_range zones[RANGES], ranges[RANGES];
+    size_t zone_count, range_count, numbers; /* of an image */
+    uint64_t frames, reserved;               /* of the zones, and of the ranges */
+};
+
+extern struct memory one_run; /* one zone, with a range for each hole */
+extern struct memory apart;   /* a zone for each piece of memory */
+extern uint64_t *image;       /* with as many numbers as an image of either has */
 
 /* From the memory map; the heap lies behind the kernel, and the image behind the heap. */
 void read_memory(void);
