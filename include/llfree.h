@@ -29,8 +29,8 @@
  *     exception) and calls nothing of this header. Unchecked.
  *
  * A take, a give, a split or a drain allocates nothing (tested, not proved). It needs less than 1 KiB of stack, an
- * opening or a closing with an image less than 6 KiB, an llfree_give_frame that finds 128 frames at rest less than
- * 8 KiB (measured, not proved). The code is for x86-64 processors with popcnt, in kernels too.
+ * opening or a closing with an image less than 6 KiB (measured, not proved). The code is for x86-64 processors
+ * with popcnt, in kernels too.
  */
 #ifndef LLFREE_H
 #define LLFREE_H

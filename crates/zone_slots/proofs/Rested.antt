@@ -27,7 +27,7 @@ use Rattle.std.specs.Arc.{arc_value}
 use Rattle.zone_slots.specs.Calls.{zones_of, SharesOne}
 use Rattle.zone_slots.specs.FrameCalls.{resting_in, LendsOneLess, LendsAsMany, TakesSingle, RefusesSingle, StopsWithout}
 use Rattle.zone_slots.specs.Layouts.{end_of_children}
-use Rattle.zone_slots.specs.Resting.{IsSingleIn, AreSingles, stretch_of, lies_in, one_in, count_in, lent_besides, GivesBack, HasTakenSingle}
+use Rattle.zone_slots.specs.Resting.{IsSingleIn, AreSingles, stretch_of, one_in, count_in, lent_besides, GivesBack, HasTakenSingle}
 use Rattle.zone_slots.specs.Rights.{IsRightFrom}
 use Rattle.zone_slots.specs.Uses.{TakesByNumber, GivesByNumber, IsRefusedBlock}
 use Rattle.zone_slots.specs.declared.core_state.CoreState.{CoreState}

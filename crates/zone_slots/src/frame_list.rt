@@ -60,12 +60,21 @@ impl FrameList {
         self.list.push_reserved(frame);
     }
 
-    /// The ones that came first stand last.
+    /// Of a full list the half that came first stands last.
     pub(crate) fn turn(&mut self)
-        requires { 64 ≤ length self.old.list.items }
+        requires { length self.old.list.items ≡ 128 }
         ensures turned { self.new.list.items ≡ drop 64 self.old.list.items ++ take 64 self.old.list.items }
         ensures len { length self.new.list.items ≡ length self.old.list.items }
     {
-        self.list.as_mut_slice().rotate_left(HALF);
+        change_halves(self.list.as_mut_slice());
     }
+}
+
+// A rotation would have one half wait on the stack, in 7 KiB.
+fn change_halves(frames: &mut [SingleFrame])
+    requires { length frames.old ≡ 128 }
+    ensures { frames.new ≡ drop 64 frames.old ++ take 64 frames.old }
+{
+    let (older, newer) = frames.split_at_mut(HALF);
+    older.swap_with_slice(newer);
 }

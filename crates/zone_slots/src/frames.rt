@@ -1,6 +1,6 @@
 //! Takes and gives of single frames, of which some rest with a core.
 
-ghost use Rattle.std.specs.Prelude.{◌≡◌, ◌<◌, ◌≤◌, ◌∷◌, ◌++◌, [], drop, length, IfOk, IfErr};
+ghost use Rattle.std.specs.Prelude.{◌≡◌, ◌<◌, ◌∷◌, ◌++◌, [], drop, length, IfOk, IfErr};
 ghost use Rattle.zone_slots.specs.Calls.{SharesOne, CountsNone, RemembersLast};
 ghost use Rattle.zone_slots.specs.Resting.{most_resting, half_resting};
 ghost use Rattle.zone_slots.specs.FrameCalls.{resting_in, IsSingleFor, LendsOneLess, LendsAsMany};

@@ -1,4 +1,4 @@
-use Rattle.std.proofs.Common.{◌≡◌, ◌∙◌, length, length-drop, ◌-ℤ◌, pos, arith, ap, sym, subst}
+use Rattle.std.proofs.Common.{◌∙◌, length, length-drop, ◌-ℤ◌, pos, arith, ap, sym, subst}
 use Rattle.core_frames.specs.Cores.{lent_by}
 use Rattle.frame_zones.specs.Zones.{core_at}
 use Rattle.zone_slots.specs.Calls.{zones_of}
