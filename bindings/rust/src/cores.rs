@@ -1,5 +1,5 @@
 //! A memory's cores, and the blocks that they take and give.
-use crate::form::{Checked, Form};
+use crate::form::{Checked, Form, Unchecked};
 use crate::sys::{self, Handle};
 use crate::{Claim, Range, Refused, FRAME_BYTES};
 use core::fmt;
@@ -147,6 +147,39 @@ impl<F: Form> Core<F> {
     pub fn free_huge(&mut self) -> u32 {
         // SAFETY: a handle behind `&mut`.
         unsafe { sys::llfree_free_huge(&mut self.handle) }
+    }
+}
+
+/// Single frames that are soon taken again rest with the core that gave them, at most 128. A frame that rests is not
+/// free: no other core reaches it until [`Core::drain`], or until its core is dropped or closed.
+impl Core<Unchecked> {
+    /// Takes a single frame: the one that came to rest with this core last; if none rests, as [`Core::take`] of order
+    /// 0, with its refusals.
+    pub fn take_frame(&mut self) -> Result<Block<Unchecked>, Refused> {
+        match Unchecked::take_frame(&mut self.handle) {
+            Ok(right) => Ok(Block { right, memory: self.memory }),
+            Err(status) => refused(status),
+        }
+    }
+
+    /// Gives a single frame, which rests with this core, whichever core took it. If 128 rest there already, 64 of them
+    /// go back first. What is refused comes back: [`Refused::BadOrder`] for a larger block.
+    pub fn give_frame(&mut self, block: Block<Unchecked>) -> Result<(), (Refused, Block<Unchecked>)> {
+        let Block { right, memory } = self.own(block)?;
+        Unchecked::give_frame(&mut self.handle, right)
+            .map_err(|(status, right)| comes_back(status, Block { right, memory }))
+    }
+
+    /// Gives back all frames that rest with this core.
+    pub fn drain(&mut self) {
+        // SAFETY: a handle behind `&mut`.
+        unsafe { sys::llfree_drain(&mut self.handle) }
+    }
+
+    /// How many frames rest with this core, at most 128. They count as held in [`Core::free_frames`].
+    pub fn resting(&mut self) -> u32 {
+        // SAFETY: a handle behind `&mut`.
+        unsafe { sys::llfree_resting(&mut self.handle) }
     }
 }
 

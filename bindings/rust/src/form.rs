@@ -85,6 +85,26 @@ impl Form for Checked {
 
 const EMPTY: Struct = Struct { live: false, frame: 0, order: 0 };
 
+/// What [`Form::take`] and [`Form::give`] are for blocks, for single frames that rest with their core.
+impl Unchecked {
+    pub(crate) fn take_frame(handle: &mut Handle) -> Result<Struct, u32> {
+        let mut right = EMPTY;
+        // SAFETY: as above; the struct is an empty local.
+        match unsafe { sys::llfree_take_frame(handle, &mut right) } {
+            0 => Ok(right),
+            status => Err(status),
+        }
+    }
+
+    pub(crate) fn give_frame(handle: &mut Handle, mut right: Struct) -> Result<(), (u32, Struct)> {
+        // SAFETY: as above; the struct was taken from this memory, which the caller has looked at.
+        match unsafe { sys::llfree_give_frame(handle, &mut right) } {
+            0 => Ok(()),
+            status => Err((status, right)),
+        }
+    }
+}
+
 // A struct is moved, never copied, and its bytes are written by the library alone.
 impl Form for Unchecked {
     type Right = Struct;

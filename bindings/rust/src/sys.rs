@@ -50,6 +50,10 @@ extern "C" {
     pub fn llfree_take_block(handle: *mut Handle, order: u8, block: *mut Struct) -> u32;
     pub fn llfree_give_block(handle: *mut Handle, block: *mut Struct) -> u32;
     pub fn llfree_split_block(handle: *mut Handle, block: *mut Struct, upper: *mut Struct) -> u32;
+    pub fn llfree_take_frame(handle: *mut Handle, block: *mut Struct) -> u32;
+    pub fn llfree_give_frame(handle: *mut Handle, block: *mut Struct) -> u32;
+    pub fn llfree_drain(handle: *mut Handle);
+    pub fn llfree_resting(handle: *mut Handle) -> u32;
 
     pub fn llfree_frames(handle: *mut Handle) -> u32;
     pub fn llfree_free_frames(handle: *mut Handle) -> u32;

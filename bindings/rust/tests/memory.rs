@@ -1,5 +1,5 @@
-//! The binding over the library: threads, pools, refusals, zones, images. What is out is also kept by hand, a byte a
-//! frame, so that a frame in two hands is seen whatever the library answers.
+//! The binding over the library: threads, pools, refusals, frames that rest, zones, images. What is out is also kept by
+//! hand, a byte a frame, so that a frame in two hands is seen whatever the library answers.
 use llfree::{image_words, Block, Checked, Claim, Core, Form, Frames, Pool, Processor, Range, Refused, Unchecked};
 use std::sync::atomic::{AtomicU8, Ordering};
 use std::sync::{mpsc, Barrier};
@@ -179,6 +179,124 @@ fn refuses<F: Form>() {
 fn what_is_refused() {
     refuses::<Checked>();
     refuses::<Unchecked>();
+}
+
+fn rest(core: &mut Core<Unchecked>, block: Block<Unchecked>) {
+    core.give_frame(block).map_err(|(refused, _)| refused).expect("a frame rests");
+}
+
+/// What came to rest last is taken first; from one give on where 128 rest, 64 go back.
+#[test]
+fn frames_rest_with_a_core() {
+    let [mut a, mut b]: [Core<Unchecked>; 2] = Core::open(4_096, &[]).expect("a memory");
+    let blocks: Vec<_> = (0..129).map(|_| a.take_frame().expect("a frame")).collect();
+    let numbers: Vec<_> = blocks.iter().map(Block::frame).collect();
+    assert_eq!((numbers.iter().collect::<std::collections::HashSet<_>>().len(), a.resting()), (129, 0));
+    for (given, block) in (1..).zip(blocks) {
+        assert_eq!((block.order(), block.frames()), (0, 1));
+        rest(&mut a, block);
+        let resting = if given == 129 { 65 } else { given };
+        assert_eq!((a.resting(), b.resting(), b.free_frames()), (resting, 0, 4_096 - 129 + given - resting));
+    }
+    let mut again: Vec<_> = (0..65).map(|_| a.take_frame().expect("it rested")).collect();
+    assert!(again.iter().map(Block::frame).eq(numbers[64..].iter().rev().copied()), "the last one comes first");
+    assert_eq!((a.resting(), a.free_frames()), (0, 4_096 - 65));
+
+    rest(&mut a, again.remove(0));
+    let other = a.take(0).expect("the calls for blocks leave alone what rests");
+    assert_eq!(a.resting(), 1);
+    again.push(other);
+    again.into_iter().for_each(|block| rest(&mut b, block));
+    b.drain();
+    assert_eq!((a.resting(), b.resting(), b.free_frames()), (1, 0, 4_095));
+    a.drain();
+    assert_eq!((a.resting(), a.free_frames(), a.free_huge()), (0, 4_096, 8));
+}
+
+#[test]
+fn what_is_refused_of_frames_that_rest() {
+    let [mut a, mut b]: [Core<Unchecked>; 2] = Core::open(512, &[]).expect("a memory");
+    let [mut other]: [Core<Unchecked>; 1] = Core::open(512, &[]).expect("another memory");
+    let (refused, eight) = { let block = a.take(3).expect("eight"); a.give_frame(block).expect_err("too large") };
+    assert_eq!((refused, eight.order(), a.resting()), (Refused::BadOrder, 3, 0));
+    let (refused, eight) = other.give_frame(eight).expect_err("of another memory");
+    assert_eq!((refused, other.resting(), other.free_frames()), (Refused::OtherMemory, 0, 512));
+    let mut blocks: Vec<_> = (0..504).map(|_| a.take_frame().expect("a frame")).collect();
+    assert_eq!(a.take_frame().unwrap_err(), Refused::NoBlock);
+    rest(&mut b, blocks.remove(0));
+    assert_eq!(a.take_frame().unwrap_err(), Refused::NoBlock, "what rests is its core's alone");
+    blocks.push(b.take_frame().expect("it rested"));
+    a.give(eight).expect("given");
+    blocks.into_iter().for_each(|block| b.give(block).expect("a frame is given as a block"));
+    assert_eq!((a.free_frames(), b.resting()), (512, 0));
+}
+
+/// A core that is dropped gives back what rests with it, and so does one that leaves an image; a refused one keeps it.
+#[test]
+fn a_closing_gives_back_what_rests() {
+    let [mut a, mut b]: [Core<Unchecked>; 2] = Core::open(512, &[]).expect("a memory");
+    let blocks: Vec<_> = (0..100).map(|_| a.take_frame().expect("a frame")).collect();
+    for (at, block) in blocks.into_iter().enumerate() {
+        rest(if at < 30 { &mut a } else { &mut b }, block);
+    }
+    let mut words = [0; 9];
+    let (refused, mut a) = a.close_image(&mut words).expect_err("another core is open");
+    assert_eq!((refused, a.resting(), a.free_frames()), (Refused::CoresOpen, 30, 412));
+    drop(b);
+    assert_eq!((a.resting(), a.free_frames()), (30, 482));
+    a.close_image(&mut words).expect("an image");
+    assert_eq!(words, [512, 0, 0, 0, 0, 0, 0, 0, 0]);
+}
+
+/// Four threads with a core each: every frame that one takes rests with the next one's core.
+#[test]
+fn frames_rest_where_they_were_not_taken() {
+    const ROUNDS: u32 = 50_000;
+    let cores: [Core<Unchecked>; 4] = Core::open(FRAMES, &[]).expect("a memory");
+    let owners = Owners::new();
+    let (mut ends, inboxes): (Vec<_>, Vec<_>) = (0..4).map(|_| mpsc::sync_channel::<Block<Unchecked>>(256)).unzip();
+    ends.rotate_left(1);
+    let work = |mut core: Core<Unchecked>, next: mpsc::SyncSender<_>, inbox: mpsc::Receiver<_>| {
+        let (mut mine, mut sent, mut got) = (None, 0, 0);
+        while sent < ROUNDS || got < ROUNDS {
+            if mine.is_none() && sent < ROUNDS {
+                mine = core.take_frame().ok();
+                mine.iter().for_each(|block| owners.turn(block, 1));
+            }
+            match mine.take().map(|block| next.try_send(block)) {
+                Some(Ok(())) => sent += 1,
+                Some(Err(mpsc::TrySendError::Full(block))) => {
+                    mine = Some(block);
+                    thread::yield_now();
+                }
+                Some(Err(mpsc::TrySendError::Disconnected(_))) => panic!("the next thread has ended"),
+                None => thread::yield_now(),
+            }
+            if sent % 8_192 == 0 {
+                core.drain();
+                assert_eq!(core.resting(), 0);
+            }
+            let waits = sent == ROUNDS && got < ROUNDS;
+            let one = waits.then(|| inbox.recv().expect("the thread before has not ended"));
+            for block in one.into_iter().chain(inbox.try_iter()) {
+                owners.turn(&block, 0);
+                rest(&mut core, block);
+                got += 1;
+                assert!((1..=128).contains(&core.resting()));
+            }
+        }
+        core
+    };
+    let mut back: Vec<Core<Unchecked>> = thread::scope(|scope| {
+        let spawn = |((core, next), inbox)| scope.spawn(|| work(core, next, inbox));
+        let threads: Vec<_> = cores.into_iter().zip(ends).zip(inboxes).map(spawn).collect();
+        threads.into_iter().map(|thread| thread.join().expect("a thread")).collect()
+    });
+    let resting: u32 = back.iter_mut().map(Core::resting).sum();
+    assert!(resting > 0, "the last call was a give");
+    assert_eq!(back[0].free_frames(), FRAMES - resting);
+    back.iter_mut().for_each(Core::drain);
+    assert_eq!((back[0].free_frames(), back[3].free_huge()), (FRAMES, FRAMES / 512));
 }
 
 /// Zones of one child each, the second at 16 GiB.
