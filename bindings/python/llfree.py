@@ -54,6 +54,11 @@ class Range(ctypes.Structure):
     _fields_ = (('first', _u32), ('frames', _u32))
 
 
+class Block(ctypes.Structure):
+    """A struct llfree_block."""
+    _fields_ = (('live', ctypes.c_bool), ('frame', _u32), ('order', _u8))
+
+
 class Claim(ctypes.Structure):
     """A struct llfree_claim."""
     _fields_ = (('frame', _u32), ('order', _u8))
@@ -67,8 +72,10 @@ for _name, _answer, *_arguments in (
         ('open_zones', _u32, _to(Handle), _size, _to(Range), _size, _to(Range), _size),
         ('reopen', _u32, _to(Handle), _size, _u32, _to(_u64), _size, _to(Claim), _size),
         ('take', _u32, _to(Handle), _u8, _to(_u32)), ('give', _u32, _to(Handle), _u32, _u8),
-        ('split', _u32, _to(Handle), _u32, _u8), ('frames', _u32, _to(Handle)), ('free_frames', _u32, _to(Handle)),
-        ('free_huge', _u32, _to(Handle)), ('close', None, _to(Handle)),
+        ('split', _u32, _to(Handle), _u32, _u8), ('take_frame', _u32, _to(Handle), _to(Block)),
+        ('give_frame', _u32, _to(Handle), _to(Block)), ('drain', None, _to(Handle)), ('resting', _u32, _to(Handle)),
+        ('frames', _u32, _to(Handle)), ('free_frames', _u32, _to(Handle)), ('free_huge', _u32, _to(Handle)),
+        ('close', None, _to(Handle)),
         ('close_image', _u32, _to(Handle), _to(_u64), _size), ('image_words', _size, _u32)):
     _call = getattr(library, f'llfree_{_name}')
     _call.argtypes, _call.restype = _arguments, _answer
@@ -94,8 +101,9 @@ def _row(kind, rows, bits, otherwise):
 class Core:
     """A core of a memory, as the opening makes it."""
 
-    def __init__(self, handle):
+    def __init__(self, handle, singles):
         self._handle, self._lock = handle, threading.RLock()
+        self._singles = singles  # what take_frame took, by number, for all cores of the memory
 
     def __del__(self, close=library.llfree_close):
         close(self._handle)
@@ -104,14 +112,17 @@ class Core:
         with self._lock:
             return getattr(library, f'llfree_{name}')(self._handle, *arguments)
 
-    def take(self, order, tries=1):
-        """The first frame of a block, or Refused. It tries again where other cores may be in the way."""
-        frame, order = _u32(), _fits(order, 8, Status.BAD_ORDER)
+    def _takes(self, tries, *call):
         for left in range(tries, 0, -1):
-            status = self._call('take', order, frame)
+            status = self._call(*call)
             if status not in (Status.NO_BLOCK, Status.CONTENDED) or left == 1:
                 break
         _checked(status)
+
+    def take(self, order, tries=1):
+        """The first frame of a block, or Refused. It tries again where other cores may be in the way."""
+        frame, order = _u32(), _fits(order, 8, Status.BAD_ORDER)
+        self._takes(tries, 'take', order, frame)
         return frame.value
 
     def give(self, frame, order):
@@ -120,6 +131,28 @@ class Core:
     def split(self, frame, order):
         """From then on each half is given by itself."""
         _checked(self._call('split', _fits(frame, 32, Status.NOT_HELD), _fits(order, 8, Status.NOT_HELD)))
+
+    def take_frame(self, tries=1):
+        """A single frame, or Refused: the one that came to rest with this core last, if any. give_frame gives it."""
+        block = Block()
+        self._takes(tries, 'take_frame', block)
+        self._singles[block.frame] = block
+        return block.frame
+
+    def give_frame(self, frame):
+        """What take_frame of any core of the memory took comes to rest with this one."""
+        block = self._singles.pop(frame, Block())
+        status = self._call('give_frame', block)
+        if block.live:
+            self._singles[frame] = block
+        _checked(status)
+
+    def drain(self):
+        """Gives back what rests with this core."""
+        self._call('drain')
+
+    def resting(self):
+        return self._call('resting')
 
     def frames(self):
         return self._call('frames')
@@ -144,7 +177,8 @@ class Core:
 def _cores(count, call, *arguments):
     handles = (Handle * _fits(count, 16, Status.BAD_GEOMETRY))()
     _checked(call(handles, count, *arguments))
-    return [Core(Handle.from_buffer_copy(handle)) for handle in handles]
+    singles = {}
+    return [Core(Handle.from_buffer_copy(handle), singles) for handle in handles]
 
 
 def open(frames, cores=1, kept=()):

@@ -60,6 +60,32 @@ class Calls(unittest.TestCase):
         core.give(frame, 0)
         self.assertEqual(core.free_frames(), 1024)
 
+    def test_single_frames_rest(self):
+        first, second = llfree.open(4096, cores=2)
+        status = llfree.Status
+        taken = [first.take_frame() for _ in range(129)]
+        self.assertEqual((len(set(taken)), first.free_frames(), first.resting()), (129, 4096 - 129, 0))
+        self.refused(status.NOT_HELD, first.give, taken[0], 0)
+        for frame in taken[:128]:
+            first.give_frame(frame)
+        self.assertEqual((first.resting(), second.free_frames()), (128, 4096 - 129))
+        for wrong in (taken[0], taken[128] + (1 << 32), -1, None):
+            self.refused(status.NOT_HELD, second.give_frame, wrong)
+        first.give_frame(taken[128])
+        self.assertEqual((first.resting(), second.free_frames()), (65, 4096 - 65))
+        again = [first.take_frame() for _ in range(65)]
+        self.assertEqual(again, taken[:63:-1])
+        for frame in again:
+            second.give_frame(frame)
+        self.assertEqual((first.resting(), second.resting(), first.free_frames()), (0, 65, 4096 - 65))
+        second.drain()
+        self.assertEqual((second.resting(), first.free_huge()), (0, 8))
+        frame = first.take_frame()
+        first.close()
+        self.refused(status.CLOSED_HANDLE, first.give_frame, frame)
+        second.give_frame(frame)
+        self.assertEqual(second.close_image()[::9], [512] * 8)
+
     def test_ranges_zones_and_what_is_left(self):
         core, = llfree.open(1024, kept=[(0, 1000)])
         taken = sorted(core.take(0, tries=20) for _ in range(24))
@@ -97,6 +123,7 @@ class Calls(unittest.TestCase):
                 for turn in range(400):
                     order = (me + turn) % 4
                     held[me].append((cores[turn % 2].take(order, tries=20), order))
+                    cores[me % 2].give_frame(cores[turn % 2].take_frame(tries=20))
                     if turn % 3 == 0:
                         cores[me % 2].give(*held[me].pop(0))
             except llfree.Refused as refused:
@@ -108,6 +135,9 @@ class Calls(unittest.TestCase):
         for thread in running:
             thread.join()
         out = [frame + at for row in held for frame, order in row for at in range(1 << order)]
+        self.assertGreater(sum(core.resting() for core in cores), 0)
+        for core in cores:
+            core.drain()
         self.assertEqual((wrong, len(set(out)), cores[0].free_frames()), ([], len(out), frames - len(out)))
         for row in held:
             for frame, order in row:
