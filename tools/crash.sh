@@ -2,8 +2,9 @@
 # Kills programs that use the library for C, and looks at what is left (tools/crash/crash.c, steps.c, sweep.c): the
 # words of the allocator, a journal and the pages of its frames lie in files that outlive the process.
 #     tools/crash.sh [KILLS]
-# kills so many times in each way to recover (150), stops behind each instruction of 300 calls, and has to find five
-# wrong programs. It needs a C compiler and python3, and builds the library where it has to. The last line counts.
+# kills so many times in each way to recover (150), and as often where single frames rest with their cores; stops behind
+# each instruction of 300 calls, and of 600 with frames that rest; and has to find six wrong programs. It needs a C
+# compiler and python3, and builds the library where it has to. The last line counts.
 set -u
 unset CDPATH MAKEFLAGS MFLAGS
 root=$(cd "$(dirname "$0")/.." && pwd)
@@ -54,9 +55,11 @@ for program in sweep steps crash; do
 done
 tries 'the words lie where the heap puts them, for 4,000 sizes' sweep
 tries 'a stop behind each instruction of 300 calls' steps 300
+tries 'a stop behind each instruction of 600 calls with frames that rest' steps 600 4000 1 resting
 for way in hold reclaim journal claim; do
     tries "$kills kills: $way" crash "$files" "$kills" "$way" 16000 16 1
 done
+tries "$kills kills with frames that rest: claim" crash "$files" "$kills" claim 16000 16 1 resting
 
 # wrong NAME FILE OLD NEW PROGRAM WORD..: with this change, which fits once, the program has to find itself wrong
 wrong() {
@@ -81,11 +84,12 @@ PYTHON
 many="$files 800 reclaim 16000 16 7"
 wrong 'a journal that is cleared after the give' crash.c \
     '    journal[b.frame] = 0;
-    *doing = GIVING;
-    uint32_t status = llfree_give(&cores[t->number].core, b.frame, b.order);' \
-    '    *doing = GIVING;
-    uint32_t status = llfree_give(&cores[t->number].core, b.frame, b.order);
+    uint32_t status = give(t, &b);' \
+    '    uint32_t status = give(t, &b);
     journal[b.frame] = 0;' crash $many
+wrong 'a journal that keeps what rests' crash.c '    journal[b.frame] = 0;' \
+    '    if (!b.single.live)
+        journal[b.frame] = 0;' crash $many resting
 wrong 'one region for old words and new ones' crash.c 'head->current == 1 ? 2 : 1' '1' crash $many
 wrong 'a region that counts before the opening has answered' crash.c '    head->phase = OPENING;' \
     '    head->phase = OPENING;

@@ -1,7 +1,8 @@
 /* A worker with several threads takes, gives and splits blocks at random. Its allocator's words, its journal
  * and the pages of its frames lie in files that it maps shared. Its parent kills it at random moments, also
  * while it recovers, checks what is left, and starts it again:
- *     crash FILES KILLS [hold|reclaim|journal|claim] [frames] [bytes a page] [seed]
+ *     crash FILES KILLS [hold|reclaim|journal|claim] [frames] [bytes a page] [seed] [resting]
+ * With the last word single frames that are taken rest with their core when they are given.
  *
  * The journal says what the worker knows that it holds: it is written after a take is answered and the pages
  * are written, and removed before a give is asked for. */
@@ -17,24 +18,27 @@
 #include <time.h>
 #include <unistd.h>
 
-enum { CORES = 4, TEXT = 160 };
+enum { CORES = 4, TEXT = 160, MOST_RESTING = 128 };
 
 enum phase { STARTING, READING, OPENING, SWITCHED, RUNNING, PHASES };
-enum doing { NOTHING, TAKING, TAKEN, GIVING, SPLITTING, SPLIT, DOINGS };
+enum doing { NOTHING, TAKING, TAKEN, GIVING, SPLITTING, SPLIT, DRAINING, DOINGS };
 
 static const char *const phase_names[] = { "starting", "reading", "opening", "switched", "running" };
 static const char *const doing_names[] = { "between calls", "in a take",  "taken, not in the journal",
-                                           "in a give",     "in a split", "split, not in the journal" };
+                                           "in a give",     "in a split", "split, not in the journal",
+                                           "in a drain" };
 
 /* What the files begin with. The journal has a number for each frame: 0, or of a block that begins there its
  * serial number and its order. The regions are two: the words of the one that `current` names count. */
 struct head {
     uint32_t frames, page, reclaims; /* 0 hold, 1 reclaim, 2 journal, 3 claim */
+    bool rests;
     _Atomic uint32_t current;        /* 0 none, else 1 or 2 */
     _Atomic uint64_t words_at[3];    /* from the start of the file, by `current` */
     _Atomic uint32_t phase, starts;
-    _Alignas(LINE) _Atomic uint32_t doing[8 * LINE / 4]; /* a line for each thread */
-    _Atomic uint64_t takes, gives, splits, refused;
+    _Alignas(LINE) _Atomic uint32_t doing[8 * LINE / 4];   /* a line for each thread */
+    _Alignas(LINE) _Atomic uint32_t resting[8 * LINE / 4]; /* with its core, after its last call */
+    _Atomic uint64_t takes, gives, splits, drains, refused;
     _Atomic uint32_t recovered, freed;
     _Atomic uint64_t opening_ns;
     char wrong[TEXT];
@@ -136,6 +140,7 @@ struct held {
     uint32_t frame;
     uint8_t order;
     uint64_t serial;
+    llfree_block single; /* the right to it, if it is a frame that may rest */
 };
 
 static struct thread {
@@ -258,6 +263,45 @@ static struct held take_off(struct thread *t, size_t i)
     return block;
 }
 
+static uint32_t take(struct thread *t, uint8_t order, struct held *b)
+{
+    llfree_core *core = &cores[t->number].core;
+
+    if (!head->rests || order > 0)
+        return llfree_take(core, order, &b->frame);
+    uint32_t status = llfree_take_frame(core, &b->single);
+    b->frame = b->single.frame;
+    head->resting[LINE / 4 * t->number] = llfree_resting(core);
+    return status;
+}
+
+static uint32_t give(struct thread *t, struct held *b)
+{
+    llfree_core *core = &cores[t->number].core;
+
+    if (!b->single.live)
+        return llfree_give(core, b->frame, b->order);
+    uint32_t status = llfree_give_frame(core, &b->single);
+    head->resting[LINE / 4 * t->number] = llfree_resting(core);
+    return status;
+}
+
+/* Now and then it drains its core, and takes until it has another part of the memory, so that more comes to rest. */
+static void rest(struct thread *t)
+{
+    uint64_t r = draw(&t->random);
+
+    if (r % 256 == 0)
+        t->tenths = 1 + r / 256 % 9;
+    if (r % 8192 == 1) {
+        head->doing[LINE / 4 * t->number] = DRAINING;
+        llfree_drain(&cores[t->number].core);
+        head->resting[LINE / 4 * t->number] = 0;
+        head->doing[LINE / 4 * t->number] = NOTHING;
+        head->drains++;
+    }
+}
+
 static void give_one(struct thread *t, size_t i)
 {
     struct held b = take_off(t, i);
@@ -265,9 +309,9 @@ static void give_one(struct thread *t, size_t i)
 
     if (!are_pages_of(b.frame, b.order, b.serial))
         fail("somebody wrote my page", b.frame, b.order);
-    journal[b.frame] = 0;
     *doing = GIVING;
-    uint32_t status = llfree_give(&cores[t->number].core, b.frame, b.order);
+    journal[b.frame] = 0;
+    uint32_t status = give(t, &b);
     if (status != LLFREE_OK)
         fail("a give was refused", b.frame, status);
     *doing = NOTHING;
@@ -281,6 +325,8 @@ static void *work(void *of)
     _Atomic uint32_t *doing = &head->doing[LINE / 4 * t->number];
 
     for (;;) {
+        if (head->rests)
+            rest(t);
         uint64_t r = draw(&t->random);
         bool full = t->frames > l.frames / CORES / 10 * t->tenths;
 
@@ -297,26 +343,30 @@ static void *work(void *of)
             *doing = SPLIT;
             b->order--;
             t->frames -= 1u << b->order; /* the upper half is added below */
-            struct held upper = { b->frame + (1u << b->order), b->order, b->serial };
+            struct held upper = { b->frame + (1u << b->order), b->order, b->serial, LLFREE_EMPTY };
             journal[upper.frame] = entry_of(b->serial, b->order);
             journal[b->frame] = entry_of(b->serial, b->order);
             *doing = NOTHING;
             add(t, upper);
             head->splits++;
         } else {
-            uint32_t p = r / 128 % 100, frame;
+            uint32_t p = r / 128 % 100;
             uint8_t order = p < 35 ? 0 : p < 80 ? 1 + r / 16384 % 6 : p < 92 ? 7 + r / 16384 % 2 : 9;
+            if (head->rests && r >> 40 & 7)
+                order = 0;
+            struct held taken = { .order = order };
             *doing = TAKING;
-            uint32_t status = llfree_take(core, order, &frame);
+            uint32_t status = take(t, order, &taken);
             if (status == LLFREE_OK) {
                 *doing = TAKEN;
-                uint64_t serial = t->next_serial++;
+                uint32_t frame = taken.frame;
+                uint64_t serial = taken.serial = t->next_serial++;
                 if (frame % (1u << order) != 0 || frame + (1u << order) > l.frames)
                     fail("no such block", frame, order);
                 write_pages(frame, order, serial);
                 journal[frame] = entry_of(serial, order);
                 *doing = NOTHING;
-                add(t, (struct held){ frame, order, serial });
+                add(t, taken);
                 head->takes++;
             } else {
                 *doing = NOTHING;
@@ -345,6 +395,7 @@ static int worker(const char *name, uint32_t frames, uint32_t page, uint64_t see
         threads[k].next_serial = (uint64_t)start << 32 | (uint64_t)k << 28 | 1;
         threads[k].held = malloc(sizeof(struct held) * (frames + 1));
         head->doing[LINE / 4 * k] = NOTHING;
+        head->resting[LINE / 4 * k] = 0;
     }
     size_t count = recover(claims);
     for (uint32_t k = 0; k < CORES; k++)
@@ -354,7 +405,8 @@ static int worker(const char *name, uint32_t frames, uint32_t page, uint64_t see
         uint64_t entry = journal[claims[i].frame];
         if (order_in(entry) != claims[i].order)
             fail("the journal is not what was claimed", claims[i].frame, claims[i].order);
-        add(&threads[(i + start) % CORES], (struct held){ claims[i].frame, claims[i].order, serial_in(entry) });
+        add(&threads[(i + start) % CORES],
+            (struct held){ claims[i].frame, claims[i].order, serial_in(entry), LLFREE_EMPTY });
     }
     head->phase = RUNNING;
     if (!last) {
@@ -396,6 +448,22 @@ static uint32_t check_stop(llfree_claim *claims, size_t *count, struct seen *see
     return held_frames(&l, words) - frames_of(claims, *count);
 }
 
+/* How many frames a stop of running threads may lose: what rests with their cores, and 512 for each that is not between
+ * calls. At least it loses what surely rests. */
+static void bound_loss(uint32_t *least, uint32_t *most)
+{
+    for (uint32_t c = 0; c < CORES; c++) {
+        uint32_t doing = head->doing[LINE / 4 * c], resting = head->resting[LINE / 4 * c];
+        bool may_change = doing == TAKING || doing == GIVING || doing == DRAINING;
+
+        if (resting > MOST_RESTING)
+            fail("too much rests", resting, c);
+        *least += may_change ? 0 : resting;
+        *most += may_change && head->rests ? MOST_RESTING : resting;
+        *most += doing == NOTHING ? 0 : 512;
+    }
+}
+
 static pid_t start(char *self, char *name, uint32_t frames, uint32_t page, uint64_t seed, bool last)
 {
     pid_t pid = fork();
@@ -417,7 +485,7 @@ int main(int argc, char **argv)
     if (argc == 7 && strcmp(argv[1], "worker") == 0)
         return worker(argv[2], atoi(argv[3]), atoi(argv[4]), strtoull(argv[5], NULL, 10), atoi(argv[6]));
     if (argc < 3) {
-        fputs("crash FILES KILLS [hold|reclaim|journal|claim] [frames] [bytes a page] [seed]\n", stderr);
+        fputs("crash FILES KILLS [hold|reclaim|journal|claim] [frames] [bytes a page] [seed] [resting]\n", stderr);
         return 2;
     }
     char *name = argv[1];
@@ -428,6 +496,8 @@ int main(int argc, char **argv)
                                                           : strcmp(argv[3], "reclaim") == 0;
     uint32_t frames = argc > 4 ? atoi(argv[4]) : 16000, page = argc > 5 ? atoi(argv[5]) : 4096;
     uint64_t random = argc > 6 ? strtoull(argv[6], NULL, 10) : 1, opening = 0;
+    bool rests = argc > 7 && strcmp(argv[7], "resting") == 0;
+    uint32_t bound = (512 + (rests ? MOST_RESTING : 0)) * CORES; /* of what one stop loses */
     char path[512];
 
     snprintf(path, sizeof path, "%s.words", name);
@@ -438,11 +508,12 @@ int main(int argc, char **argv)
     head->frames = frames;
     head->page = page;
     head->reclaims = reclaims;
+    head->rests = rests;
     random = random * 0x9e3779b97f4a7c15ull | 1;
 
     llfree_claim *claims = malloc(sizeof *claims * (frames + 1));
     uint64_t by_phase[PHASES] = { 0 }, by_doing[DOINGS] = { 0 }, lost_before = 0, lost_in_all = 0, most = 0, zero = 0;
-    uint64_t running_kills = 0, known_blocks = 0, known_frames = 0;
+    uint64_t running_kills = 0, known_blocks = 0, known_frames = 0, rested = 0, most_rested = 0;
     uint32_t current = 0;
     struct seen seen = { 0 };
     for (uint32_t k = 0; k < kills; k++) {
@@ -459,10 +530,13 @@ int main(int argc, char **argv)
             fprintf(stderr, "kill %u: the worker ended by itself: %s\n", k, head->wrong);
             return 1;
         }
-        uint32_t phase = head->phase;
+        uint32_t phase = head->phase, may_lose = 0, rests_now = 0;
         by_phase[phase]++;
         if (phase == RUNNING) {
             running_kills++;
+            bound_loss(&rests_now, &may_lose);
+            rested += rests_now;
+            most_rested = rests_now > most_rested ? rests_now : most_rested;
             opening = head->opening_ns;
             for (uint32_t c = 0; c < CORES; c++)
                 by_doing[head->doing[LINE / 4 * c]]++;
@@ -479,8 +553,10 @@ int main(int argc, char **argv)
         if (lost < lost_before)
             fail("a lost frame came back", lost, (uint32_t)lost_before);
         uint64_t now = lost - lost_before;
-        if (now > 512 * CORES)
-            fail("a stop lost too much", (uint32_t)now, k);
+        if (now > may_lose)
+            fail("a stop lost too much", (uint32_t)now, may_lose);
+        if (now < rests_now)
+            fail("less is lost than rested", (uint32_t)now, rests_now);
         lost_in_all += now;
         most = now > most ? now : most;
         zero += now == 0;
@@ -488,8 +564,10 @@ int main(int argc, char **argv)
         known_blocks += count;
         known_frames += frames_of(claims, count);
     }
-    if (lost_in_all > 512ull * CORES * kills)
+    if (lost_in_all > (uint64_t)bound * kills)
         fail("too much is lost", 0, 0);
+    if (rests && running_kills >= 20 && rested == 0)
+        fail("nothing rested at any stop", 0, 0);
     printf("%u frames, %u cores, %u kills, %s; %u bytes a page\n", frames, CORES, kills,
            reclaims == 3   ? "what is lost is claimed and given"
            : reclaims == 2 ? "opened from the journal alone"
@@ -501,8 +579,9 @@ int main(int argc, char **argv)
     for (int d = 0; d < DOINGS; d++)
         printf("  threads %-28s %6llu of %llu\n", doing_names[d], (unsigned long long)by_doing[d],
                (unsigned long long)running_kills * CORES);
-    printf("  takes %llu, gives %llu, splits %llu, refused takes %llu\n", (unsigned long long)head->takes,
-           (unsigned long long)head->gives, (unsigned long long)head->splits, (unsigned long long)head->refused);
+    printf("  takes %llu, gives %llu, splits %llu, drains %llu, refused takes %llu\n", (unsigned long long)head->takes,
+           (unsigned long long)head->gives, (unsigned long long)head->splits, (unsigned long long)head->drains,
+           (unsigned long long)head->refused);
     printf("  recoveries ended %u; frames freed again %u\n", head->recovered, head->freed);
     printf("  found at the stops: a split of a huge frame under way %u, ended and not in the journal %u; half of a split "
            "in the journal %u\n",
@@ -510,8 +589,11 @@ int main(int argc, char **argv)
     printf("  known at the stops: %llu blocks, %llu frames a stop\n", (unsigned long long)known_blocks / kills,
            (unsigned long long)known_frames / kills);
     printf("  lost: %llu frames in all (bound %llu), at most %llu at one stop (bound %u), none at %llu stops\n",
-           (unsigned long long)lost_in_all, 512ull * CORES * kills, (unsigned long long)most, 512 * CORES,
+           (unsigned long long)lost_in_all, (unsigned long long)bound * kills, (unsigned long long)most, bound,
            (unsigned long long)zero);
+    if (rests)
+        printf("  of these rested with cores between calls: %llu frames in all, at most %llu at one stop\n",
+               (unsigned long long)rested, (unsigned long long)most_rested);
     printf("  the last recovery took %.2f ms\n", head->opening_ns / 1e6);
     fflush(stdout);
     pid_t pid = start(argv[0], name, frames, page, 1, true);

@@ -1,6 +1,8 @@
 /* A stop behind each machine instruction. One thread takes, gives and splits through several cores of a small
  * memory; its parent steps it instruction by instruction. Wherever words or journal differ from what they
- * were before, the parent opens an allocator at them as they stand, and checks it: steps CALLS [frames] [seed]. */
+ * were before, the parent opens an allocator at them as they stand, and checks it:
+ *     steps CALLS [frames] [seed] [resting]
+ * With the last word most takes are of single frames, which rest with their core when they are given. */
 #include "journal.h"
 #include <signal.h>
 #include <stdio.h>
@@ -11,13 +13,14 @@
 #include <sys/wait.h>
 #include <unistd.h>
 
-enum { CORES = 3 };
+enum { CORES = 3, MOST_RESTING = 128, BACK = 64 /* where so many rest already */ };
 
-enum doing { NOTHING, TAKING, TAKEN, GIVING, SPLITTING, SPLIT, DOINGS };
+enum doing { NOTHING, TAKING, TAKEN, GIVING, SPLITTING, SPLIT, DRAINING, DOINGS };
 
 static struct shared {
     _Atomic uint64_t words_at;
     _Atomic uint32_t doing, calls, done, order, refused;
+    _Atomic uint32_t rests, resting; /* with all cores, after the last call */
     _Alignas(LINE) journal_entry journal[];
 } * shared;
 
@@ -45,17 +48,50 @@ static uint64_t draw(uint64_t *state)
     return *state;
 }
 
+struct held {
+    uint32_t frame;
+    uint8_t order;
+    llfree_block single; /* the right to it, if it is a frame that may rest */
+};
+
+static llfree_core handles[CORES];
+
+static void count_resting(void)
+{
+    uint32_t resting = 0;
+
+    for (int k = 0; k < CORES; k++)
+        resting += llfree_resting(&handles[k]);
+    shared->resting = resting;
+}
+
+static uint32_t take(llfree_core *core, uint8_t order, struct held *to)
+{
+    *to = (struct held){ .order = order };
+    if (!shared->rests || order > 0)
+        return llfree_take(core, order, &to->frame);
+    uint32_t status = llfree_take_frame(core, &to->single);
+    to->frame = to->single.frame;
+    count_resting();
+    return status;
+}
+
+static uint32_t give(llfree_core *core, struct held *from)
+{
+    if (!from->single.live)
+        return llfree_give(core, from->frame, from->order);
+    uint32_t status = llfree_give_frame(core, &from->single);
+    count_resting();
+    return status;
+}
+
 static void child(uint32_t calls, uint64_t random)
 {
-    static llfree_core cores[CORES];
-    struct {
-        uint32_t frame;
-        uint8_t order;
-    } *held = calloc(l.frames + 1, sizeof *held);
+    struct held *held = calloc(l.frames + 1, sizeof *held);
     size_t count = 0, held_now = 0;
 
     keep_words_in(&l, region);
-    if (llfree_open(cores, CORES, l.frames, NULL, 0) != LLFREE_OK)
+    if (llfree_open(handles, CORES, l.frames, NULL, 0) != LLFREE_OK)
         exit(2);
     uint64_t *words = kept_words();
     if (!words)
@@ -65,17 +101,31 @@ static void child(uint32_t calls, uint64_t random)
     raise(SIGSTOP);
     for (uint32_t i = 0; i < calls; i++) {
         uint64_t r = draw(&random);
-        llfree_core *core = &cores[r / 7 % CORES];
+        llfree_core *core = &handles[r / 7 % CORES];
         bool full = held_now > l.frames / 10 * (1 + i / 100 % 10);
-        uint32_t status, frame;
+        uint32_t gives = full ? 75 : 25;
+        uint32_t status;
         size_t at = count ? r / 1024 % count : 0;
 
         shared->calls = i;
-        if (count > 0 && r % 100 < (full ? 75 : 25)) {
+        if (shared->rests) {
+            /* most with one core, which by turns takes and gives */
+            core = &handles[r / 7 % 16 ? 0 : r / 112 % CORES];
+            full = i / 256 % 2;
+            gives = full ? 95 : 5;
+        }
+        if (shared->rests && !full && (r >> 48) % 32 == 0) {
+            shared->doing = DRAINING;
+            llfree_drain(core);
+            count_resting();
+            shared->doing = NOTHING;
+            continue;
+        }
+        if (count > 0 && r % 100 < gives) {
             shared->order = held[at].order;
-            shared->journal[held[at].frame] = 0;
             shared->doing = GIVING;
-            status = llfree_give(core, held[at].frame, held[at].order);
+            shared->journal[held[at].frame] = 0;
+            status = give(core, &held[at]);
             shared->doing = NOTHING;
             held_now -= 1u << held[at].order;
             held[at] = held[--count];
@@ -85,21 +135,18 @@ static void child(uint32_t calls, uint64_t random)
             status = llfree_split(core, held[at].frame, held[at].order);
             shared->doing = SPLIT;
             held[at].order--;
-            held[count].frame = held[at].frame + (1u << held[at].order);
-            held[count].order = held[at].order;
+            held[count] = (struct held){ held[at].frame + (1u << held[at].order), held[at].order, LLFREE_EMPTY };
             shared->journal[held[count].frame] = entry_of(1, held[at].order);
             shared->journal[held[at].frame] = entry_of(1, held[at].order);
             shared->doing = NOTHING;
             count++;
         } else {
-            shared->order = r / 1048576 % 10;
+            shared->order = shared->rests && r >> 40 & 15 ? 0 : r / 1048576 % 10;
             shared->doing = TAKING;
-            status = llfree_take(core, shared->order, &frame);
+            status = take(core, shared->order, &held[count]);
             if (status == LLFREE_OK) {
                 shared->doing = TAKEN;
-                shared->journal[frame] = entry_of(1, shared->order);
-                held[count].frame = frame;
-                held[count++].order = shared->order;
+                shared->journal[held[count++].frame] = entry_of(1, shared->order);
                 held_now += 1u << shared->order;
             } else {
                 shared->refused++;
@@ -114,8 +161,21 @@ static void child(uint32_t calls, uint64_t random)
     _exit(0);
 }
 
-static uint32_t most_lost;
+static uint32_t most_lost, most_resting, times_back;
 static struct seen seen;
+
+/* How many frames a stop here may lose beside what rests, and how many of these a call may have given back. */
+static uint32_t may_lose(void)
+{
+    return shared->doing == TAKING || shared->doing == TAKEN || shared->doing == GIVING ? 512 : 0;
+}
+
+static uint32_t may_be_back(void)
+{
+    uint32_t most = shared->doing == DRAINING ? MOST_RESTING : shared->doing == GIVING ? BACK : 0;
+
+    return shared->resting < most ? shared->resting : most;
+}
 
 /* What the child would have left, had it been killed here. */
 static uint32_t check(const uint64_t *words, llfree_claim *claims, uint64_t *numbers)
@@ -131,8 +191,10 @@ static uint32_t check(const uint64_t *words, llfree_claim *claims, uint64_t *num
     if (wrong)
         fail(wrong, where, 0);
     uint32_t lost = held_frames(&l, words) - frames_of(claims, count);
-    if (lost > 512)
-        fail("one core lost too much", lost, 0);
+    if (lost > shared->resting + may_lose())
+        fail("one core lost too much", lost, shared->resting);
+    if (lost < shared->resting - may_be_back())
+        fail("less is lost than rests", lost, shared->resting);
     image_of_words(&l, words, numbers);
     keep_words_in(&l, region + region_bytes(&l));
     uint32_t status = llfree_reopen(cores, CORES, l.frames, numbers, many, claims, count);
@@ -153,13 +215,15 @@ static uint32_t check(const uint64_t *words, llfree_claim *claims, uint64_t *num
         llfree_close(&cores[k]);
     if (lost > most_lost)
         most_lost = lost;
+    if (shared->resting > most_resting)
+        most_resting = shared->resting;
     return lost;
 }
 
 int main(int argc, char **argv)
 {
     if (argc < 2) {
-        fputs("steps CALLS [frames] [seed]\n", stderr);
+        fputs("steps CALLS [frames] [seed] [resting]\n", stderr);
         return 2;
     }
     uint32_t calls = atoi(argv[1]), frames = argc > 2 ? atoi(argv[2]) : 4000;
@@ -168,10 +232,12 @@ int main(int argc, char **argv)
     size_t head = (sizeof *shared + 8 * (size_t)frames + 63) / 64 * 64, bytes = head + 2 * region_bytes(&l);
     shared = mmap(NULL, bytes, PROT_READ | PROT_WRITE, MAP_SHARED | MAP_ANONYMOUS, -1, 0);
     region = (unsigned char *)shared + head;
+    shared->rests = argc > 4 && strcmp(argv[4], "resting") == 0;
     llfree_claim *claims = malloc(sizeof *claims * (frames + 1));
     uint64_t *numbers = malloc(8 * llfree_image_words(frames)), *before = calloc(l.count, 8);
     uint64_t *journal_before = calloc(frames, 8);
-    uint64_t steps[DOINGS] = { 0 }, states[DOINGS] = { 0 }, losing[DOINGS] = { 0 }, all = 0;
+    uint64_t steps[DOINGS] = { 0 }, states[DOINGS] = { 0 }, losing[DOINGS] = { 0 };
+    uint32_t resting_before = 0;
     int status;
 
     pid_t pid = fork();
@@ -187,26 +253,35 @@ int main(int argc, char **argv)
             break;
         uint32_t doing = shared->doing;
         steps[doing]++;
-        if (memcmp(before, words, 8 * l.count) == 0 && memcmp(journal_before, (void *)shared->journal, 8 * frames) == 0)
+        if (memcmp(before, words, 8 * l.count) == 0 &&
+            memcmp(journal_before, (void *)shared->journal, 8 * frames) == 0 && shared->resting == resting_before)
             continue;
+        times_back += doing == GIVING && resting_before - shared->resting == BACK - 1;
+        resting_before = shared->resting;
         memcpy(before, words, 8 * l.count);
         memcpy(journal_before, (void *)shared->journal, 8 * frames);
         uint32_t lost = check(words, claims, numbers);
         states[doing]++;
         losing[doing] += lost > 0;
-        all++;
     }
     if (!WIFEXITED(status) || WEXITSTATUS(status) != 0 || !shared->done) {
         fprintf(stderr, "the child ended with %x\n", status);
         return 1;
     }
+    if (shared->rests && times_back == 0)
+        fail("too little came to rest", most_resting, 0);
     static const char *const names[] = { "between calls", "in a take",  "taken, not in the journal",
-                                         "in a give",     "in a split", "split, not in the journal" };
+                                         "in a give",     "in a split", "split, not in the journal",
+                                         "in a drain" };
     printf("%u frames, %u cores, one thread, %u calls (%u refused takes)\n", frames, CORES, calls, shared->refused);
     for (int d = 0; d < DOINGS; d++)
         printf("  %-28s %9llu instructions, %6llu states opened, %6llu with lost frames\n", names[d],
                (unsigned long long)steps[d], (unsigned long long)states[d], (unsigned long long)losing[d]);
-    printf("  at most %u frames lost at one stop (bound 512); found: a huge split under way %u, ended %u, halves %u\n",
+    printf("  at most %u frames lost at one stop (bound 512 and what rests); found: a huge split under way %u, "
+           "ended %u, halves %u\n",
            most_lost, seen.filled, seen.split, seen.halves);
+    if (shared->rests)
+        printf("  at most %u frames rested; %u times %u of a core went back at a give\n", most_resting, times_back,
+               BACK);
     return 0;
 }
