@@ -1,5 +1,4 @@
 pub mod GapBits
-pub mod HeldBack
 pub mod Overlaps
 pub mod Replaying
 pub mod Searches

@@ -6,7 +6,6 @@ mod by_numbers;
 mod claims;
 mod free_blocks;
 mod gaps;
-mod held_back;
 mod numbers;
 mod receipt;
 mod replay;

@@ -11,7 +11,6 @@ mod last_zone;
 mod laws;
 mod numbers;
 mod openings;
-mod ranges;
 mod reopenings;
 mod row;
 mod spans;
