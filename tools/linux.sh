@@ -1,7 +1,8 @@
 #!/usr/bin/env bash
 # Linux whose page allocator is the library, compiled from nothing in a folder that goes, and booted: as a program (User
-# Mode Linux), and with the word `qemu` in QEMU too. What the machine lacks is said and left out. The last line counts
-# what was tried. It is no part of the gate: a compilation takes minutes of a processor.
+# Mode Linux), and with `qemu` in QEMU too; then what has to fail in boots of its own. What the machine lacks is
+# said and left out. The last line counts what was tried. It is for the night, and no part of the gate: a compilation
+# takes minutes of a processor.
 set -u
 unset CDPATH MAKEFLAGS MFLAGS
 root=$(cd "$(dirname "$0")/.." && pwd)
@@ -26,23 +27,25 @@ lacks() {
     [ -n "$missing" ] && echo "skipped: $machine, for want of ${missing#, }"
 }
 
-needs=(/usr/src/linux-source-6.1.tar.xz cc make flex bison bc patch xz busybox cpio)
-for goal in um ${1:+mm}; do
-    machine='Linux on the library, as a program'
-    if [ "$goal" = mm ]; then
-        machine='Linux on the library, in QEMU'
-        needs+=(qemu-system-x86_64 /usr/include/libelf.h)
-    fi
-    if lacks "${needs[@]}"; then continue; fi
-    # of its log the counts are added up: one for each boot
-    timeout -k 5 3600 make -C "$root/examples/kernel" "$goal" linux="$folder/linux" seconds=900 >"$folder/log" 2>&1
+# tries GOAL: of its log the counts are added up, one for each boot; a goal that stops on its way has failed. Before the
+# first boot the log has the counts of the archives.
+tries() {
+    local counts more fewer ended
+    timeout -k 5 3600 make -C "$root/examples/kernel" "$1" linux="$folder/linux" seconds=900 >"$folder/log" 2>&1
     ended=$?
-    counts=$(grep -xE '[0-9]+ passed, [0-9]+ failed' "$folder/log")
-    grep -vxE '[0-9]+ passed, [0-9]+ failed' "$folder/log" | grep -E ': (ok|failed)$' | sed "s/^/$machine: /"
+    counts=$(sed '1,\|^mm/boot.sh |d' "$folder/log" | grep -xE '[0-9]+ passed, [0-9]+ failed')
+    grep -E ': (ok|failed)$|^--- |^Kernel panic .* is not opened|^invalid opcode' "$folder/log" | sed "s/^/$machine: /"
     read -r more fewer < <(echo "$counts" | awk '{ passed += $1; failed += $3 } END { print passed + 0, failed + 0 }')
     [ "$ended" = 0 ] || [ "$fewer" != 0 ] || fewer=1
     [ "$fewer" = 0 ] || tail -n 40 "$folder/log" >&2
     passed=$((passed + more)) failed=$((failed + fewer))
-done
+}
+
+needs=(/usr/src/linux-source-6.1.tar.xz cc make flex bison bc patch xz busybox cpio)
+machine='Linux on the library, as a program'
+lacks "${needs[@]}" || for goal in um um-trials; do tries "$goal"; done
+machine='Linux on the library, in QEMU'
+[ "${1-}" != qemu ] || lacks "${needs[@]}" qemu-system-x86_64 /usr/include/libelf.h ||
+    for goal in mm mm-trials; do tries "$goal"; done
 echo "$passed passed, $failed failed"
 [ "$failed" = 0 ]

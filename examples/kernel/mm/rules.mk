@@ -1,6 +1,7 @@
 # Linux 6.1 whose page allocator is the library (docs/KERNEL.md): `make um` runs it as a program (User Mode Linux), and
-# `make mm` in QEMU. RUN names parts of mm/init, WORDS are more of the kernel's command line. It needs Debian's packages
-# linux-source-6.1, xz-utils, flex, bison, bc, busybox-static or busybox, and cpio; `make mm` also libelf-dev.
+# `make mm` in QEMU; `make um-trials` and `make mm-trials` show what has to fail in boots of its own. RUN names parts of
+# mm/init, WORDS are more of the kernel's command line. It needs Debian's packages linux-source-6.1, xz-utils, flex,
+# bison, bc, busybox-static or busybox, and cpio; in QEMU also libelf-dev.
 sources := /usr/src/linux-source-6.1.tar.xz
 # may lie outside of the checkout: about 50,000 files
 linux ?= $(abspath $(out))/mm
@@ -8,7 +9,7 @@ jobs ?= $(shell nproc)
 
 unneeded := *.rst *.dts *.dtsi */tools/testing/* */tools/perf/* */sound/*.[ch] */arch/[^ux]*/*.[chS] \
 	$(patsubst %,*/drivers/%/*.[ch],gpu infiniband media net scsi staging usb)
-llfree_files := $(wildcard mm/llfree/*) linux/include $(root)/include/llfree.h $(library)_kernel.a
+llfree_files := $(wildcard mm/llfree/*) linux/include $(root)/include/llfree.h $(library)_kernel.a $(library)_c.a
 comma := ,
 kbuild = unset MAKEFLAGS MFLAGS MAKELEVEL; $(MAKE) -s -C $(linux)/source
 
@@ -25,37 +26,63 @@ $(linux)/source/with-llfree: $(linux)/source/unpacked $(llfree_files) $(wildcard
 	cp -ru $(llfree_files) $(@D)/mm/llfree
 	touch $@
 
-# $(call compile,MACHINE,WORDS,IMAGE): what the configuration does not take over is printed, and an error
+# $(call compile,MACHINE,WORDS,GOALS,IMAGE): what the configuration does not take over is printed, and an error. Beside
+# the image is one with the ordinary archive.
 define compile
 $(linux)/$(1)/image: $(linux)/source/with-llfree mm/common.config mm/$(1).config
 	mkdir -p $$(@D)
 	cat mm/common.config mm/$(1).config >$$(@D)/wanted
 	$$(kbuild) O=$$(@D) $(2) KCONFIG_ALLCONFIG=$$(@D)/wanted allnoconfig
 	! grep -vxFf $$(@D)/.config $$(@D)/wanted | grep CONFIG_
-	$$(kbuild) O=$$(@D) $(2) -j$(jobs) $(notdir $(3))
-	cp $$(@D)/$(3) $$@
-endef
-$(eval $(call compile,um,ARCH=um SUBARCH=x86_64,linux))
-$(eval $(call compile,mm,ARCH=x86_64,arch/x86/boot/bzImage))
+	$$(kbuild) O=$$(@D) $(2) -j$(jobs) $(3)
+	cp $$(@D)/$(4) $$@
 
-$(linux)/initramfs: mm/init
+$(linux)/$(1)/ordinary: $(linux)/$(1)/image
+	$$(kbuild) O=$$(@D) $(2) -j$(jobs) archive=c $(firstword $(3))
+	cp $$(@D)/$(4) $$@
+endef
+$(eval $(call compile,um,ARCH=um SUBARCH=x86_64,linux,linux))
+$(eval $(call compile,mm,ARCH=x86_64,bzImage modules,arch/x86/boot/bzImage))
+
+$(linux)/um/initramfs: mm/init
+	mkdir -p $(@D)
 	$(call pack,$<)
+
+$(linux)/mm/initramfs: mm/init $(linux)/mm/image
+	$(call pack,$< $(addprefix $(@D)/,mm/zsmalloc.ko drivers/block/zram/zram.ko))
 
 # the test of references runs at every boot that does not forbid it, and takes minutes with poisoned pages
 without_references := initcall_blacklist=m_in
 checks := llfree=bits page_poison=1 $(without_references)
-parts := shells,archives,fill,oom,order,twice,used
-run_um = mm/boot.sh $(seconds) $(linux)/um.log $(linux)/um/image mem=512M con0=null,fd:1 con=null quiet \
-	initrd=$(linux)/initramfs
+parts := shells,archives,fill,oom,handlers,order,twice,used
+um_at := $(seconds) $(linux)/um.log $(linux)/um/image mem=512M con0=null,fd:1 con=null quiet initrd=$(linux)/um/initramfs
 
-um: $(linux)/um/image $(linux)/initramfs
-	$(if $(RUN)$(WORDS),,$(run_um) run=references llfree=bits)
-	$(run_um) run=$(or $(RUN),$(parts)) $(or $(WORDS),$(checks))
+um: $(linux)/um/image $(linux)/um/initramfs
+	$(if $(RUN)$(WORDS),,mm/boot.sh $(um_at) run=references llfree=bits)
+	mm/boot.sh $(um_at) run=$(or $(RUN),$(parts)) $(or $(WORDS),$(checks))
+
+um-trials: $(linux)/um/image $(linux)/um/initramfs
+	@echo '--- an opening finds too little memory'
+	mm/boot.sh -l 'llfree: zone .* is not opened: no memory' $(um_at) earlyprintk llfree=small
 
 # without ACPI Linux finds one CPU for each socket
-mm: cpus = $(SMP),sockets=$(SMP),cores=1
-mm: $(linux)/mm/image $(linux)/initramfs
-	mm/boot.sh $(seconds) $(linux)/mm.log $(qemu) -m 1G -kernel $< -initrd $(linux)/initramfs \
-		-append 'console=ttyS0 quiet panic=-1 no_timer_check run=$(or $(RUN),huge$(comma)$(parts)) $(or $(WORDS),$(checks))'
+mm mm-trials: cpus = $(SMP),sockets=$(SMP),cores=1
+mm_words := console=ttyS0 quiet panic=-1 no_timer_check
+mm_parts := huge,cpus,swap,$(parts)
+# 6 GiB are two zones, and here three nodes, one of which has both
+of_nodes := numa=fake=3 run=shells,huge,cpus,zones llfree=bits $(without_references)
+# $(call in_qemu,MEMORY,IMAGE), and the words behind it
+in_qemu = $(seconds) $(linux)/mm.log $(qemu) -m $(1) -initrd $(linux)/mm/initramfs -kernel $(linux)/mm/$(2) -append
 
-.PHONY: um mm
+mm: $(linux)/mm/image $(linux)/mm/initramfs
+	$(if $(RUN)$(WORDS),,mm/boot.sh $(call in_qemu,6G,image) '$(mm_words) $(of_nodes)')
+	mm/boot.sh $(call in_qemu,1G,image) '$(mm_words) run=$(or $(RUN),$(mm_parts)) $(or $(WORDS),$(checks))'
+
+mm-trials: $(linux)/mm/image $(linux)/mm/ordinary $(linux)/mm/initramfs
+	@echo '--- the ordinary archive has instructions that Linux has not allowed yet'
+	mm/boot.sh -l 'invalid opcode' $(call in_qemu,1G,ordinary) '$(mm_words) earlyprintk=ttyS0'
+	@echo '--- an opening finds too little memory'
+	mm/boot.sh -l 'llfree: zone .* is not opened: no memory' $(call in_qemu,1G,image) \
+		'$(mm_words) earlyprintk=ttyS0 llfree=small'
+
+.PHONY: um mm um-trials mm-trials

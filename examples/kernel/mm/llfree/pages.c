@@ -1,13 +1,15 @@
 // SPDX-License-Identifier: GPL-2.0
 /*
- * Page frames of Linux by LLFree. Each zone has an allocator of its own, with a core for each CPU. Interrupts are off
- * during a call, so no handler runs inside one, and handlers may make calls of their own. No NMI gets here.
+ * Page frames of Linux by LLFree. Each zone has an allocator of its own, with two cores for each CPU. Tasks call through
+ * one of them, with preemption off. Handlers of interrupts, which may come in the middle of such a call, use the other
+ * one, with interrupts off. No NMI gets here.
  *
  * The command line has llfree=WORD[,WORD..]:
  *   off      Linux' own free lists
  *   structs  held blocks are structs in a table of Linux; otherwise the library has a list of them
  *   lists    the lists of the CPUs stand before the library
  *   bits     a bit for each frame, apart from the library: a take must find it clear, a give set
+ *   small    wrong on purpose: an opening finds half of the memory that it needs
  */
 #define pr_fmt(text) "llfree: " text
 #include <linux/bitmap.h>
@@ -29,8 +31,12 @@ enum {
 	ALIGNMENT = 16,
 };
 
-struct llfree_cpu {
+enum { TASKS, HANDLERS, CALLERS };
+
+/* The tasks of a CPU, or its handlers. */
+struct llfree_caller {
 	llfree_core core;
+	bool is_inside;		/* of a call */
 	struct llfree_counts counts;
 } ____cacheline_aligned_in_smp;
 
@@ -39,11 +45,12 @@ struct llfree_zone {
 	u32 frames;
 	llfree_block *blocks;	/* each held block, at its first frame; NULL if the library has a list */
 	unsigned long *bits;	/* set if a frame is held; NULL without bits */
-	struct llfree_cpu cpus[];
+	struct llfree_caller callers[][CALLERS];	/* of each CPU */
 };
 
 bool llfree_on __ro_after_init = true, llfree_lists __ro_after_init;
 static bool has_structs __ro_after_init, has_bits __ro_after_init;
+static bool is_small __initdata;
 
 static int __init read_words(char *words)
 {
@@ -58,6 +65,8 @@ static int __init read_words(char *words)
 			llfree_lists = true;
 		else if (!strcmp(word, "bits"))
 			has_bits = true;
+		else if (!strcmp(word, "small"))
+			is_small = true;
 		else
 			pr_warn("no such word: %s\n", word);
 	}
@@ -112,22 +121,6 @@ struct rattle_block rattle_realloc(void *old, size_t kept, size_t size, size_t a
 	return block;
 }
 
-/* The three calls of the library, by number or by structs. The caller has interrupts off. */
-static enum llfree_status take(struct llfree_zone *zone, llfree_core *core, unsigned int order, u32 *frame)
-{
-	llfree_block block = LLFREE_EMPTY;
-	enum llfree_status status;
-
-	if (!zone->blocks)
-		return llfree_take(core, order, frame);
-	status = llfree_take_block(core, order, &block);
-	if (status == LLFREE_OK) {
-		*frame = block.frame;
-		zone->blocks[block.frame] = block;
-	}
-	return status;
-}
-
 /* Moves a struct out of its place before the block is given: after that another CPU may fill this place. */
 static bool move_out(struct llfree_zone *zone, u32 frame, unsigned int order, llfree_block *block)
 {
@@ -138,28 +131,67 @@ static bool move_out(struct llfree_zone *zone, u32 frame, unsigned int order, ll
 	return true;
 }
 
-static enum llfree_status give(struct llfree_zone *zone, llfree_core *core, u32 frame, unsigned int order)
+static enum llfree_status take_struct(struct llfree_zone *zone, llfree_core *core, unsigned int order, u32 *frame)
+{
+	llfree_block block = LLFREE_EMPTY;
+	enum llfree_status status = llfree_take_block(core, order, &block);
+
+	if (status == LLFREE_OK) {
+		*frame = block.frame;
+		zone->blocks[block.frame] = block;
+	}
+	return status;
+}
+
+static enum llfree_status give_struct(struct llfree_zone *zone, llfree_core *core, u32 frame, unsigned int order)
 {
 	llfree_block block;
 
-	if (!zone->blocks)
-		return llfree_give(core, frame, order);
 	return move_out(zone, frame, order, &block) ? llfree_give_block(core, &block) : LLFREE_NOT_HELD;
 }
 
-static enum llfree_status split(struct llfree_zone *zone, llfree_core *core, u32 frame, unsigned int order)
+static enum llfree_status split_struct(struct llfree_zone *zone, llfree_core *core, u32 frame, unsigned int order)
 {
 	llfree_block block, upper = LLFREE_EMPTY;
 	enum llfree_status status;
 
-	if (!zone->blocks)
-		return llfree_split(core, frame, order);
 	if (!move_out(zone, frame, order, &block))
 		return LLFREE_NOT_HELD;
 	status = llfree_split_block(core, &block, &upper);
 	zone->blocks[frame] = block;
 	if (status == LLFREE_OK)
 		zone->blocks[upper.frame] = upper;
+	return status;
+}
+
+/* The three calls of the library, by number or by structs. */
+static enum llfree_status take(struct llfree_zone *zone, struct llfree_caller *by, unsigned int order, u32 *frame)
+{
+	enum llfree_status status;
+
+	WRITE_ONCE(by->is_inside, true);
+	status = zone->blocks ? take_struct(zone, &by->core, order, frame) : llfree_take(&by->core, order, frame);
+	WRITE_ONCE(by->is_inside, false);
+	return status;
+}
+
+static enum llfree_status give(struct llfree_zone *zone, struct llfree_caller *by, u32 frame, unsigned int order)
+{
+	enum llfree_status status;
+
+	WRITE_ONCE(by->is_inside, true);
+	status = zone->blocks ? give_struct(zone, &by->core, frame, order) : llfree_give(&by->core, frame, order);
+	WRITE_ONCE(by->is_inside, false);
+	return status;
+}
+
+static enum llfree_status split(struct llfree_zone *zone, struct llfree_caller *by, u32 frame, unsigned int order)
+{
+	enum llfree_status status;
+
+	WRITE_ONCE(by->is_inside, true);
+	status = zone->blocks ? split_struct(zone, &by->core, frame, order) : llfree_split(&by->core, frame, order);
+	WRITE_ONCE(by->is_inside, false);
 	return status;
 }
 
@@ -172,48 +204,74 @@ static void __init *get_memory(size_t size)
 	return memory;
 }
 
-/*
- * All frames are held from now on, holes too: the library opens with all frames free, so each is taken. memblock then
- * gives what it has, at boot and later.
- */
+static const char *why(enum llfree_status status)
+{
+	static const char *const refusals[] = {
+		[LLFREE_NO_BLOCK] = "no block",
+		[LLFREE_BAD_ORDER] = "bad order",
+		[LLFREE_NOT_HELD] = "not held",
+		[LLFREE_CLOSED_HANDLE] = "closed handle",
+		[LLFREE_NO_MEMORY] = "no memory",
+		[LLFREE_BAD_GEOMETRY] = "bad geometry",
+		[LLFREE_CONTENDED] = "contended",
+	};
+
+	return status < ARRAY_SIZE(refusals) && refusals[status] ? refusals[status] : "?";
+}
+
+/* Handles may be moved: each goes to a cache line of its own. */
+static void __init spread_cores(struct llfree_zone *it, const llfree_core *cores)
+{
+	for (unsigned int cpu = 0; cpu < nr_cpu_ids; cpu++)
+		for (unsigned int by = TASKS; by < CALLERS; by++)
+			it->callers[cpu][by].core = cores[CALLERS * cpu + by];
+}
+
+/* The library opens with all frames free, so each is taken. */
+static void __init take_all(struct llfree_zone *it, const char *name)
+{
+	u32 taken = 0, frame;
+
+	while (take(it, &it->callers[0][TASKS], 0, &frame) == LLFREE_OK)
+		taken++;
+	if (taken != it->frames)
+		panic("llfree: of zone %s %u frames of %u were taken", name, taken, it->frames);
+}
+
+/* All frames are held from now on, holes too. memblock then gives what it has, at boot and later. */
 static void __init open_zone(struct zone *zone)
 {
 	static llfree_core cores[CORES] __initdata;
-	unsigned long first = round_down(zone->zone_start_pfn, CHILD_FRAMES);
-	u32 frames = zone_end_pfn(zone) - first, taken = 0, frame;
-	size_t room = PAGE_ALIGN((has_structs ? frames / 2 : 20ul * frames) + nr_cpu_ids * 1024 + SZ_64K);
-	struct llfree_zone *it = get_memory(struct_size(it, cpus, nr_cpu_ids));
+	unsigned long first = round_down(zone->zone_start_pfn, CHILD_FRAMES), count = CALLERS * nr_cpu_ids;
+	u32 frames = zone_end_pfn(zone) - first;
+	size_t room = PAGE_ALIGN((has_structs ? frames / 2 : 20ul * frames) + count * 1024 + SZ_64K);
+	struct llfree_zone *it = get_memory(struct_size(it, callers, nr_cpu_ids));
 	char *heap = get_memory(room);
 	enum llfree_status status;
 
 	heap_top = heap;
-	heap_end = heap + room;
+	heap_end = heap + (is_small ? room / 2 : room);
 	memset(cores, 0, sizeof(cores));
 	it->first = first;
 	it->frames = frames;
 	if (has_structs) {
 		it->blocks = get_memory(frames * sizeof(llfree_block));
-		status = llfree_open_unchecked(cores, nr_cpu_ids, frames, NULL, 0);
+		status = llfree_open_unchecked(cores, count, frames, NULL, 0);
 	} else {
-		status = llfree_open(cores, nr_cpu_ids, frames, NULL, 0);
+		status = llfree_open(cores, count, frames, NULL, 0);
 	}
 	if (status != LLFREE_OK)
-		panic("llfree: zone %s is not opened: status %u", zone->name, status);
-	while (take(it, &cores[0], 0, &frame) == LLFREE_OK)
-		taken++;
-	if (taken != frames)
-		panic("llfree: of zone %s %u frames of %u were taken", zone->name, taken, frames);
-	for (unsigned int cpu = 0; cpu < nr_cpu_ids; cpu++)
-		it->cpus[cpu].core = cores[cpu];
+		panic("llfree: zone %s is not opened: %s", zone->name, why(status));
+	spread_cores(it, cores);
+	take_all(it, zone->name);
 	if (has_bits) {
 		it->bits = get_memory(BITS_TO_LONGS(frames) * sizeof(long));
 		bitmap_fill(it->bits, frames);
 	}
 	zone->llfree = it;
-	heap_end = PTR_ALIGN(heap_top, PAGE_SIZE);
-	memblock_free(heap_end, heap + room - heap_end);
-	pr_info("zone %s: %u frames from %lu on, %u cores, %zu bytes of heap\n", zone->name, frames, first, nr_cpu_ids,
+	pr_info("zone %s: %u frames from %lu on, %lu cores, %zu bytes of heap\n", zone->name, frames, first, count,
 		(size_t)(heap_top - heap));
+	memblock_free(PTR_ALIGN(heap_top, PAGE_SIZE), heap + room - PTR_ALIGN(heap_top, PAGE_SIZE));
 }
 
 void __init llfree_open_boot_zones(void)
@@ -225,19 +283,9 @@ void __init llfree_open_boot_zones(void)
 			open_zone(zone);
 }
 
-static const char *const refusals[] = {
-	[LLFREE_NO_BLOCK] = "no block",
-	[LLFREE_BAD_ORDER] = "bad order",
-	[LLFREE_NOT_HELD] = "not held",
-	[LLFREE_CLOSED_HANDLE] = "closed handle",
-	[LLFREE_CONTENDED] = "contended",
-};
-
 static noinline void warn(const char *call, u32 frame, unsigned int order, enum llfree_status status)
 {
-	const char *why = status < ARRAY_SIZE(refusals) ? refusals[status] : NULL;
-
-	WARN(1, "llfree: %s of frame %u, order %u: %s\n", call, frame, order, why ?: "?");
+	WARN(1, "llfree: %s of frame %u, order %u: %s\n", call, frame, order, why(status));
 }
 
 /* How many frames of a block were held before a take, or free before a give. */
@@ -257,32 +305,61 @@ static bool in_handler(void)
 	return in_hardirq() || in_serving_softirq();
 }
 
+/* Before each call. A handler of softirqs may be interrupted by another one, so it has interrupts off. */
+static struct llfree_caller *enter(struct llfree_zone *zone, unsigned long *flags)
+{
+	struct llfree_caller *callers;
+
+	if (!in_handler()) {
+		preempt_disable();
+		return &zone->callers[smp_processor_id()][TASKS];
+	}
+	local_irq_save(*flags);
+	callers = zone->callers[smp_processor_id()];
+	callers[HANDLERS].counts.inside += READ_ONCE(callers[TASKS].is_inside);
+	return &callers[HANDLERS];
+}
+
+static void leave(unsigned long flags)
+{
+	if (!in_handler())
+		preempt_enable();
+	else
+		local_irq_restore(flags);
+}
+
+/* Whether the library counts more free frames than reclaim leaves, or a free huge frame, which serves each order. */
+static bool seems_free(struct zone *zone, llfree_core *core, unsigned int order)
+{
+	return order ? llfree_free_huge(core) > 0 : llfree_free_frames(core) > high_wmark_pages(zone);
+}
+
 struct page *llfree_take_page(struct zone *zone, unsigned int order)
 {
 	struct llfree_zone *it = zone->llfree;
-	unsigned int tries = 0;
+	struct llfree_caller *caller;
 	enum llfree_status status;
-	struct llfree_cpu *cpu;
+	unsigned int tries = 0;
 	unsigned long flags;
 	u32 frame;
 
 	if (!it || order >= LLFREE_ORDERS)
 		return NULL;
-	local_irq_save(flags);
-	cpu = &it->cpus[smp_processor_id()];
+	caller = enter(it, &flags);
 	do {
-		status = take(it, &cpu->core, order, &frame);
+		status = take(it, caller, order, &frame);
 	} while (status != LLFREE_OK && ++tries < TRIES);
-	cpu->counts.retries += tries;
-	cpu->counts.takes_in_handlers += in_handler();
+	caller->counts.retries += tries;
 	if (status == LLFREE_OK) {
-		cpu->counts.takes[order]++;
-		cpu->counts.wrong_bits += set_bits(it, frame, order, true);
-		__mod_zone_page_state(zone, NR_FREE_PAGES, -(1l << order));
+		caller->counts.takes[order]++;
+		caller->counts.wrong_bits += set_bits(it, frame, order, true);
+		mod_zone_page_state(zone, NR_FREE_PAGES, -(1l << order));
 	} else {
-		cpu->counts.no_block[order]++;
+		caller->counts.no_block[order]++;
+		caller->counts.refused_free += seems_free(zone, &caller->core, order);
 	}
-	local_irq_restore(flags);
+	leave(flags);
+	WARN(status == LLFREE_CLOSED_HANDLE, "llfree: take of order %u: %s\n", order, why(status));
 	return status == LLFREE_OK ? pfn_to_page(it->first + frame) : NULL;
 }
 
@@ -291,26 +368,24 @@ void llfree_give_page(struct page *page, unsigned int order)
 	struct zone *zone = page_zone(page);
 	struct llfree_zone *it = zone->llfree;
 	u32 frame = page_to_pfn(page) - it->first;
+	struct llfree_caller *caller;
 	enum llfree_status status;
-	struct llfree_cpu *cpu;
 	unsigned long flags;
 	unsigned int wrong;
 
-	local_irq_save(flags);
-	cpu = &it->cpus[smp_processor_id()];
+	caller = enter(it, &flags);
 	wrong = set_bits(it, frame, order, false);
-	status = give(it, &cpu->core, frame, order);
-	cpu->counts.wrong_bits += wrong;
-	cpu->counts.gives_in_handlers += in_handler();
+	status = give(it, caller, frame, order);
+	caller->counts.wrong_bits += wrong;
 	if (status == LLFREE_OK) {
-		cpu->counts.gives[order]++;
-		__mod_zone_page_state(zone, NR_FREE_PAGES, 1l << order);
+		caller->counts.gives[order]++;
+		mod_zone_page_state(zone, NR_FREE_PAGES, 1l << order);
 	} else {
-		cpu->counts.wrong++;
+		caller->counts.wrong++;
 		if (!wrong)
 			set_bits(it, frame, order, true);
 	}
-	local_irq_restore(flags);
+	leave(flags);
 	if (unlikely(status != LLFREE_OK))
 		warn("give", frame, order, status);
 }
@@ -319,16 +394,15 @@ void llfree_halve_page(struct page *page, unsigned int order)
 {
 	struct llfree_zone *it = page_zone(page)->llfree;
 	u32 frame = page_to_pfn(page) - it->first;
+	struct llfree_caller *caller;
 	enum llfree_status status;
-	struct llfree_cpu *cpu;
 	unsigned long flags;
 
-	local_irq_save(flags);
-	cpu = &it->cpus[smp_processor_id()];
-	status = split(it, &cpu->core, frame, order);
-	cpu->counts.splits += status == LLFREE_OK;
-	cpu->counts.wrong += status != LLFREE_OK;
-	local_irq_restore(flags);
+	caller = enter(it, &flags);
+	status = split(it, caller, frame, order);
+	caller->counts.splits += status == LLFREE_OK;
+	caller->counts.wrong += status != LLFREE_OK;
+	leave(flags);
 	if (unlikely(status != LLFREE_OK))
 		warn("split", frame, order, status);
 }
@@ -340,23 +414,41 @@ void llfree_split_page(struct page *page, unsigned int order)
 			llfree_halve_page(page + i, from);
 }
 
+static void add_counts(struct llfree_counts *sums, const struct llfree_counts *counts)
+{
+	for (unsigned int i = 0; i < sizeof(*sums) / sizeof(u64); i++)
+		((u64 *)sums)[i] += ((const u64 *)counts)[i];
+}
+
+static u64 sum(const u64 *counts)
+{
+	u64 all = 0;
+
+	for (unsigned int order = 0; order < LLFREE_ORDERS; order++)
+		all += counts[order];
+	return all;
+}
+
 void llfree_read_state(struct zone *zone, struct llfree_state *state)
 {
 	struct llfree_zone *it = zone->llfree;
-	u64 *sums = (u64 *)&state->counts;
-	llfree_core *core;
+	struct llfree_caller *caller;
 	unsigned long flags;
 
-	*state = (struct llfree_state){ .first = it->first, .frames = it->frames,
+	*state = (struct llfree_state){ .first = it->first, .frames = it->frames, .cores = CALLERS * nr_cpu_ids,
 					.form = it->blocks ? "structs" : "numbers" };
-	for (unsigned int cpu = 0; cpu < nr_cpu_ids; cpu++)
-		for (unsigned int i = 0; i < sizeof(state->counts) / sizeof(u64); i++)
-			sums[i] += ((const u64 *)&it->cpus[cpu].counts)[i];
+	for (unsigned int cpu = 0; cpu < nr_cpu_ids; cpu++) {
+		const struct llfree_caller *callers = it->callers[cpu];
+
+		add_counts(&state->counts, &callers[TASKS].counts);
+		add_counts(&state->counts, &callers[HANDLERS].counts);
+		state->takes_in_handlers += sum(callers[HANDLERS].counts.takes);
+		state->gives_in_handlers += sum(callers[HANDLERS].counts.gives);
+	}
 	for (unsigned int order = 0; order < LLFREE_ORDERS; order++)
 		state->given += (s64)(state->counts.gives[order] - state->counts.takes[order]) << order;
-	local_irq_save(flags);
-	core = &it->cpus[smp_processor_id()].core;
-	state->free_frames = llfree_free_frames(core);
-	state->free_huge = llfree_free_huge(core);
-	local_irq_restore(flags);
+	caller = enter(it, &flags);
+	state->free_frames = llfree_free_frames(&caller->core);
+	state->free_huge = llfree_free_huge(&caller->core);
+	leave(flags);
 }

@@ -44,12 +44,15 @@ enum { LLFREE_ORDERS = 10 };
 /* Sums over the CPUs, since the zone was opened. */
 struct llfree_counts {
 	u64 takes[LLFREE_ORDERS], gives[LLFREE_ORDERS], no_block[LLFREE_ORDERS];
-	u64 splits, retries, wrong, wrong_bits, takes_in_handlers, gives_in_handlers;
+	u64 splits, retries, wrong, wrong_bits;
+	u64 refused_free;	/* takes refused though frames seemed free */
+	u64 inside;		/* calls of handlers in the middle of a call of their CPU */
 };
 
 struct llfree_state {
 	unsigned long first;	/* page frame number of frame 0 */
-	u32 frames, free_frames, free_huge;
+	u32 frames, cores, free_frames, free_huge;
+	u64 takes_in_handlers, gives_in_handlers;
 	s64 given;		/* frames given less frames taken */
 	const char *form;
 	struct llfree_counts counts;

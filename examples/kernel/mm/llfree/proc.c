@@ -6,10 +6,12 @@
  *   order                gives a block by another order
  *   used                 writes to a page that was given, and takes pages until it is had again (page_poison=1)
  *   pairs ORDER CPUS MS  takes and gives on threads bound to CPUs, by whatever page allocator Linux has
+ *   handlers ORDER CPUS MS  the same, while a timer of each CPU takes and gives pages, too
  */
 #define pr_fmt(text) "llfree: " text
 #include <linux/completion.h>
 #include <linux/gfp.h>
+#include <linux/hrtimer.h>
 #include <linux/init.h>
 #include <linux/kthread.h>
 #include <linux/ktime.h>
@@ -24,7 +26,7 @@
 #include <linux/vmstat.h>
 #include "pages.h"
 
-enum { HELD = 64, ORDER = 3 };
+enum { HELD = 64, ORDER = 3, TICK = 50000 /* nanoseconds */ };
 
 static void show_row(struct seq_file *file, const char *name, const u64 *counts)
 {
@@ -47,15 +49,16 @@ static void show_zone(struct seq_file *file, struct zone *zone)
 	for (unsigned int order = 0; order < MAX_ORDER; order++)
 		listed += zone->free_area[order].nr_free;
 	seq_printf(file, "zone %s: %u frames from %lu on, %u cores, by %s\n", zone->name, state.frames, state.first,
-		   nr_cpu_ids, state.form);
+		   state.cores, state.form);
 	seq_printf(file, "free: library %u, Linux %lu, given less taken %lld; huge %u; in lists of the zone %lu\n",
 		   state.free_frames, zone_page_state_snapshot(zone, NR_FREE_PAGES), state.given, state.free_huge, listed);
 	show_row(file, "takes", state.counts.takes);
 	show_row(file, "gives", state.counts.gives);
 	show_row(file, "no block", state.counts.no_block);
-	seq_printf(file, "splits %llu, retries %llu, takes in handlers %llu, gives in handlers %llu\n",
-		   state.counts.splits, state.counts.retries, state.counts.takes_in_handlers,
-		   state.counts.gives_in_handlers);
+	seq_printf(file, "splits %llu, retries %llu, refused though free %llu\n", state.counts.splits,
+		   state.counts.retries, state.counts.refused_free);
+	seq_printf(file, "in handlers: takes %llu, gives %llu, inside of a call %llu\n", state.takes_in_handlers,
+		   state.gives_in_handlers, state.counts.inside);
 	seq_printf(file, "wrong %llu, wrong bits %llu\n", state.counts.wrong, state.counts.wrong_bits);
 }
 
@@ -114,38 +117,69 @@ static int use_given(void)
 struct worker {
 	struct completion *start, done;
 	unsigned int order, milliseconds;
-	u64 pairs, refused, time;
+	bool has_timer;
+	struct hrtimer timer;
+	struct page *page;	/* what the timer holds */
+	u64 pairs, refused, handled, time;
 } ____cacheline_aligned_in_smp;
+
+/* Takes a page, and gives it the next time. */
+static enum hrtimer_restart handle(struct hrtimer *timer)
+{
+	struct worker *worker = container_of(timer, struct worker, timer);
+
+	if (worker->page) {
+		__free_page(worker->page);
+		worker->page = NULL;
+	} else {
+		worker->page = alloc_page(GFP_ATOMIC | __GFP_NOWARN);
+	}
+	worker->handled++;
+	hrtimer_forward_now(timer, TICK);
+	return HRTIMER_RESTART;
+}
+
+static void take_and_give(struct worker *worker)
+{
+	struct page *held[HELD];
+
+	for (unsigned int i = 0; i < HELD; i++)
+		held[i] = alloc_pages(GFP_KERNEL | __GFP_NOWARN | __GFP_NORETRY, worker->order);
+	for (unsigned int i = 0; i < HELD; i++) {
+		worker->refused += !held[i];
+		worker->pairs += !!held[i];
+		if (held[i])
+			__free_pages(held[i], worker->order);
+	}
+}
 
 static int work(void *argument)
 {
 	struct worker *worker = argument;
-	struct page *held[HELD];
-	u64 start, now;
+	u64 start;
 
 	wait_for_completion(worker->start);
+	hrtimer_init(&worker->timer, CLOCK_MONOTONIC, HRTIMER_MODE_REL_PINNED_HARD);
+	worker->timer.function = handle;
+	if (worker->has_timer)
+		hrtimer_start(&worker->timer, TICK, HRTIMER_MODE_REL_PINNED_HARD);
 	start = ktime_get_ns();
 	do {
-		for (unsigned int i = 0; i < HELD; i++)
-			held[i] = alloc_pages(GFP_KERNEL | __GFP_NOWARN | __GFP_NORETRY, worker->order);
-		for (unsigned int i = 0; i < HELD; i++) {
-			worker->refused += !held[i];
-			worker->pairs += !!held[i];
-			if (held[i])
-				__free_pages(held[i], worker->order);
-		}
+		take_and_give(worker);
 		cond_resched();
-		now = ktime_get_ns();
-	} while (now - start < worker->milliseconds * 1000000ull);
-	worker->time = now - start;
+		worker->time = ktime_get_ns() - start;
+	} while (worker->time < worker->milliseconds * 1000000ull);
+	hrtimer_cancel(&worker->timer);
+	if (worker->page)
+		__free_page(worker->page);
 	kthread_complete_and_exit(&worker->done, 0);
 }
 
-static int measure(unsigned int order, unsigned int cpus, unsigned int milliseconds)
+static int measure(unsigned int order, unsigned int cpus, unsigned int milliseconds, bool has_timers)
 {
 	struct worker *workers = kcalloc(cpus, sizeof(*workers), GFP_KERNEL);
 	DECLARE_COMPLETION_ONSTACK(start);
-	u64 pairs = 0, refused = 0, time = 0;
+	u64 pairs = 0, refused = 0, handled = 0, time = 0;
 	unsigned int started;
 
 	if (!workers)
@@ -154,7 +188,8 @@ static int measure(unsigned int order, unsigned int cpus, unsigned int milliseco
 		struct worker *worker = &workers[started];
 		struct task_struct *task;
 
-		*worker = (struct worker){ .start = &start, .order = order, .milliseconds = milliseconds };
+		*worker = (struct worker){ .start = &start, .order = order, .milliseconds = milliseconds,
+					   .has_timer = has_timers };
 		init_completion(&worker->done);
 		task = kthread_create_on_cpu(work, worker, started, "pairs/%u");
 		if (IS_ERR(task))
@@ -166,17 +201,19 @@ static int measure(unsigned int order, unsigned int cpus, unsigned int milliseco
 		wait_for_completion(&workers[i].done);
 		pairs += workers[i].pairs;
 		refused += workers[i].refused;
+		handled += workers[i].handled;
 		time += workers[i].time;
 	}
 	kfree(workers);
-	pr_info("order %u, %u CPUs: %llu pairs, %llu refused, %llu ns each\n", order, started, pairs, refused,
-		pairs ? div64_u64(time, pairs) : 0);
-	return started == cpus && pairs ? 0 : -EAGAIN;
+	pr_info("order %u, %u CPUs: %llu pairs, %llu refused, %llu ns each; %llu times in a handler\n", order, started,
+		pairs, refused, pairs ? div64_u64(time, pairs) : 0, handled);
+	return started == cpus && pairs && has_timers == !!handled ? 0 : -EAGAIN;
 }
 
 static int obey(const char *word)
 {
 	unsigned int order, cpus, milliseconds;
+	char what[16];
 
 	if (llfree_is_on() && sysfs_streq(word, "twice"))
 		return give_wrongly(true);
@@ -184,10 +221,10 @@ static int obey(const char *word)
 		return give_wrongly(false);
 	if (sysfs_streq(word, "used"))
 		return use_given();
-	if (sscanf(word, "pairs %u %u %u", &order, &cpus, &milliseconds) != 3 || order >= MAX_ORDER || !cpus ||
-	    cpus > num_online_cpus() || milliseconds > 60000)
+	if (sscanf(word, "%15s %u %u %u", what, &order, &cpus, &milliseconds) != 4 || order >= MAX_ORDER || !cpus ||
+	    cpus > num_online_cpus() || milliseconds > 60000 || (strcmp(what, "pairs") && strcmp(what, "handlers")))
 		return -EINVAL;
-	return measure(order, cpus, milliseconds);
+	return measure(order, cpus, milliseconds, !strcmp(what, "handlers"));
 }
 
 static ssize_t write(struct file *file, const char __user *from, size_t size, loff_t *at)
