@@ -7,7 +7,7 @@ ghost use Rattle.std.specs.Prelude.{◌≤◌};
 pub enum Start {
     /// At a place of the core's own; and the last pass is made even where nothing rested before it.
     Fixed,
-    /// At the tree that it found a block in last; and where nothing rested there is no last pass.
+    /// At the tree where such a pass found a block last; and where nothing rested there is no last pass.
     Last,
 }
 
@@ -15,7 +15,7 @@ pub enum Start {
 #[derive(Clone, Copy, Debug)]
 pub struct Trail {
     start: Start,
-    // The tree in which a pass found a block last.
+    // The tree in which a pass over all trees found a block last.
     last: Option<u32>,
 }
 
@@ -29,7 +29,7 @@ impl Trail {
         self.start == Start::Fixed
     }
 
-    /// Records that a pass found a block in the tree.
+    /// Records that a pass over all trees found a block in the tree.
     pub(crate) fn found(&mut self, tree: u32) {
         if self.start == Start::Last {
             self.last = Some(tree);
