@@ -2,12 +2,15 @@
 
 ghost use Rattle.std.specs.Prelude.{◌≤◌};
 
+use super::trees::NEARLY_FREE;
+
 /// Where the pass of a core over all trees begins.
 #[derive(Clone, Copy, Debug, PartialEq, Eq)]
 pub enum Start {
     /// At a place of the core's own; and the last pass is made even where nothing rested before it.
     Fixed,
-    /// At the tree where such a pass found a block last; and where nothing rested there is no last pass.
+    /// At the tree where such a pass found a block last, unless a tree is nearly free; and where
+    /// nothing rested there is no last pass.
     Last,
 }
 
@@ -36,13 +39,14 @@ impl Trail {
         }
     }
 
-    /// The tree that the pass over all trees begins with; `first` where none is remembered.
-    pub(crate) fn start(&self, first: u32, trees: u32) -> u32
+    /// The tree that the pass over all trees begins with, where none of them counts more than `freest`
+    /// free frames: `first` where one is nearly free, or none is remembered.
+    pub(crate) fn start(&self, first: u32, trees: u32, freest: u32) -> u32
         requires { first ≤ trees }
         ensures { result ≤ trees }
     {
         match self.last {
-            Some(tree) if tree < trees => tree,
+            Some(tree) if tree < trees && freest <= NEARLY_FREE => tree,
             _ => first,
         }
     }
