@@ -6,18 +6,21 @@ use Rattle.std.specs.Vec.{with_item}
 use Rattle.std.proofs.lemmas.Bool.{cases_lt}
 use Rattle.std.proofs.lemmas.List.Sums.{sum_by-cons}
 use Rattle.frame_words.specs.Geometry.{child_frames}
+use Rattle.frame_model.specs.declared.key.Key.{Key}
 use Rattle.frame_model.specs.declared.view.View.{View}
+use Rattle.low_frames.specs.Alone.{FindsOf}
 use Rattle.core_frames.proofs.PlainSums.{range_cons, range_same, range_parts}
 use Rattle.core_frames.specs.declared.shared.allocator.Allocator.{Allocator}
 use Rattle.core_frames.specs.declared.shared.allocator.Core.{Core}
-use Rattle.core_frames.specs.Cores.{memory_of, moves_by}
-use Rattle.frame_zones.specs.FreeCounts.{free_frames_in, free_huge_in, entry_words_in, HasReadEntries, ReadsIn, IsCountIn}
+use Rattle.core_frames.specs.Cores.{memory_of, moves_by, known_by, StepsAlone}
+use Rattle.frame_zones.specs.FreeCounts.{free_frames_in, free_huge_in, entry_words_in, HasReadEntries, ReadsIn, IsCountIn, IsExactIn, MovesForEntries}
 use Rattle.frame_zones.specs.FreeCounts.{frames_among, entry_words_among}
 use Rattle.frame_zones.specs.Uses.{moves_through}
 use Rattle.frame_zones.specs.Zones.{zone_count, zone_at, core_at, AreCoresOf, StayCoresOf}
 use Rattle.frame_zones.specs.declared.zones.Zones.{Zones}
 use Rattle.frame_zones.specs.declared.zones.ZoneCore.{ZoneCore}
-use Rattle.frame_zones.proofs.Placing.{at_any_zone}
+use Rattle.frame_zones.proofs.Placing.{at_any_zone, at_that_zone}
+use Rattle.frame_zones.proofs.Sums.{just_more}
 use Rattle.frame_zones.proofs.Rounds.{stay_on, one_step, some_zone, some_core}
 
 -- the zones below one were looked over, the others were left alone, and so much was counted
@@ -37,6 +40,24 @@ pub counted_here : (count : Allocator → Core → ℕ) (zs : Zones) (c : ZoneCo
 counted_here count zs c z n b x y are within b-is x-is counted = λ a other.
     at_any_zone (λ e _ w. n ≡ count e w) zs c (record c { cores = with_item c.cores z y }) z b a x y other
     within are.parts.count b-is x-is refl counted
+
+-- the moves of that zone are those of all
+pub entries_here : (zs : Zones) (c : ZoneCore) (z : ℕ) (b : Allocator) (x y : Core) → AreCoresOf zs c
+    → z < zone_count zs → b ≡ zone_at zs z b → x ≡ core_at c z x → HasReadEntries b x y
+    → MovesForEntries zs z c (record c { cores = with_item c.cores z y })
+entries_here zs c z b x y are within b-is x-is read = λ a.
+    at_that_zone (λ e. moves_through (record c { cores = with_item c.cores z y }) ≡ moves_through c + entry_words_in e)
+    zs z b a within b-is
+    (just_more (entry_words_in b) zs c (with_item c.cores z y).items z x y are within x-is refl (ap (λ (v : View). v.moves) read))
+
+-- what the words of that zone count where nobody else steps is counted there
+pub exact_here : (count : Key → List ℕ → ℕ) (zs : Zones) (c : ZoneCore) (z n : ℕ) (b : Allocator) (x y : Core)
+    → AreCoresOf zs c → z < zone_count zs → b ≡ zone_at zs z b → x ≡ core_at c z x
+    → (StepsAlone b x → FindsOf (λ words. n ≡ count (memory_of b) words) (known_by x) (known_by y))
+    → IsExactIn count zs z c (record c { cores = with_item c.cores z y }) n
+exact_here count zs c z n b x y are within b-is x-is exact = λ a other.
+    at_any_zone (λ e u w. StepsAlone e u → FindsOf (λ words. n ≡ count (memory_of e) words) (known_by u) (known_by w))
+    zs c (record c { cores = with_item c.cores z y }) z b a x y other within are.parts.count b-is x-is refl exact
 
 -- a sum with its last term
 last_term : (f : ℕ → ℕ) (z : ℕ)

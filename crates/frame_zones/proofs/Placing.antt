@@ -47,6 +47,11 @@ at_any_zone P zs c d z a b x y other within count a-is x-is is holds =
     (a-is ∙ get_or_default zs.zones.items z a b within)
     (at_any (P a) c d z x y other (subst (λ n. z < n) (sym count) within) x-is is holds)
 
+-- what holds of a zone as it was read holds at each default
+pub at_that_zone : (P : Allocator → Type 0) (zs : Zones) (z : ℕ) (a b : Allocator) → z < zone_count zs
+    → a ≡ zone_at zs z a → P a → P (zone_at zs z b)
+at_that_zone P zs z a b within a-is holds = subst P (a-is ∙ get_or_default zs.zones.items z a b within) holds
+
 -- where the written core stays one of its zone, all do
 pub stay_cores : (zs : Zones) (c d : ZoneCore) (z : ℕ) (a : Allocator) (x y : Core)
     → AreCoresOf zs c → z < zone_count zs → a ≡ zone_at zs z a → x ≡ core_at c z x

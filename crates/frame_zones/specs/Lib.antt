@@ -14,4 +14,5 @@ pub mod Closing
 pub mod Reopening
 pub mod Keeping
 pub mod FreeCounts
+pub mod Homes
 pub mod MoveBounds

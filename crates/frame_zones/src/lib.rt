@@ -5,6 +5,7 @@ mod block;
 mod closings;
 mod free_counts;
 mod gives;
+mod homes;
 mod image;
 mod kept_blocks;
 mod last_zone;

@@ -7,8 +7,8 @@ pub loop-zone-preserved : goal.loop-zone-preserved
 loop-zone-preserved c =
     let small : c.from-sum.result < 2 ^ 32 = search rules in
     one_counted free_frames_in c.args.self.now c.loop-zone.zone c.loop-zone.sum c.from-sum.result c.args.core.now c.loop-zone.core
-    c.frames_in.new.core (omega (arith, c.loop-zone-test.true, c.count-zone-end.ensures)) c.loop-zone.invariant
-    c.frames_in.ensures.core c.frames_in.ensures.reads (λ a x. c.from-sum.ensures ∙ c.frames_in.ensures.count a x) small
+    c.free_frames_of.new.core (omega (arith, c.loop-zone-test.true, c.count-zone-end.ensures)) c.loop-zone.invariant
+    c.free_frames_of.ensures.core c.free_frames_of.ensures.reads (λ a x. c.from-sum.ensures ∙ c.free_frames_of.ensures.count a x) small
 
 pub returns-clause-few : goal.returns-clause-few
 returns-clause-few c =
