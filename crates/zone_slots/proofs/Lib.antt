@@ -10,5 +10,5 @@ pub mod Opened
 pub mod FirstZones
 pub mod Rights
 pub mod Reopened
-pub mod Homes
+pub mod KeptHomes
 pub mod Rested

@@ -12,6 +12,7 @@ pub mod Refusals
 pub mod Blocks
 pub mod FrameCalls
 pub mod FreeCounts
+pub mod Homes
 pub mod WrongTakes
 pub mod Openings
 pub mod Reopenings

@@ -12,6 +12,7 @@ mod first_zone;
 mod frame_list;
 mod frames;
 mod free_counts;
+mod homes;
 mod image_parts;
 mod laws;
 mod layouts;

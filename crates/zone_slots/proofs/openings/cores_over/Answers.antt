@@ -7,7 +7,7 @@ use Rattle.frame_zones.specs.Zones.{AreCoresOf}
 use Rattle.frame_zones.specs.declared.zones.ZoneCore.{ZoneCore}
 use Rattle.zone_slots.specs.declared.core_state.CoreState.{CoreState}
 use Rattle.zone_slots.specs.Openings.{Shares, IsUnusedCore, IsUnusedState, parts_from_last}
-use Rattle.zone_slots.proofs.Homes.{order_more}
+use Rattle.zone_slots.proofs.KeptHomes.{order_more}
 use Rattle.zone_slots.proofs.openings.cores_over.Goals as goal
 
 pub state_over-requires : goal.state_over-requires

@@ -9,7 +9,7 @@ use Rattle.zone_slots.specs.Openings.{Shares, parts_from_last}
 use Rattle.zone_slots.specs.Reopenings.{KeepsRests}
 use Rattle.zone_slots.specs.declared.core_state.CoreState.{CoreState}
 use Rattle.zone_slots.specs.declared.memory.Memory.{Memory}
-use Rattle.zone_slots.proofs.Homes.{part_more}
+use Rattle.zone_slots.proofs.KeptHomes.{part_more}
 use Rattle.zone_slots.proofs.reopenings.reopen_cores.Goals as goal
 
 pub returns-clause-cores : goal.returns-clause-cores
