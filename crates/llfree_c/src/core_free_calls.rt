@@ -2,7 +2,7 @@
 
 ghost use Rattle.std.specs.Prelude.{◌*◌, ◌≤◌};
 ghost use Rattle.frame_words.specs.Geometry.{child_frames};
-ghost use Rattle.zone_slots.specs.FreeCounts.{CountsFrames, CountsHuge};
+ghost use Rattle.zone_slots.specs.FreeCounts.{CountsFrames, CountsHuge, CountsFramesOf, CountsHugeOf};
 ghost use Rattle.llfree_c.specs.FreeCounts.{CountsBehind};
 ghost use Rattle.llfree_c.specs.SeenCores.{frames_behind};
 
@@ -34,6 +34,35 @@ pub extern "C" fn llfree_free_huge(handle: &mut CoreHandle, heap: Global) -> u32
         return 0;
     };
     let huge = state.free_huge();
+    *handle = CoreHandle::of(state);
+    huge
+}
+
+/// How many frames are free in the zone of this number, by the same loads of its entries; 0 where there is no
+/// such zone, and where nothing is behind the handle.
+#[unsafe(no_mangle)]
+pub extern "C" fn llfree_free_frames_of(handle: &mut CoreHandle, heap: Global, zone: u32) -> u32
+    ensures { CountsBehind (CountsFramesOf zone) result handle.old.state.value
+        handle.new.state.value }
+{
+    let Some(mut state) = handle.take_out(heap) else {
+        return 0;
+    };
+    let frames = state.free_frames_of(zone);
+    *handle = CoreHandle::of(state);
+    frames
+}
+
+/// How many huge frames are free in the zone of this number, in the same way.
+#[unsafe(no_mangle)]
+pub extern "C" fn llfree_free_huge_of(handle: &mut CoreHandle, heap: Global, zone: u32) -> u32
+    ensures { CountsBehind (CountsHugeOf zone) result handle.old.state.value
+        handle.new.state.value }
+{
+    let Some(mut state) = handle.take_out(heap) else {
+        return 0;
+    };
+    let huge = state.free_huge_of(zone);
     *handle = CoreHandle::of(state);
     huge
 }

@@ -18,6 +18,7 @@ mod frame_calls;
 mod frame_steps;
 mod free_calls;
 mod handle;
+mod home_calls;
 mod images;
 mod laws;
 mod loose;
