@@ -5,6 +5,7 @@ pub mod Zones
 pub mod Frames
 pub mod Stops
 pub mod Uses
+pub mod Fills
 pub mod Faults
 pub mod Laws
 pub mod Splits

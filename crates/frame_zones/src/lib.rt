@@ -3,6 +3,7 @@
 
 mod block;
 mod closings;
+mod fills;
 mod free_counts;
 mod gives;
 mod homes;

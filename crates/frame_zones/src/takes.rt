@@ -99,7 +99,7 @@ impl Zones {
 
 // Where a take begins, of so many zones.
 #[inline(always)]
-fn first_zone(stay: &mut Stay, home: u32, count: u32) -> u32
+pub(crate) fn first_zone(stay: &mut Stay, home: u32, count: u32) -> u32
     requires { home < count }
     ensures { result < count }
 {
