@@ -11,8 +11,9 @@ import statistics
 import sys
 
 CASE = ('benchmark', 'GiB', 'threads', 'order', 'case', 'measure')
-ALLOCATORS = {'llfree': 'by numbers', 'unchecked': 'in structs', 'two': 'two handles', 'lists': 'per-CPU lists',
-              'buddy': 'buddy, mutex', 'bitmap': 'bitmap, mutex', 'malloc': 'malloc'}
+ALLOCATORS = {'llfree': 'by numbers', 'unchecked': 'in structs', 'resting': 'resting frames',
+              'two': 'two handles', 'lists': 'per-CPU lists', 'buddy': 'buddy, mutex', 'bitmap': 'bitmap, mutex',
+              'malloc': 'malloc'}
 FRAMES = 262144  # of a GiB
 
 

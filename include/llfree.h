@@ -317,8 +317,9 @@ enum llfree_status llfree_split_block(llfree_core *handle, llfree_block *block, 
 
 /* Single frames that rest with a core. Beside each core is a list of up to 128 frames, which only the calls below
  * use. A frame that is given rests there, and is the next one that is taken: neither makes a step that other cores
- * see. This is for frames that are soon taken again on the same CPU. (Which frame is taken first is tested, not
- * proved.)
+ * see. Where none rests, a take lets up to 64 of the tree that the core has reserved rest first. This is for frames
+ * that are soon taken again on the same CPU, and for many in a row. (Which frame is taken first, and how many come to
+ * rest, is tested, not proved.)
  *  - A frame that rests counts as held in llfree_free_frames; llfree_resting says how many do. After a kill, or
  *    where a call through the handle never ends, they stay held: at most 128 frames more for each core.
  *  - No other core reaches it. While frames rest, other cores may be told NO_BLOCK, and all cores that a larger
@@ -326,10 +327,11 @@ enum llfree_status llfree_split_block(llfree_core *handle, llfree_block *block, 
  *    kernel an interrupt asks each CPU), above all before it stops for long.
  *  - A closing, with an image or without, first gives back what rests with its core. */
 
-/* Takes a single frame into an empty struct: the one that came to rest with this core last; if none rests, as
- * llfree_take_block takes one of order 0. On failure the struct is unchanged and nothing more is held: NO_BLOCK
- * and CONTENDED as that call, and only if no frame rests with this core; CLOSED_HANDLE; OPEN_HANDLE if the struct
- * holds a block. It works with cores of llfree_open too; such a frame is not on their list. */
+/* Takes a single frame into an empty struct: the one that came to rest with this core last; if none rests, even
+ * after up to 64 of the core's tree could, as llfree_take_block takes one of order 0. On failure the struct is
+ * unchanged and nothing more is held: NO_BLOCK and CONTENDED as that call, and only if no frame rests with this core;
+ * CLOSED_HANDLE; OPEN_HANDLE if the struct holds a block. It works with cores of llfree_open too; such a frame is not
+ * on their list. */
 LLFREE_NODISCARD
 enum llfree_status llfree_take_frame(llfree_core *handle, llfree_block *block);
 

@@ -1,5 +1,5 @@
-/* What is measured, each by the same calls: the library by numbers, with blocks in structs (unchecked), and so with two
- * handles a thread; a buddy allocator with lists for each processor as Linux has it; a buddy allocator and a bitmap,
+/* What is measured, each by the same calls: the library by numbers, with blocks in structs (unchecked), so with single
+ * frames that rest with a core (resting), and with two handles a thread; a buddy allocator with lists for each processor as Linux has it; a buddy allocator and a bitmap,
  * each under a mutex (../c/peers.h, ../c/locked.h); and the C library's malloc.
  * A program's loops take an allocator that is a constant, so that nothing stands between them and what they call. */
 #ifndef ALLOCATORS_H
@@ -19,6 +19,7 @@ struct allocator {
     bool (*take)(struct worker *, uint8_t order, void *block);
     void (*give)(struct worker *, uint8_t order, void *block);
     uint32_t (*frame)(const void *block);
+    void (*settle)(void); /* what rests goes back */
 };
 
 static struct peer *peer;
@@ -95,6 +96,14 @@ INLINE bool structs_take(struct worker *me, uint8_t order, void *block)
     return take_block(&me->core, order, block);
 }
 
+INLINE bool resting_take(struct worker *me, uint8_t order, void *block)
+{
+    llfree_block *to = block;
+
+    to->live = false; /* what stood there has moved */
+    return order > 0 ? take_block(&me->core, order, to) : llfree_take_frame(&me->core, to) == LLFREE_OK;
+}
+
 INLINE bool two_take(struct worker *me, uint8_t order, void *block)
 {
     return take_block(order == MOST_ORDER ? &me->huge_core : &me->core, order, block);
@@ -104,6 +113,17 @@ INLINE void structs_give(struct worker *me, uint8_t order, void *block)
 {
     (void)order;
     want(llfree_give_block(&me->core, block) == LLFREE_OK, "a give was refused");
+}
+
+INLINE void resting_give(struct worker *me, uint8_t order, void *block)
+{
+    want((order > 0 ? llfree_give_block : llfree_give_frame)(&me->core, block) == LLFREE_OK, "a give was refused");
+}
+
+static void all_drain(void)
+{
+    for (uint32_t i = 0; i < threads; i++)
+        llfree_drain(&workers[i].core);
 }
 
 INLINE void two_give(struct worker *me, uint8_t order, void *block)
@@ -179,19 +199,21 @@ INLINE void malloc_give(struct worker *me, uint8_t order, void *block)
 }
 
 static const struct allocator numbers = { "llfree", sizeof(uint32_t), numbers_open, numbers_close, numbers_take,
-                                          numbers_give, number_frame };
+                                          numbers_give, number_frame, nothing };
 static const struct allocator structs = { "unchecked", sizeof(llfree_block), structs_open, numbers_close,
-                                          structs_take, structs_give, struct_frame };
+                                          structs_take, structs_give, struct_frame, nothing };
+static const struct allocator resting = { "resting", sizeof(llfree_block), structs_open, numbers_close,
+                                          resting_take, resting_give, struct_frame, all_drain };
 static const struct allocator two = { "two", sizeof(llfree_block), two_open, two_close, two_take, two_give,
-                                      struct_frame };
+                                      struct_frame, nothing };
 static const struct allocator lists = { "lists", sizeof(uint32_t), lists_open, peers_close, peers_take, peers_give,
-                                        number_frame };
+                                        number_frame, nothing };
 static const struct allocator buddy = { "buddy", sizeof(uint32_t), buddy_open, peers_close, peers_take, peers_give,
-                                        number_frame };
+                                        number_frame, nothing };
 static const struct allocator bitmap = { "bitmap", sizeof(uint32_t), bits_open, nothing, bits_take, bits_give,
-                                         number_frame };
+                                         number_frame, nothing };
 static const struct allocator heap = { "malloc", sizeof(void *), nothing, nothing, malloc_take, malloc_give,
-                                       NULL };
+                                       NULL, nothing };
 
 /* The blocks that a caller keeps of an allocator */
 

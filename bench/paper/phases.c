@@ -105,7 +105,7 @@ INLINE void run(struct worker *me, const struct allocator *allocator)
     give_phase(me, allocator, FOREIGN, (me->place + 1) % threads);
 }
 
-#define EACH(of) of(numbers) of(structs) of(lists) of(buddy) of(bitmap)
+#define EACH(of) of(numbers) of(structs) of(resting) of(lists) of(buddy) of(bitmap)
 RUNS_OVER(EACH)
 
 static void tell_phases(const char *allocator)

@@ -64,6 +64,8 @@ class Calls(unittest.TestCase):
         first, second = llfree.open(4096, cores=2)
         status = llfree.Status
         taken = [first.take_frame() for _ in range(129)]
+        self.assertEqual(first.free_frames(), 4096 - 129 - first.resting())
+        first.drain()
         self.assertEqual((len(set(taken)), first.free_frames(), first.resting()), (129, 4096 - 129, 0))
         self.refused(status.NOT_HELD, first.give, taken[0], 0)
         for frame in taken[:128]:

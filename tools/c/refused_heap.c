@@ -247,7 +247,8 @@ static void no_calls(void)
         for (int i = 0; i < 200; i++)
             CHECK(llfree_give_frame(&cores[2], &rested[i]) == LLFREE_OK);
         CHECK(llfree_resting(&cores[2]) > 0);
-        llfree_drain(&cores[2]);
+        for (int i = 0; i < 3; i++)
+            llfree_drain(&cores[i]);
         CHECK(llfree_plain_take(&memory, order, &frame) == LLFREE_OK);
         CHECK(llfree_plain_split(&memory, frame, order) == LLFREE_OK);
         CHECK(llfree_plain_give(&memory, frame, order - 1) == LLFREE_OK);

@@ -1,5 +1,5 @@
-/* The library for C with single frames that rest with cores: every status, which frame comes next, what goes back and
- * when, what other cores see of it, closings, and frames that are taken here and given there. */
+/* The library for C with single frames that rest with cores: every status, which frame comes next, what comes to rest
+ * and goes back and when, what other cores see of it, closings, and frames that are taken here and given there. */
 #include "check.h"
 #include <pthread.h>
 #include <sched.h>
@@ -53,6 +53,7 @@ static void statuses(void)
     open_two(h, 512);
     CHECK(llfree_give_frame(&h[0], &a) == LLFREE_NOT_HELD && is_empty(&a));
     take(&h[0], &a);
+    llfree_drain(&h[0]);
     uint32_t f = a.frame;
     CHECK(llfree_take_frame(&h[0], &a) == LLFREE_OPEN_HANDLE && a.live && a.frame == f && a.order == 0);
     CHECK(llfree_take_block(&h[1], 3, &b) == LLFREE_OK);
@@ -83,6 +84,8 @@ static void last_first(void)
         take(&h[i == 1], &blocks[i]);
         frames[i] = blocks[i].frame;
     }
+    llfree_drain(&h[0]);
+    llfree_drain(&h[1]);
     for (uint32_t i = 0; i < 3; i++) {
         give(&h[0], &blocks[i]);
         CHECK(llfree_resting(&h[0]) == i + 1 && llfree_free_frames(&h[1]) == FRAMES - 3);
@@ -119,6 +122,7 @@ static void borders(void)
             take(&h[0], &blocks[i]);
             frames[i] = blocks[i].frame;
         }
+        llfree_drain(&h[0]);
         for (uint32_t i = 0; i < count; i++) {
             resting = (resting == MOST ? HALF : resting) + 1;
             give(&h[0], &blocks[i]);
@@ -136,6 +140,41 @@ static void borders(void)
         CHECK(llfree_free_frames(&h[0]) == FRAMES);
         close_two(h);
     }
+}
+
+/* Where none rests others come to rest with one that is taken, at most 64 with it, and count as held. Of a fresh memory
+ * most are had in order, and all of a tree before the next one. */
+static void batches(void)
+{
+    enum { TREE = 8 * 512 };
+    static llfree_block blocks[FRAMES];
+    static unsigned char seen[FRAMES];
+    uint32_t batches = 0, ascend = 0;
+    llfree_core h[2];
+
+    open_two(h, FRAMES);
+    memset(seen, 0, sizeof seen);
+    for (uint32_t i = 0; i < FRAMES; i++) {
+        uint32_t rested = llfree_resting(&h[0]);
+        take(&h[0], &blocks[i]);
+        uint32_t x = blocks[i].frame, rests = llfree_resting(&h[0]);
+        CHECK(x < FRAMES && !seen[x]++ && x / TREE == blocks[i / TREE * TREE].frame / TREE);
+        CHECK(rested > 0 ? rests == rested - 1 : rests < HALF);
+        CHECK(llfree_free_frames(&h[1]) == FRAMES - 1 - i - rests);
+        batches += rested == 0;
+        ascend += i > 0 && x == blocks[i - 1].frame + 1;
+    }
+    CHECK(batches <= FRAMES / HALF + FRAMES / TREE && ascend >= FRAMES / 10 * 9);
+    CHECK(llfree_take_frame(&h[0], &(llfree_block) LLFREE_EMPTY) == LLFREE_NO_BLOCK && llfree_resting(&h[0]) == 0);
+    /* and where no two free frames lie side by side */
+    for (uint32_t i = 0; i < FRAMES; i++)
+        if (blocks[i].frame % 2)
+            CHECK(llfree_give_block(&h[1], &blocks[i]) == LLFREE_OK);
+    for (uint32_t i = 0; i < FRAMES; i++)
+        if (!blocks[i].live)
+            take(&h[1], &blocks[i]);
+    CHECK(llfree_free_frames(&h[0]) == 0 && llfree_resting(&h[1]) == 0);
+    close_two(h);
 }
 
 /* A take is refused only where nothing rests; what rests is hidden from larger takes and from others till a drain. */
@@ -176,6 +215,7 @@ static void closings(void)
     open_two(h, SMALL);
     for (int i = 0; i < HALF; i++)
         take(&h[0], &blocks[i]);
+    llfree_drain(&h[0]);
     for (int i = 0; i < HALF; i++)
         give(&h[1], &blocks[i]);
     CHECK(llfree_free_frames(&h[0]) == SMALL - HALF);
@@ -187,6 +227,7 @@ static void closings(void)
     for (int i = 0; i < HALF; i++)
         take(&h[0], &blocks[i]);
     take(&h[0], &one);
+    llfree_drain(&h[0]);
     for (int i = 0; i < HALF; i++)
         give(&h[0], &blocks[i]);
     CHECK(llfree_close_image(&h[0], words, WORDS - 1) == LLFREE_NO_ROOM && llfree_resting(&h[0]) == HALF);
@@ -214,12 +255,16 @@ static void zones(void)
     CHECK(llfree_open_zones(h, 2, two, 2, NULL, 0) == LLFREE_OK);
     memset(seen, 0, sizeof seen);
     for (uint32_t i = 0; i < ALL; i++) {
-        take(&h[i / 100 % 2], &blocks[i]);
+        int k = i / 100 % 2; /* what rests with one core the other one is refused */
+        if (llfree_take_frame(&h[k], &blocks[i]) != LLFREE_OK)
+            take(&h[!k], &blocks[i]);
         uint32_t x = blocks[i].frame;
         CHECK((1024 <= x && x < 1724) || (4096 <= x && x < 4696));
         CHECK(!seen[x]++ && llfree_give(&h[0], x, 0) == LLFREE_NOT_HELD);
     }
     CHECK(llfree_take_frame(&h[0], &blocks[ALL]) == LLFREE_NO_BLOCK);
+    CHECK(llfree_take_frame(&h[1], &blocks[ALL]) == LLFREE_NO_BLOCK);
+    CHECK(llfree_resting(&h[0]) == 0 && llfree_resting(&h[1]) == 0);
     for (uint32_t i = 0; i < ALL; i++)
         give(&h[i / 7 % 2], &blocks[i]);
     CHECK(llfree_take(&h[0], 0, &f) == LLFREE_OK && llfree_give(&h[1], f, 0) == LLFREE_OK);
@@ -371,6 +416,7 @@ int main(void)
     statuses();
     last_first();
     borders();
+    batches();
     refusals();
     closings();
     zones();

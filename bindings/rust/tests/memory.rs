@@ -190,6 +190,8 @@ fn rest(core: &mut Core<Unchecked>, block: Block<Unchecked>) {
 fn frames_rest_with_a_core() {
     let [mut a, mut b]: [Core<Unchecked>; 2] = Core::open(4_096, &[]).expect("a memory");
     let blocks: Vec<_> = (0..129).map(|_| a.take_frame().expect("a frame")).collect();
+    assert_eq!(a.free_frames() + a.resting(), 4_096 - 129);
+    a.drain();
     let numbers: Vec<_> = blocks.iter().map(Block::frame).collect();
     assert_eq!((numbers.iter().collect::<std::collections::HashSet<_>>().len(), a.resting()), (129, 0));
     for (given, block) in (1..).zip(blocks) {
@@ -236,6 +238,7 @@ fn what_is_refused_of_frames_that_rest() {
 fn a_closing_gives_back_what_rests() {
     let [mut a, mut b]: [Core<Unchecked>; 2] = Core::open(512, &[]).expect("a memory");
     let blocks: Vec<_> = (0..100).map(|_| a.take_frame().expect("a frame")).collect();
+    a.drain();
     for (at, block) in blocks.into_iter().enumerate() {
         rest(if at < 30 { &mut a } else { &mut b }, block);
     }

@@ -13,7 +13,16 @@ use Rattle.llfree_c.proofs.CarriedBlocks.{found_nothing}
 pub none_found : (h : BlockHandle) (s t : CoreState) → RefusesSingle s t NoBlock → RefusesFrameAs h no_block s t
 none_found h s t refused = (
   refused.none_then ∙ sym refused.none,
-  inr (inl (refl, refused.none, record { in_each = found_nothing (zones_of s) 0 s.core t.core refused.why })),
+  inr (inl (
+    refl,
+    refused.none,
+    record {
+      core = refused.core;
+      batch = refused.batch;
+      in_each = found_nothing (zones_of s) 0 refused.core t.core refused.why;
+      lent = refused.lent;
+    },
+  )),
 )
 
 -- an exchange was lost
@@ -23,7 +32,12 @@ one_lost h s t refused = (
   inr (inr (
     refl,
     refused.none,
-    record { looked = refused.why.0.0; lost = refused.why.0.1; lent = refused.why.1 },
+    record {
+      core = refused.core;
+      batch = refused.batch;
+      lost = record { looked = refused.why.0.0; lost = refused.why.0.1; lent = refused.why.1 };
+      lent = refused.lent;
+    },
   )),
 )
 

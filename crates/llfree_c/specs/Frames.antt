@@ -1,11 +1,12 @@
 -- What takes and gives of single frames leave that a struct carries or that rest with a core.
 use Rattle.std.specs.Prelude.{◌≡◌, ◌⊎◌, ℕ, ◌+◌, ◌<◌, [], true, false, length, Option, Some, None}
-use Rattle.zone_slots.specs.Calls.{SharesOne, LosesFor, KeepsCore}
+use Rattle.frame_zones.specs.declared.zones.ZoneCore.{ZoneCore}
+use Rattle.zone_slots.specs.Calls.{zones_of, SharesOne, KeepsCore}
 use Rattle.zone_slots.specs.FrameCalls.{resting_in, KeepsRest, LendsOneMore, LendsOneLess, LendsAsMany}
-use Rattle.zone_slots.specs.Resting.{most_resting}
+use Rattle.zone_slots.specs.Resting.{most_resting, half_resting, BringsNone}
+use Rattle.zone_slots.specs.Uses.{EachLendsSame, FindsNothingAnywhere, LoseSome}
 use Rattle.zone_slots.specs.declared.core_state.CoreState.{CoreState}
 use Rattle.llfree_c.specs.Blocks.{IsOutOfOne}
-use Rattle.llfree_c.specs.RefusedCalls.{HasSearchedAll}
 use Rattle.llfree_c.specs.Status.{no_block, bad_order, not_held, not_closed, contended}
 use Rattle.llfree_c.specs.declared.block_handle.BlockHandle.{BlockHandle}
 
@@ -33,13 +34,27 @@ pub record GivesFrame (frame : ℕ) (s t : CoreState) : Type 0 where
   pub lent : LendsOneLess frame s t
   pub rests : length (resting_in s) < most_resting → ComesToRest s t
 
+-- behind a batch that brought none the core found no single frame in any zone, and lost no exchange
+pub record FindsNoFrame (s t : CoreState) : Type 0 where
+  pub core : ZoneCore
+  pub batch : BringsNone (zones_of s) half_resting s.core core
+  pub in_each : FindsNothingAnywhere (zones_of s) 0 core t.core
+  pub lent : EachLendsSame (zones_of s) s.core t.core
+
+-- behind a batch that brought none the core found no single frame in any zone, and lost an exchange
+pub record LosesFrame (s t : CoreState) : Type 0 where
+  pub core : ZoneCore
+  pub batch : BringsNone (zones_of s) half_resting s.core core
+  pub lost : LoseSome (zones_of s) 0 core t.core
+  pub lent : EachLendsSame (zones_of s) s.core t.core
+
 -- why no single frame was taken into the struct: that carries a block; or none rested, and none was found and no
 -- exchange was lost, or one was
 abbrev pub RefusesFrameAs : (held : BlockHandle) → (status : ℕ) → CoreState → CoreState → Type 0
 RefusesFrameAs held status s t = KeepsRest s t
     × (((status ≡ not_closed) × (held.live ≡ true) × KeepsCore s t)
-    ⊎ ((status ≡ no_block) × (resting_in s ≡ []) × HasSearchedAll 0 s t)
-    ⊎ ((status ≡ contended) × (resting_in s ≡ []) × LosesFor 0 s t))
+    ⊎ ((status ≡ no_block) × (resting_in s ≡ []) × FindsNoFrame s t)
+    ⊎ ((status ≡ contended) × (resting_in s ≡ []) × LosesFrame s t))
 
 -- why what the struct carries was not given as a single frame: it carries none; or a block of a larger order
 abbrev pub KeepsFrameAs : (held : BlockHandle) → (status : ℕ) → CoreState → CoreState → Type 0

@@ -12,3 +12,4 @@ pub mod Rights
 pub mod Reopened
 pub mod KeptHomes
 pub mod Rested
+pub mod Batches

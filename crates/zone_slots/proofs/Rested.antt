@@ -25,9 +25,9 @@ use Rattle.frame_zones.specs.declared.zones.Zones.{Zones}
 use Rattle.frame_zones.specs.declared.zones.ZoneCore.{ZoneCore}
 use Rattle.std.specs.Arc.{arc_value}
 use Rattle.zone_slots.specs.Calls.{zones_of, SharesOne}
-use Rattle.zone_slots.specs.FrameCalls.{resting_in, LendsOneLess, LendsAsMany, TakesSingle, RefusesSingle, StopsWithout}
+use Rattle.zone_slots.specs.FrameCalls.{resting_in, LendsOneLess, LendsAsMany, TakesSingle, RefusesOne, StopsWithout}
 use Rattle.zone_slots.specs.Layouts.{end_of_children}
-use Rattle.zone_slots.specs.Resting.{IsSingleIn, AreSingles, stretch_of, one_in, count_in, lent_besides, GivesBack, HasTakenSingle}
+use Rattle.zone_slots.specs.Resting.{IsSingleIn, AreSingles, stretch_of, one_in, count_in, lent_besides, LendAsManyBesides, HasTakenSingle}
 use Rattle.zone_slots.specs.Rights.{IsRightFrom}
 use Rattle.zone_slots.specs.Uses.{TakesByNumber, GivesByNumber, IsRefusedBlock}
 use Rattle.zone_slots.specs.declared.core_state.CoreState.{CoreState}
@@ -162,7 +162,7 @@ pushed_all zs before after f is all one =
 
 -- the frame that left the list last went back
 pub gives_last : (zs : Zones) (c d : ZoneCore) (before after : List SingleFrame) (f : SingleFrame) → AreCoresOf zs d
-    → AreSingles zs before → before ≡ after ++ f ∷ [] → GivesByNumber zs 0 f.frame c d → GivesBack zs c before d after
+    → AreSingles zs before → before ≡ after ++ f ∷ [] → GivesByNumber zs 0 f.frame c d → LendAsManyBesides zs c before d after
 gives_last zs c d before after f are all is given = record {
   are_cores = are;
   are_singles = (popped_all zs before after f is all).0;
@@ -232,7 +232,7 @@ taken_besides zs c d frames n taken z x within =
     turned l a b = omega (arith, ints)
 
 -- nothing rests any more
-pub all_given : (zs : Zones) (c d : ZoneCore) (before after : List SingleFrame) → after ≡ [] → GivesBack zs c before d after
+pub all_given : (zs : Zones) (c d : ZoneCore) (before after : List SingleFrame) → after ≡ [] → LendAsManyBesides zs c before d after
     → (z : ℕ) (x : Core) → z < zone_count zs → lent_by (core_at d z x) ≡ lent_besides zs c before z x
 all_given zs c d before after none gives z x within =
     let left : (l : ℤ) → l ≡ l -ℤ pos 0 = λ l. omega (arith, ints) in
@@ -259,7 +259,7 @@ taken_single (Err e) s t none none_then same taken = tt
 
 -- or it was refused
 pub refused_single : (r : Result SingleFrame TakeFault) (s t : CoreState) → resting_in s ≡ [] → resting_in t ≡ []
-    → IfErr r (IsRefusedBlock (zones_of s) 0 s.core t.core) → IfErr r (RefusesSingle s t)
+    → IfErr r (IsRefusedBlock (zones_of s) 0 s.core t.core) → IfErr r (RefusesOne s t)
 refused_single (Ok f) s t none none_then refused = tt
 refused_single (Err e) s t none none_then refused = record { why = refused; none = none; none_then = none_then }
 
@@ -271,11 +271,11 @@ none_left n xs ys all is =
 
 -- all that rested went back, and the zones were stopped
 pub stopped_without : (s : CoreState) (m : Memory) (d : ZoneCore) (after : List SingleFrame) (images : List ZoneImage)
-    → m ≡ arc_value s.shared → after ≡ [] → GivesBack m.zones s.core (resting_in s) d after → AreStopped m.zones d images
+    → m ≡ arc_value s.shared → after ≡ [] → LendAsManyBesides m.zones s.core (resting_in s) d after → AreStopped m.zones d images
     → StopsWithout s images
 stopped_without s m d after images is none back stopped =
-    let gives : GivesBack (zones_of s) s.core (resting_in s) d after =
-    subst (λ (k : Memory). GivesBack k.zones s.core (resting_in s) d after) is back in record {
+    let gives : LendAsManyBesides (zones_of s) s.core (resting_in s) d after =
+    subst (λ (k : Memory). LendAsManyBesides k.zones s.core (resting_in s) d after) is back in record {
       core = d;
       rest = record {
         are_cores = gives.are_cores;

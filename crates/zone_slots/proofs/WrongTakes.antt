@@ -13,7 +13,7 @@ use Rattle.frame_zones.proofs.Rounds.{some_zone, some_core}
 use Rattle.frame_zones.specs.Frames.{IsFrameIn, IsInNoZone}
 use Rattle.frame_zones.specs.Zones.{zone_count, zone_at, core_at, first_frame_of}
 use Rattle.frame_zones.specs.declared.zones.Zones.{Zones}
-use Rattle.zone_slots.specs.Calls.{zones_of, TakesFor}
+use Rattle.zone_slots.specs.Calls.{zones_of}
 use Rattle.zone_slots.specs.Uses.{TakesAt, TakesByNumber, FindsNothingAnywhere}
 use Rattle.zone_slots.specs.WrongTakes.{LiesFrom, SkipsTrees, LosesSome, TakenFromBoot, TakenFromAHole, TakenOfTwoZones}
 use Rattle.zone_slots.specs.WrongTakes.{NoneIsUnsought, ContendedForNothing, OrderIsAnother}

@@ -9,7 +9,8 @@ use Rattle.frame_zones.specs.declared.image.ZoneImage.{ZoneImage}
 use Rattle.frame_zones.specs.declared.zones.ZoneCore.{ZoneCore}
 use Rattle.zone_slots.specs.Blocks.{IsRightThrough}
 use Rattle.zone_slots.specs.Calls.{zones_of, KeepsCore, RefusesBlock}
-use Rattle.zone_slots.specs.Resting.{one_in, lent_besides}
+use Rattle.zone_slots.specs.Resting.{half_resting, one_in, lent_besides, BringsNone}
+use Rattle.zone_slots.specs.Uses.{EachLendsSame, IsRefusedBlock}
 use Rattle.zone_slots.specs.declared.core_state.CoreState.{CoreState}
 use Rattle.zone_slots.specs.declared.single_frame.SingleFrame.{SingleFrame}
 
@@ -60,9 +61,19 @@ pub record RestsLast (f : SingleFrame) (s t : CoreState) : Type 0 where
   pub last : resting_in t ≡ resting_in s ++ f ∷ []
   pub core : KeepsCore s t
 
--- why no single frame was taken: none rested, and a take of one through the core was refused
-pub record RefusesSingle (s t : CoreState) (fault : TakeFault) : Type 0 where
+-- none rested, and a take of one through the core was refused
+pub record RefusesOne (s t : CoreState) (fault : TakeFault) : Type 0 where
   pub why : RefusesBlock 0 s t fault
+  pub none : resting_in s ≡ []
+  pub none_then : resting_in t ≡ []
+
+-- why no single frame was taken: none rested, a batch brought none, and a take of one through the core as it was
+-- then was refused; each zone lends as many as before
+pub record RefusesSingle (s t : CoreState) (fault : TakeFault) : Type 0 where
+  pub core : ZoneCore
+  pub batch : BringsNone (zones_of s) half_resting s.core core
+  pub why : IsRefusedBlock (zones_of s) 0 core t.core fault
+  pub lent : EachLendsSame (zones_of s) s.core t.core
   pub none : resting_in s ≡ []
   pub none_then : resting_in t ≡ []
 

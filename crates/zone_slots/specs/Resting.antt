@@ -1,12 +1,15 @@
 -- Single frames that rest with a core, and what each zone lends besides.
-use Rattle.std.specs.Prelude.{◌≡◌, ℕ, ℤ, pos, ◌-ℤ◌, ◌<◌, Bool, ◌&&◌, nat_le, nat_lt, if◌then◌else◌, List, slice_index_or}
+use Rattle.std.specs.Prelude.{◌≡◌, ℕ, ℤ, pos, ◌-ℤ◌, ◌+◌, ◌<◌, Bool, ◌&&◌, nat_le, nat_lt, if◌then◌else◌, List, [], length, slice_index_or}
 use Rattle.std.specs.List.{All, sum_by}
 use Rattle.core_frames.specs.Cores.{lent_by}
 use Rattle.core_frames.specs.declared.shared.allocator.Core.{Core}
+use Rattle.frame_table.specs.declared.block.Block.{Block}
+use Rattle.frame_zones.specs.Fills.{TakesMoreIn}
 use Rattle.frame_zones.specs.Zones.{zone_count, core_at, first_frame_of, AreCoresOf}
 use Rattle.frame_zones.specs.declared.zones.Zones.{Zones}
 use Rattle.frame_zones.specs.declared.zones.ZoneCore.{ZoneCore}
 use Rattle.zone_slots.specs.Layouts.{Stretch, end_of_children}
+use Rattle.zone_slots.specs.Memories.{IsOutOfZone}
 use Rattle.zone_slots.specs.Rights.{IsRightFrom}
 use Rattle.zone_slots.specs.Uses.{TakesByNumber}
 use Rattle.zone_slots.specs.declared.single_frame.SingleFrame.{SingleFrame}
@@ -15,7 +18,7 @@ use Rattle.zone_slots.specs.declared.single_frame.SingleFrame.{SingleFrame}
 abbrev pub most_resting : ℕ
 most_resting = 128
 
--- how many of them go back where there is no place for one more
+-- how many of them go back where there is no place for one more, and come to rest at once at most
 abbrev pub half_resting : ℕ
 half_resting = 64
 
@@ -49,8 +52,8 @@ lent_besides zs c frames z x = lent_by (core_at c z x) -ℤ pos (count_in zs fra
 
 -- the cores are of these zones, all that rests are rights to single frames of them, and each zone lends as many
 -- blocks besides as before
-pub record GivesBack (zs : Zones) (c : ZoneCore) (before : List SingleFrame) (d : ZoneCore) (after : List SingleFrame)
-    : Type 0 where
+pub record LendAsManyBesides (zs : Zones) (c : ZoneCore) (before : List SingleFrame) (d : ZoneCore)
+    (after : List SingleFrame) : Type 0 where
   pub are_cores : AreCoresOf zs d
   pub are_singles : AreSingles zs after
   pub lent : (z : ℕ) (x : Core) → z < zone_count zs → lent_besides zs d after z x ≡ lent_besides zs c before z x
@@ -59,3 +62,21 @@ pub record GivesBack (zs : Zones) (c : ZoneCore) (before : List SingleFrame) (d 
 pub record HasTakenSingle (zs : Zones) (c d : ZoneCore) (f : SingleFrame) : Type 0 where
   pub is_single : IsSingleIn zs f
   pub taken : TakesByNumber zs 0 f.frame c d
+
+-- a single frame is out in the zone
+pub record IsSingleOut (zs : Zones) (z : ℕ) (b : Block) : Type 0 where
+  pub is_out : IsOutOfZone zs z b
+  pub single : b.order ≡ 0
+
+-- n rights to single frames of the zone came to rest
+pub record ComeToRest (zs : Zones) (z n : ℕ) (before after : List SingleFrame) : Type 0 where
+  pub are_singles : AreSingles zs after
+  pub count : length after ≡ length before + n
+  pub here : count_in zs after z ≡ count_in zs before z + n
+  pub others : (k : ℕ) → k < zone_count zs → ¬ (k ≡ z) → count_in zs after k ≡ count_in zs before k
+
+-- a batch through the core brought none: of up to so many single frames of a zone none was taken, and the core of
+-- every other zone is as before
+pub record BringsNone (zs : Zones) (most : ℕ) (c d : ZoneCore) : Type 0 where
+  pub zone : ℕ
+  pub none : TakesMoreIn zs zone 0 most [] [] c d

@@ -3,24 +3,31 @@
 ghost use Rattle.std.specs.Prelude.{◌≡◌, ◌<◌, ◌≤◌, ◌∷◌, ◌++◌, [], length, drop, take, vec_capacity, IfOk, IfErr, IfSome, IfNone};
 
 use crate::single_frame::SingleFrame;
+use frame_table::Block;
 use frame_words::Fault;
 use std::alloc::Global;
 
 /// How many frames rest with a core at most.
 pub(crate) const MOST_RESTING: usize = 128;
 
-/// How many of them go back where there is no place for one more.
+/// How many of them go back where there is no place for one more, and come to rest at once at most.
 pub(crate) const HALF: usize = 64;
 
 // Room for a cache line more: behind what one core writes lies nothing that another one does.
 const ROOM: usize = 144;
 
+const BATCH_ROOM: usize = 72;
+
 /// The frames that rest with a core, the one that came first in front. It has room for all from the start.
 #[derive(Drop)]
 pub struct FrameList {
     pub(crate) list: Vec<SingleFrame>,
+    // Where a batch lies before it rests, empty in between.
+    pub(crate) batch: Vec<Block>,
     pub(crate) ghost few: { length list.items ≤ 128 },
     pub(crate) ghost room: { 128 ≤ vec_capacity list },
+    pub(crate) ghost no_batch: { batch.items ≡ [] },
+    pub(crate) ghost batch_room: { 64 ≤ vec_capacity batch },
 }
 
 impl FrameList {
@@ -29,10 +36,13 @@ impl FrameList {
         ensures empty { IfOk result (λ l. l.list.items ≡ []) }
         ensures err { IfErr result (λ e. e ≡ Fault.NoMemory) }
     {
-        match Vec::with_capacity(alloc, ROOM) {
-            Ok(list) => Ok(FrameList { list }),
-            Err(_) => Err(Fault::NoMemory),
-        }
+        let Ok(list) = Vec::with_capacity(alloc, ROOM) else {
+            return Err(Fault::NoMemory);
+        };
+        let Ok(batch) = Vec::with_capacity(alloc, BATCH_ROOM) else {
+            return Err(Fault::NoMemory);
+        };
+        Ok(FrameList { list, batch })
     }
 
     #[inline(always)]

@@ -1,10 +1,10 @@
 //! Takes and gives of single frames, of which some rest with a core.
 
-ghost use Rattle.std.specs.Prelude.{◌≡◌, ◌<◌, ◌∷◌, ◌++◌, [], drop, length, IfOk, IfErr};
-ghost use Rattle.zone_slots.specs.Calls.{SharesOne, CountsNone, RemembersLast};
-ghost use Rattle.zone_slots.specs.Resting.{most_resting, half_resting};
+ghost use Rattle.std.specs.Prelude.{◌≡◌, ◌<◌, ◌≤◌, ◌∷◌, ◌++◌, [], drop, length, IfOk, IfErr};
+ghost use Rattle.zone_slots.specs.Calls.{zones_of, SharesOne, CountsNone, RemembersLast};
+ghost use Rattle.zone_slots.specs.Resting.{most_resting, half_resting, BringsNone};
 ghost use Rattle.zone_slots.specs.FrameCalls.{resting_in, IsSingleFor, LendsOneLess, LendsAsMany};
-ghost use Rattle.zone_slots.specs.FrameCalls.{TakesSingle, TakesLast, RestsLast, RefusesSingle};
+ghost use Rattle.zone_slots.specs.FrameCalls.{TakesSingle, TakesLast, RestsLast, RefusesOne, RefusesSingle};
 
 use crate::core_state::CoreState;
 use crate::frame_list::{HALF, MOST_RESTING};
@@ -12,14 +12,63 @@ use crate::single_frame::SingleFrame;
 use frame_words::TakeFault;
 
 impl CoreState {
-    /// Takes a single frame: the one that came to rest last, with no step of the allocator; where none rests,
-    /// one as `take_block` takes it.
+    /// Takes a single frame: the one that came to rest last, with no step of the allocator. Where none rests, up
+    /// to 64 of the core's own tree come to rest first; where that has none, one as `take_block` takes it.
     #[inline(always)]
     pub fn take_frame(&mut self) -> Result<SingleFrame, TakeFault>
         ensures shared { SharesOne self.old self.new }
         ensures taken { IfOk result (TakesSingle self.old self.new) }
         ensures refused { IfErr result (RefusesSingle self.old self.new) }
         ensures hits { 0 < length (resting_in self.old) → TakesLast result self.old self.new }
+        ensures counted { CountsNone self.old self.new }
+        ensures last { RemembersLast self.old self.new }
+    {
+        let Some(frame) = self.rest.pop() else {
+            return self.take_anew();
+        };
+        Ok(frame)
+    }
+
+    // Where the own tree had none, others of the tree where one was found come to rest behind it, so that the
+    // next batch begins at a bit word.
+    #[inline(never)]
+    fn take_anew(&mut self) -> Result<SingleFrame, TakeFault>
+        requires { resting_in self.old ≡ [] }
+        ensures shared { SharesOne self.old self.new }
+        ensures taken { IfOk result (TakesSingle self.old self.new) }
+        ensures refused { IfErr result (RefusesSingle self.old self.new) }
+        ensures counted { CountsNone self.old self.new }
+        ensures last { RemembersLast self.old self.new }
+    {
+        self.refill(HALF as u32);
+        let frame = self.take_one()?;
+        if self.resting() == 0 {
+            self.refill(HALF as u32 - 1);
+        }
+        Ok(frame)
+    }
+
+    // Up to so many single frames of the own tree come to rest.
+    fn refill(&mut self, most: u32)
+        requires empty { resting_in self.old ≡ [] }
+        requires few { most ≤ half_resting }
+        ensures shared { SharesOne self.old self.new }
+        ensures lent { LendsAsMany self.old self.new }
+        ensures none { resting_in self.new ≡ []
+            → BringsNone (zones_of self.old) most self.old.core self.new.core }
+        ensures counted { CountsNone self.old self.new }
+        ensures last { RemembersLast self.old self.new }
+    {
+        self.shared
+            .refill(self.first, &mut self.core, &mut self.rest, most);
+    }
+
+    // The frame that came to rest last; where none rests, one as `take_block` takes it.
+    #[inline(always)]
+    fn take_one(&mut self) -> Result<SingleFrame, TakeFault>
+        ensures shared { SharesOne self.old self.new }
+        ensures taken { IfOk result (TakesSingle self.old self.new) }
+        ensures refused { IfErr result (RefusesOne self.old self.new) }
         ensures counted { CountsNone self.old self.new }
         ensures last { RemembersLast self.old self.new }
     {

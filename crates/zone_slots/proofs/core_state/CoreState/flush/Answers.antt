@@ -2,7 +2,7 @@ use Rattle.std.proofs.Common.{◌∙◌, length, length-drop, ◌-ℤ◌, pos, a
 use Rattle.core_frames.specs.Cores.{lent_by}
 use Rattle.frame_zones.specs.Zones.{core_at}
 use Rattle.zone_slots.specs.Calls.{zones_of}
-use Rattle.zone_slots.specs.Resting.{AreSingles, GivesBack}
+use Rattle.zone_slots.specs.Resting.{AreSingles, LendAsManyBesides}
 use Rattle.zone_slots.specs.FrameCalls.{resting_in}
 use Rattle.zone_slots.specs.declared.memory.Memory.{Memory}
 use Rattle.zone_slots.proofs.Rested.{newer, turned_all, turned_count}
@@ -20,8 +20,8 @@ give_last-requires-clause-enough c = omega (arith, c.turn.ensures.len, c.require
 pub returns-clause-lent : goal.returns-clause-lent
 returns-clause-lent c =
     let s = c.args.self.now in
-    let gives : GivesBack (zones_of s) s.core c.turn.new.self.list.items c.give_last.new.core c.give_last.new.rest.list.items =
-    subst (λ (m : Memory). GivesBack m.zones s.core c.turn.new.self.list.items c.give_last.new.core c.give_last.new.rest.list.items)
+    let gives : LendAsManyBesides (zones_of s) s.core c.turn.new.self.list.items c.give_last.new.core c.give_last.new.rest.list.items =
+    subst (λ (m : Memory). LendAsManyBesides m.zones s.core c.turn.new.self.list.items c.give_last.new.core c.give_last.new.rest.list.items)
     c.deref.ensures c.give_last.ensures.gives in
     λ z x within. gives.lent z x within
     ∙ ap (λ n. lent_by (core_at s.core z x) -ℤ pos n)

@@ -6,7 +6,7 @@ use Rattle.zone_slots.specs.Uses.{IsRefusedBlock}
 use Rattle.zone_slots.specs.declared.memory.Memory.{Memory}
 use Rattle.zone_slots.proofs.Rested.{left_all, popped_all, left_rest, taken_single, refused_single}
 use Rattle.zone_slots.proofs.Rights.{right_in}
-use Rattle.zone_slots.proofs.core_state.CoreState.take_frame.Goals as goal
+use Rattle.zone_slots.proofs.core_state.CoreState.take_one.Goals as goal
 
 pub invariant_of-self : goal.invariant_of-self
 invariant_of-self c = record {
