@@ -7,12 +7,12 @@ use Rattle.std.specs.List.{sum_by, range_with_len}
 use Rattle.std.specs.Int.{bit_at}
 use Rattle.std.proofs.lemmas.Bool.{cases_eq}
 use Rattle.std.proofs.lemmas.Bool.Decides.{nat_tests}
-use Rattle.std.proofs.lemmas.Nat.{pow-add, shr-shr}
+use Rattle.std.proofs.lemmas.Nat.{pow-add, pow_pos, shr-shr}
 use Rattle.std.proofs.lemmas.Nat.Bits.{bit_at-lt}
 use Rattle.std.proofs.lemmas.List.{ext_get_or, get_or-set_same, get_or-set_other, length-set}
 use Rattle.std.proofs.lemmas.List.FromFn.{get_or-map-range_with_len, length-map-range_with_len}
 use Rattle.std.proofs.lemmas.List.Sums.{sum_by-cons}
-use Rattle.std.proofs.Math.Nat.{one-le-pow, mul-div_cancel_left, mul-add-div, div-le_self}
+use Rattle.std.proofs.Math.Nat.{mul-div_cancel_left, mul-add-div, div-le_self}
 use Rattle.frame_model.specs.declared.key.Key.{Key}
 use Rattle.frame_model.specs.Key.{child_of, size_of, tree_count, frame_count}
 use Rattle.frame_model.proofs.Zeros.{get_or-zeros}
@@ -32,20 +32,8 @@ use Rattle.frame_image.proofs.RebuildLemmas.{map_same}
 plus_none : (k : ℕ) → 0 + k ≡ k
 plus_none k = omega arith
 
-pow_pos : (o : ℕ) → 0 < 2 ^ o
-pow_pos o = one-le-pow o 2 (omega arith)
-
-times_div : (p k : ℕ) → 0 < p → p * k / p ≡ k
-times_div p k some = mul-div_cancel_left k some
-
-times_add_div : (p k n : ℕ) → 0 < p → (p * k + n) / p ≡ k + n / p
-times_add_div p k n some = mul-add-div some k n
-
 times_add : (p k i : ℕ) → p * (k + i) ≡ p * k + p * i
 times_add p k i = grind arith
-
-div_small : (n p : ℕ) → n / p ≤ n
-div_small n p = div-le_self n p
 
 -- a child in blocks of an order
 parts : (o q : ℕ) → o < 10 → 2 ^ o * (2 ^ (9 - o) * q) ≡ 512 * q
@@ -203,18 +191,22 @@ module _ (key : Key) (ws : List ℕ) where
   unfolding number_at
   number_blocks from n o = refl
 
+  -- so many numbers that are those are all
+  pub numbers_all : (numbers : List ℕ) (from n : ℕ) → length numbers ≡ 12
+      → ((i : ℕ) → i < 12 → get_or numbers i 0 ≡ number_at key ws from n i) → numbers ≡ numbers_of key ws from n
+  unfolding numbers_of
+  numbers_all numbers from n size each =
+      ext_get_or 0 _ _ (size ∙ sym (length-map-range_with_len (number_at key ws from n) 0 12))
+      (λ i h. each i (omega (arith, h, size)) ∙ sym (get_or-map-range_with_len (number_at key ws from n) 0 12 i i 0
+      (omega (arith, h, size)) (omega arith)))
+
   -- the numbers, once the clear blocks of all orders are there
   pub numbers_are : (numbers : List ℕ) (from n free : ℕ) → length numbers ≡ 12
       → ((o : ℕ) → o < 10 → get_or numbers (2 + o) 0 ≡ clear_within key ws o from n)
       → free ≡ get_or numbers 2 0
       → set (set numbers 1 free) 0 (n - free) ≡ numbers_of key ws from n
-  unfolding numbers_of
   numbers_are numbers from n free size counted e =
-      ext_get_or 0 _ _ (length-set (set numbers 1 free) 0 (n - free) ∙ length-set numbers 1 free ∙ size
-      ∙ sym (length-map-range_with_len (number_at key ws from n) 0 12))
-      (λ i h. at i (omega (arith, h, length-set (set numbers 1 free) 0 (n - free), length-set numbers 1 free))
-      ∙ sym (get_or-map-range_with_len (number_at key ws from n) 0 12 i i 0
-      (omega (arith, h, length-set (set numbers 1 free) 0 (n - free), length-set numbers 1 free)) (omega arith)))
+      numbers_all _ from n (length-set (set numbers 1 free) 0 (n - free) ∙ length-set numbers 1 free ∙ size) at
     where
       first : free ≡ clear_within key ws 0 from n
       first = e ∙ counted 0 (omega arith)
@@ -243,8 +235,8 @@ module _ (key : Key) (ws : List ℕ) where
       let p : ℕ = 2 ^ o in
       let f : ℕ → ℕ = λ i. clear_at key ws (block (from + p * i) o) in
       let g : ℕ → ℕ = λ i. clear_at key ws (block (from + m + p * i) o) in
-      let first : m / p ≡ k = ap (λ a. a / p) e ∙ times_div p k (pow_pos o) in
-      let all : (m + n) / p ≡ k + n / p = ap (λ a. (a + n) / p) e ∙ times_add_div p k n (pow_pos o) in
+      let first : m / p ≡ k = ap (λ a. a / p) e ∙ mul-div_cancel_left k (pow_pos o) in
+      let all : (m + n) / p ≡ k + n / p = ap (λ a. (a + n) / p) e ∙ mul-add-div (pow_pos o) k n in
       let place : (i : ℕ) → from + m + p * i ≡ from + p * (k + i) = λ i. omega (arith, e, times_add p k i) in
       omega (
         arith,
@@ -264,7 +256,7 @@ module _ (key : Key) (ws : List ℕ) where
         range_le (λ i. clear_at key ws (block (from + 2 ^ o * i) o)) (λ _. 1) 0 (n / 2 ^ o)
             (λ d l h. one (held_within key ws (from + 2 ^ o * d) (2 ^ o))),
         range_ones 0 (n / 2 ^ o),
-        div_small n (2 ^ o),
+        div-le_self n (2 ^ o),
       )
     where
       one : (h : ℕ) → (if nat_eq h 0 then 1 else 0) ≤ 1
@@ -286,15 +278,6 @@ module _ (key : Key) (ws : List ℕ) where
       omega (arith, held_split from m n, held_within-le from m, held_within-le (from + m) n)
   number_split from m n q (suc (suc o)) e h =
       clear_split o from m n (2 ^ (9 - o) * q) (e ∙ sym (parts o q (omega arith)))
-
-  -- so many numbers that are those are all
-  pub numbers_all : (numbers : List ℕ) (from n : ℕ) → length numbers ≡ 12
-      → ((i : ℕ) → i < 12 → get_or numbers i 0 ≡ number_at key ws from n i) → numbers ≡ numbers_of key ws from n
-  unfolding numbers_of
-  numbers_all numbers from n size each =
-      ext_get_or 0 _ _ (size ∙ sym (length-map-range_with_len (number_at key ws from n) 0 12))
-      (λ i h. each i (omega (arith, h, size)) ∙ sym (get_or-map-range_with_len (number_at key ws from n) 0 12 i i 0
-      (omega (arith, h, size)) (omega arith)))
 
   pub numbers_each : (from n i : ℕ) → i < 12 → get_or (numbers_of key ws from n) i 0 ≡ number_at key ws from n i
   unfolding numbers_of

@@ -10,8 +10,8 @@ ghost use Rattle.frame_core.specs.Image.{key_in};
 ghost use Rattle.frame_model.specs.Report.{clear_at, clear_within};
 ghost use Rattle.frame_image.specs.Tally.{numbers_of};
 
-use crate::recovery::child_bits;
 use frame_core::Image;
+use frame_text::child_bits;
 use frame_words::{CHILD_FRAMES, WORD_FRAMES};
 
 // The numbers of a record: held, free, and the clear blocks of ten orders.

@@ -1,5 +1,5 @@
 //! Images of a memory, rebuilt, reported and opened again. Their texts, and the devices that these come through, are
-//! `frame_text`'s; this crate names its public items too, but for records and numbers.
+//! `frame_text`'s; this crate names its public items too, but for records, numbers and bit words.
 #![tactic(auto)]
 
 mod child_numbers;

@@ -7,10 +7,10 @@ ghost use Rattle.frame_model.specs.Words.{huge_of};
 ghost use Rattle.frame_core.specs.Image.{key_in, with_child, IsImage};
 ghost use Rattle.frame_model.specs.Rebuilt.{IsRebuilt, rebuilt_free};
 ghost use Rattle.frame_table.specs.Openings.{unsealed_key};
-ghost use Rattle.frame_text.specs.ImageText.{child_bits as the_child_bits};
 ghost use Rattle.frame_image.specs.Rebuilding.{IsRebuiltBelow, RebuildsAny, RebuildsJust, rebuilt_child};
 
 use frame_core::Image;
+use frame_text::child_bits;
 use frame_words::{CHILD_FRAMES, Fault};
 use std::alloc::Global;
 
@@ -66,18 +66,6 @@ fn rebuild_child(rebuilt: &mut Image, image: &Image, child: u32)
         let words = child_bits(image, child);
         rebuilt.set_child(child, CHILD_FRAMES - image.set_frames(child), false, words);
     }
-}
-
-// The bit words of a child.
-pub(crate) fn child_bits(image: &Image, child: u32) -> [u64; 8]
-    requires { child < image.now.geometry.children }
-    ensures { result ≡ the_child_bits (key_in image.now) image.now.words child }
-{
-    let mut bits = [0; 8];
-    for word in 0..8u32 {
-        bits[word as usize] = image.word(child, word);
-    }
-    bits
 }
 
 // Writes what all trees count.

@@ -1,6 +1,5 @@
 pub mod Reading
-pub mod HexLemmas
-pub mod FiveFields
+pub mod BitWordLemmas
 pub mod Ranges
 pub mod PastEnd
 pub mod PartLemmas

@@ -1,6 +1,6 @@
 -- What is written of an image is read back as that image.
-use Rattle.std.proofs.Common.{◌≡◌, ◌∙◌, ⊎_elim, ℕ, zero, suc, ◌+◌, ◌-◌, ◌*◌, ◌/◌, ◌%◌, ◌^◌, ◌<◌}
-use Rattle.std.proofs.Common.{◌≤◌, List, [], length, map, true, false, Option, Some, None, refl, ap}
+use Rattle.std.proofs.Common.{◌≡◌, ◌∙◌, ⊎_elim, ℕ, ◌+◌, ◌-◌, ◌*◌, ◌/◌, ◌%◌, ◌^◌, ◌<◌}
+use Rattle.std.proofs.Common.{List, [], length, map, true, false, Option, Some, None, refl, ap}
 use Rattle.std.proofs.Common.{arith}
 use Rattle.std.specs.Prelude.{nat_eq, nat_lt, nat_le, ◌==◌, codes, decimal, slice_index}
 use Rattle.std.specs.List.{range_with_len}
@@ -15,33 +15,28 @@ use Rattle.frame_model.specs.declared.key.Key.{Key}
 use Rattle.frame_model.specs.Key.{tree_count, size_of, AreSizes}
 use Rattle.frame_model.specs.Words.{free_of, huge_of, tree_free_of, reserved_of, rest_of, bit_word_of, bit_of, with_tree, with_local}
 use Rattle.frame_core.specs.Image.{IsImage, FitsTree, with_child}
-use Rattle.frame_text.specs.Hex.{words_in, hex_text}
+use Rattle.frame_text.specs.BitWords.{words_in, hex_text}
 use Rattle.frame_text.specs.ImageText.{frames_in, keeps_end, all_set_from, child_said, child_bits}
 use Rattle.frame_text.specs.ImageText.{child_with, child_row, is_named, fields_with, part_with}
 use Rattle.frame_text.specs.ImageText.{tree_said, tree_with, tree_row, reservation_said, rest_said}
 use Rattle.frame_text.specs.ImageText.{core_with, rest_row, core_row}
-use Rattle.frame_text.proofs.HexLemmas.{AreWords, words_in-hex_text}
+use Rattle.frame_text.proofs.BitWordLemmas.{words_in-hex_text}
 use Rattle.frame_text.proofs.NumberLemmas.{number_below-decimal, spells-decimal, flag_said-decimal, flag_of_test}
 use Rattle.frame_text.proofs.Ranges.{set_from}
 
 -- Children.
-
--- bit words are words
-are_words : (f : ℕ → ℕ) (a n : ℕ) → ((w : ℕ) → a ≤ w → w < a + n → f w < 2 ^ 64) → AreWords (map f (range_with_len a n))
-are_words f a zero all = tt
-are_words f a (suc n) all = (all a (omega arith) (omega arith), are_words f (a + 1) n (λ w l h. all w (omega arith) (omega arith)))
 
 module _ (key : Key) (ws : List ℕ) (image : IsImage key ws) (sizes : AreSizes key) where
   module _ (c : ℕ) (h : c < key.children) where
     bits : List ℕ
     bits = child_bits key ws c
 
-    child_words_read : words_in 8 (hex_text (child_bits key ws c)) ≡ Some (child_bits key ws c)
+    child_words_read : words_in (hex_text (child_bits key ws c)) ≡ Some (child_bits key ws c)
     unfolding child_bits
     child_words_read =
-        let all = are_words (bit_word_of key ws) (8 * c) 8 (λ w l q. image.in_range.bits w (omega arith)) in
-        let read = words_in-hex_text (map (bit_word_of key ws) (range_with_len (8 * c) 8)) all in
-        rw (length-map-range_with_len (bit_word_of key ws) (8 * c) 8) at read
+        words_in-hex_text _ (length-map-range_with_len (bit_word_of key ws) (8 * c) 8)
+        (λ k few. rw (get_or-map-range_with_len (bit_word_of key ws) (8 * c) 8 k (8 * c + k) 0 few refl)
+        (image.in_range.bits (8 * c + k) (omega arith)))
 
     bit_here : (d : ℕ) → d < 512 → bit_at (slice_index (child_bits key ws c) (d / 64)) (d % 64) ≡ bit_of key ws (512 * c + d)
     unfolding child_bits bit_of

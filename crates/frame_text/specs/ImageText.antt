@@ -16,7 +16,7 @@ use Rattle.frame_model.specs.Words.{with_tree, with_local}
 use Rattle.frame_core.specs.Image.{Contents, key_in, with_child, blank_words}
 use Rattle.frame_text.specs.Numbers.{is_number, decimal_value, number_below}
 use Rattle.frame_text.specs.Records.{after_record, records_of}
-use Rattle.frame_text.specs.Hex.{words_in, hex_text}
+use Rattle.frame_text.specs.BitWords.{words_in, hex_text}
 
 -- an image as plain data: the key of its memory, and its words
 pub record Drawn : Type 0 where
@@ -60,7 +60,7 @@ unfoldable pub child_said : ℕ → List ℕ → List ℕ → List ℕ → Optio
 child_said frames free huge bits =
     option_and_then (λ n. option_and_then (λ up. option_and_then (λ words.
     if keeps_end frames up words then Some (n, up, words) else None)
-    (words_in 8 bits)) (flag_said huge)) (number_below 513 free)
+    (words_in bits)) (flag_said huge)) (number_below 513 free)
 
 -- what is said of a tree of this size: how many frames are free, and whether it is reserved
 unfoldable pub tree_said : ℕ → List ℕ → List ℕ → Option (ℕ × Bool)

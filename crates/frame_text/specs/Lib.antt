@@ -1,5 +1,5 @@
 pub mod Devices
 pub mod Numbers
 pub mod Records
-pub mod Hex
+pub mod BitWords
 pub mod ImageText

@@ -10,7 +10,7 @@ ghost use Rattle.std.specs.Prelude.{IfSome, IfNone, Some, None, length, ◌≢�
 ghost use Rattle.std.specs.Bool.{OnTrue, OnFalse};
 ghost use Rattle.frame_words.specs.Geometry.{child_frames, tree_frames};
 
-use crate::hex::words_in;
+use crate::bit_words::words_in;
 use crate::numbers::number_below;
 use csv::ByteRecord;
 use frame_core::Image;

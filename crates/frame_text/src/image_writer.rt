@@ -9,24 +9,20 @@ ghost use Rattle.csv.specs.Writing.{default_writer, row_text};
 ghost use Rattle.frame_words.specs.Words.{flag};
 ghost use Rattle.frame_model.specs.Key.{key_of, tree_count};
 ghost use Rattle.frame_core.specs.Image.{key_in};
-ghost use Rattle.frame_text.specs.Hex.{hex_text};
 ghost use Rattle.frame_text.specs.ImageText.{drawn, image_of, picture_of, text_of};
-ghost use Rattle.frame_text.specs.ImageText.{child_bits, rest_row};
+ghost use Rattle.frame_text.specs.ImageText.{rest_row};
 ghost use Rattle.frame_text.specs.ImageText.{header_row, child_row, tree_row, core_row};
 ghost use Rattle.frame_text.specs.ImageText.{child_rows, tree_rows, core_rows};
 
+use crate::bit_words::{child_bits, digits_of};
 use crate::devices::write_out;
-use crate::hex::push_word;
 use crate::record_writer::RecordWriter;
 use crate::watched::Watched;
 use frame_core::Image;
-use frame_words::{CHILD_FRAMES, CHILD_WORDS, Fault, Geometry};
+use frame_words::{CHILD_FRAMES, Fault, Geometry};
 use itoa::Buffer;
 use std::alloc::Global;
 use std::io::Write;
-
-// The digits of the words of a child.
-const DIGITS: usize = 128;
 
 /// The text of an image. It reads back as the same image.
 pub fn image_text(alloc: Global, image: &Image) -> Result<Vec<u8>, Fault>
@@ -75,7 +71,7 @@ fn all_records(alloc: Global, geometry: Geometry, image: &Image) -> Result<Vec<u
 {
     let mut writer = RecordWriter::new(alloc);
     writer.add_header(geometry)?;
-    writer.add_children(alloc, image)?;
+    writer.add_children(image)?;
     writer.add_trees(image)?;
     writer.add_cores(image)?;
     writer.finish()
@@ -102,27 +98,23 @@ impl RecordWriter {
     }
 
     // Adds the records of all children.
-    fn add_children(&mut self, alloc: Global, image: &Image) -> Result<(), Fault>
+    fn add_children(&mut self, image: &Image) -> Result<(), Fault>
         ensures text { OnOk result (self.new ≡ self.old
             ++ text_of (child_rows (key_in image.now) image.now.words
             (range_with_len 0 image.now.geometry.children))) }
         ensures fault { IfErr result (λ e. e ≡ Fault.NoMemory) }
     {
         let geometry = image.geometry();
-        let mut digits = Vec::with_capacity(alloc, DIGITS)?;
         for child in 0..geometry.children {
-            digits.clear();
-            push_child(&mut digits, image, child)?;
-            self.add_child(image, child, digits.as_slice())?;
+            self.add_child(image, child)?;
         }
         Ok(())
     }
 
-    // Adds the record of a child, whose bit words have these digits.
+    // Adds the record of a child.
     #[tactic(auto, unfolding(crate::specs::ImageText::child_row))]
-    fn add_child(&mut self, image: &Image, child: u32, digits: &[u8]) -> Result<(), Fault>
-        requires child { child < image.now.geometry.children }
-        requires digits { digits.now ≡ hex_text (child_bits (key_in image.now) image.now.words child) }
+    fn add_child(&mut self, image: &Image, child: u32) -> Result<(), Fault>
+        requires { child < image.now.geometry.children }
         ensures text { OnOk result (self.new ≡ self.old
             ++ row_text default_writer (child_row (key_in image.now) image.now.words child)) }
         ensures fault { IfErr result (λ e. e ≡ Fault.NoMemory) }
@@ -131,7 +123,8 @@ impl RecordWriter {
         let number = number_text.format(child).as_bytes();
         let free = free_text.format(image.free(child)).as_bytes();
         let huge = flag_text(image.huge(child));
-        self.add(&[b"child", number, free, &huge, digits])
+        let digits = digits_of(&child_bits(image, child));
+        self.add(&[b"child", number, free, &huge, &digits])
     }
 
     // Adds the records of all trees.
@@ -196,21 +189,6 @@ impl RecordWriter {
             None => self.add(&[b"core", number, b"", b"", b""]),
         }
     }
-}
-
-// Writes the digits of the bit words of a child.
-#[tactic(auto, unfolding(crate::specs::Hex::hex_text))]
-fn push_child(digits: &mut Vec<u8>, image: &Image, child: u32) -> Result<(), Fault>
-    requires child { child < image.now.geometry.children }
-    requires empty { digits.old.items ≡ [] }
-    ensures text { OnOk result
-        (digits.new.items ≡ hex_text (child_bits (key_in image.now) image.now.words child)) }
-    ensures fault { IfErr result (λ e. e ≡ Fault.NoMemory) }
-{
-    for word in 0..CHILD_WORDS {
-        push_word(digits, image.word(child, word))?;
-    }
-    Ok(())
 }
 
 // A flag as its digit.

@@ -2,9 +2,9 @@
 //! remember a failure, records and numbers.
 #![tactic(auto)]
 
+mod bit_words;
 mod devices;
 mod fields;
-mod hex;
 mod image_header;
 mod image_parts;
 mod image_reader;
@@ -14,6 +14,7 @@ mod record_reader;
 mod record_writer;
 mod watched;
 
+pub use bit_words::child_bits;
 pub use devices::{MOST_BYTES, read_all, write_out};
 pub use fields::field;
 pub use image_reader::{image_of, read_image};

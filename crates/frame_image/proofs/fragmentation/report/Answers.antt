@@ -23,20 +23,10 @@ add-requires c =
     let image = c.args.image.now in
     let key : Key = key_in image in
     let tree : ℕ = c.loop-tree.tree in
-    let T : Geometry → ℕ = λ g. tree_count (key_of g) in
-    let C : Geometry → ℕ = λ g. g.children in
-    let there : tree < tree_count key = omega (
-      arith,
-      c.loop-tree-test.true,
-      c.trees-tree-end.ensures.value,
-      ap T
-          c.geometry-geometry.ensures.value,
-    ) in
-    let few : image.geometry.children ≤ 4096 = omega (
-      arith,
-      ap C c.geometry-geometry.ensures.value,
-      c.geometry-geometry.result.few_children,
-    ) in
+    let trees = ap (λ (g : Geometry). tree_count (key_of g)) c.geometry-geometry.ensures.value in
+    let children = ap (λ (g : Geometry). g.children) c.geometry-geometry.ensures.value in
+    let there : tree < tree_count key = omega (arith, c.loop-tree-test.true, c.trees-tree-end.ensures.value, trees) in
+    let few : image.geometry.children ≤ 4096 = omega (arith, children, c.geometry-geometry.result.few_children) in
     let next = c.count_tree-numbers.ensures ∙ tree_is key image.words tree in
     numbers_fit key image.words 0 (512 * min (8 * tree) key.children) (size_of key tree) (512 * min (8 * (tree + 1)) key.children)
     (4096 * tree) (min (8 * tree) key.children)
@@ -48,14 +38,8 @@ loop-tree-preserved c =
     let image = c.args.image.now in
     let key : Key = key_in image in
     let tree : ℕ = c.loop-tree.tree in
-    let T : Geometry → ℕ = λ g. tree_count (key_of g) in
-    let there : tree < tree_count key = omega (
-      arith,
-      c.loop-tree-test.true,
-      c.trees-tree-end.ensures.value,
-      ap T
-          c.geometry-geometry.ensures.value,
-    ) in
+    let trees = ap (λ (g : Geometry). tree_count (key_of g)) c.geometry-geometry.ensures.value in
+    let there : tree < tree_count key = omega (arith, c.loop-tree-test.true, c.trees-tree-end.ensures.value, trees) in
     let next = c.count_tree-numbers.ensures ∙ tree_is key image.words tree in
     let rows : List (List ℕ) = map (tree_numbers key image.words) (range_with_len 0 tree) in
     let place : 0 + tree ≡ tree = omega arith in
@@ -77,16 +61,9 @@ pub returns-clause-counted : goal.returns-clause-counted
 returns-clause-counted c =
     let image = c.args.image.now in
     let key : Key = key_in image in
-    let T : Geometry → ℕ = λ g. tree_count (key_of g) in
+    let trees = ap (λ (g : Geometry). tree_count (key_of g)) c.geometry-geometry.ensures.value in
     let all : c.loop-tree.tree ≡ tree_count key =
-    omega (
-      arith,
-      c.loop-tree-test.false,
-      c.loop-tree.auto.tree-end,
-      c.trees-tree-end.ensures.value,
-      ap T
-          c.geometry-geometry.ensures.value,
-    ) in
+    omega (arith, c.loop-tree-test.false, c.loop-tree.auto.tree-end, c.trees-tree-end.ensures.value, trees) in
     c.of.ensures
     ∙ tally_is key image.words c.loop-tree.trees.items c.loop-tree.all (512 * min (8 * c.loop-tree.tree) key.children) (omega (arith, all))
     (c.loop-tree.invariant.trees ∙ ap (λ n. map (tree_numbers key image.words) (range_with_len 0 n)) all) c.loop-tree.invariant.size

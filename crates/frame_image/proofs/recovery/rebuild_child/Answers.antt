@@ -38,12 +38,8 @@ unfolding frames_of
 set_child-requires-clause-whole c _ =
     let image = c.args.image.now in
     let up : huge_of image.words c.args.child ≡ 1 = sym c.huge.ensures ∙ ap flag c.if-huge.true in
-    omega (
-      arith,
-      ap frames_of c.requires.geometry,
-      huge_whole (key_in image) image.words c.requires.in_range c.args.child
-          c.requires.child (λ e. omega (arith, up, e)),
-    )
+    let whole = huge_whole (key_in image) image.words c.requires.in_range c.args.child c.requires.child (λ e. omega (arith, up, e)) in
+    omega (arith, ap frames_of c.requires.geometry, whole)
 
 pub set_child-requires-clause-past_end : goal.set_child-requires-clause-past_end
 set_child-requires-clause-past_end c w few =

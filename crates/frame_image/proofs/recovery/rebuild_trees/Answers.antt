@@ -18,18 +18,12 @@ loop-tree-preserved c =
     let t : ℕ = c.loop-tree.tree in
     let free : ℕ = c.free_frames-free.result in
     let inv = c.loop-tree.invariant in
-    let T : Geometry → ℕ = λ g. tree_count (key_of g) in
+    let trees = ap (λ (g : Geometry). tree_count (key_of g)) c.geometry-geometry.ensures.value in
     let S : Geometry → ℕ = λ g. size_of (key_of g) t in
     let F : Geometry → ℕ = λ g. sum_by (free_of ws) (children_of (key_of g) t) in
     let W : Contents → List ℕ = λ i. i.words in
     let G : Contents → Geometry = λ i. i.geometry in
-    let there : t < tree_count key = omega (
-      arith,
-      c.loop-tree-test.true,
-      c.trees-tree-end.ensures.value,
-      ap T
-          c.geometry-geometry.ensures.value,
-    ) in
+    let there : t < tree_count key = omega (arith, c.loop-tree-test.true, c.trees-tree-end.ensures.value, trees) in
     let few : free ≤ size_of key t = omega (arith, c.free_frames-free.ensures.limit, ap S inv.geometry) in
     let sum : free ≡ sum_by (free_of ws) (children_of key t) = c.free_frames-free.ensures.value ∙ ap F inv.geometry in
     let more = tree_more key old c.geometry-geometry.ensures.in_range ws t free there inv.below sum few in

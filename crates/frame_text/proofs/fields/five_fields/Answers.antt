@@ -1,5 +1,5 @@
 use Rattle.std.proofs.Common.{rules}
-use Rattle.frame_text.proofs.FiveFields.{all_of_five}
+use Rattle.frame_text.proofs.PartLemmas.{all_of_five}
 use Rattle.frame_text.proofs.fields.five_fields.Goals as goal
 
 pub returns-clause-five : goal.returns-clause-five

@@ -1,5 +1,5 @@
 use Rattle.std.proofs.Common.{◌∙◌, sym}
-use Rattle.frame_text.proofs.FiveFields.{header_of_five, header_of_other}
+use Rattle.frame_text.proofs.PartLemmas.{header_of_five, header_of_other}
 use Rattle.frame_text.proofs.image_header.header_said.Goals as goal
 
 pub returns-in-Some : goal.returns-in-Some

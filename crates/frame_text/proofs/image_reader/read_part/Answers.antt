@@ -1,4 +1,4 @@
-use Rattle.frame_text.proofs.FiveFields.{part_of_five, part_of_other}
+use Rattle.frame_text.proofs.PartLemmas.{part_of_five, part_of_other}
 use Rattle.frame_text.proofs.image_reader.read_part.Goals as goal
 
 pub returns-in-Some-clause-read : goal.returns-in-Some-clause-read
