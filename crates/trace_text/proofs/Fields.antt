@@ -8,19 +8,11 @@ pub all_of_four : (xs : List (List ℕ)) (a b c d : List ℕ) → length xs ≡ 
     → Some a ≡ field_at xs 0 → Some b ≡ field_at xs 1 → Some c ≡ field_at xs 2 → Some d ≡ field_at xs 3
     → xs ≡ a ∷ b ∷ c ∷ d ∷ []
 unfolding field_at
-all_of_four [] a b c d four p q r s = absurd (omega arith)
-all_of_four (x ∷ []) a b c d four p q r s = absurd (omega arith)
-all_of_four (x ∷ y ∷ []) a b c d four p q r s = absurd (omega arith)
-all_of_four (x ∷ y ∷ z ∷ []) a b c d four p q r s = absurd (omega arith)
 all_of_four (x ∷ y ∷ z ∷ w ∷ []) a b c d four p q r s = cc
-all_of_four (x ∷ y ∷ z ∷ w ∷ v ∷ others) a b c d four p q r s = absurd (omega arith)
+all_of_four _ a b c d four p q r s = absurd (omega arith)
 
 -- a row of another length is no record
 pub line_of_other : (cores : ℕ) (xs : List (List ℕ)) → length xs ≢ 4 → None ≡ line_of cores xs
 unfolding line_of
-line_of_other cores [] h = refl
-line_of_other cores (a ∷ []) h = refl
-line_of_other cores (a ∷ b ∷ []) h = refl
-line_of_other cores (a ∷ b ∷ c ∷ []) h = refl
 line_of_other cores (a ∷ b ∷ c ∷ d ∷ []) h = absurd (h refl)
-line_of_other cores (a ∷ b ∷ c ∷ d ∷ e ∷ others) h = refl
+line_of_other cores _ h = refl

@@ -16,7 +16,8 @@ use Rattle.trace_text.specs.Parts.{goes_behind, line_feed}
 use Rattle.trace_text.specs.Trace.{core_count, most_records}
 use Rattle.trace_text.specs.TraceText.{trace_of}
 use Rattle.trace_text.proofs.Cutting.{records_apart}
-use Rattle.trace_text.proofs.Joining.{core_count_both, read_both}
+use Rattle.trace_text.proofs.Behind.{core_count_both}
+use Rattle.trace_text.proofs.Joining.{read_both}
 
 -- what was read of nothing is nothing
 nothing_read : (cores : ℕ) (lines : List Line) → trace_of cores [] ≡ Ok lines → lines ≡ []

@@ -1,6 +1,6 @@
 -- The records that rows make, one behind the other.
 use Rattle.std.proofs.Common.{◌≡◌, ◌+◌, ◌-◌, ◌<◌, ◌≤◌, ◌∙◌, ℕ, List, [], ◌∷◌, ◌++◌, Bool, true, false}
-use Rattle.std.proofs.Common.{Option, Some, None, Result, Ok, ap, arith, add-zero, length, length-append, refl, sym, max}
+use Rattle.std.proofs.Common.{Option, Some, None, Result, Ok, ap, arith, add-zero, length, length-append, refl, sym}
 use Rattle.std.specs.Prelude.{if◌then◌else◌, nat_lt, option_and_then, option_map}
 use Rattle.std.proofs.lemmas.Bool.Decides.{nat_tests}
 use Rattle.std.proofs.Math.Seq.{get_or-append_seam}
@@ -9,7 +9,7 @@ use Rattle.std.proofs.lemmas.Option.{slice_get-get_or}
 use Rattle.frame_text.specs.Records.{after_record, read_records}
 use Rattle.trace_text.specs.declared.line.Line.{Line}
 use Rattle.trace_text.specs.Parts.{goes_behind}
-use Rattle.trace_text.specs.Trace.{core_count, most_records}
+use Rattle.trace_text.specs.Trace.{most_records}
 use Rattle.trace_text.specs.TraceText.{last_line, line_after, line_of, lines_with, may_follow}
 
 -- where a record was taken, what follows made the value
@@ -156,9 +156,3 @@ pub read_both : (cores : ℕ) (front behind : List Line) (rows more : List (List
 read_both cores front behind rows more first second goes few =
     read_front (lines_with cores) 1 [] front rows more first
     ∙ read_anew cores 1 (1 + length rows) front behind more goes few second
-
--- the cores that they name
-pub core_count_both : (front behind : List Line) → core_count (front ++ behind) ≡ max (core_count front) (core_count behind)
-unfolding core_count
-core_count_both [] behind = omega arith
-core_count_both (line ∷ front) behind = omega (arith, core_count_both front behind)

@@ -1,9 +1,7 @@
 pub mod Fields
-pub mod Cores
-pub mod Ranges
+pub mod Behind
 pub mod Parsing
 pub mod Cutting
 pub mod Joining
 pub mod InParts
-pub mod AnswerRows
 pub mod Spelling

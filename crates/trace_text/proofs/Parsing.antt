@@ -5,8 +5,7 @@ use Rattle.frame_text.specs.Records.{read_records, records_of}
 use Rattle.trace_text.specs.Trace.{core_count, cores_in, most_records, range_in, ranges_in}
 use Rattle.trace_text.specs.declared.line.Line.{Line}
 use Rattle.trace_text.specs.TraceText.{IsReadTo, line_after, lines_with, trace_of}
-use Rattle.trace_text.proofs.Cores.{core_count_more}
-use Rattle.trace_text.proofs.Ranges.{ranges_in_more}
+use Rattle.trace_text.proofs.Behind.{core_count_more, ranges_in_more}
 
 -- a row that is a record goes behind those so far
 pub read_more : (cores number : ℕ) (lines : List Line) (row : List (List ℕ)) (rows : List (List (List ℕ))) (line : Line)

@@ -4,7 +4,7 @@ use Rattle.frame_model.specs.Key.{sealed_key}
 use Rattle.frame_model.specs.declared.key.Key.{Key}
 use Rattle.core_frames.specs.Desks.{core_of}
 use Rattle.trace_text.specs.Trace.{ranges_in}
-use Rattle.trace_text.proofs.Cores.{cores_in_at}
+use Rattle.trace_text.proofs.Behind.{cores_in_at}
 use Rattle.llfree_trace.proofs.Ended.{adds_up, image_is, is_answered}
 use Rattle.llfree_trace.proofs.NewDesks.{none_lent}
 use Rattle.llfree_trace.proofs.many_cores.run_trace.Goals as goal

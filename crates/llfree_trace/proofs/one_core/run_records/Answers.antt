@@ -3,7 +3,7 @@ use Rattle.std.specs.Result.{is_ok}
 use Rattle.std.specs.Option.{option_to_list}
 use Rattle.std.proofs.lemmas.List.{append-nil, length-take, take_all, take_more}
 use Rattle.llfree_trace.specs.Outcome.{Runs}
-use Rattle.trace_text.proofs.Cores.{cores_in_at}
+use Rattle.trace_text.proofs.Behind.{cores_in_at}
 use Rattle.llfree_trace.proofs.Running.{renumbered, runs_append}
 use Rattle.llfree_trace.proofs.one_core.run_records.Goals as goal
 use Rattle.llfree_trace.proofs.one_core.run_records.Goals.{in-Some+in_ok-push, in_default}

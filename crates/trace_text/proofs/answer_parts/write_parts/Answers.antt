@@ -4,7 +4,7 @@ use Rattle.std.proofs.lemmas.Bool.Decides.{nat_tests}
 use Rattle.std.proofs.lemmas.Grind.{flat_map-append}
 use Rattle.std.proofs.lemmas.List.{append-nil, append_assoc}
 use Rattle.trace_text.specs.AnswerText.{answer_rows_text}
-use Rattle.trace_text.proofs.AnswerRows.{answer_rows_both}
+use Rattle.trace_text.proofs.Behind.{answer_rows_both}
 use Rattle.trace_text.proofs.answer_parts.write_parts.Goals as goal
 
 pub loop-rest-init : goal.loop-rest-init

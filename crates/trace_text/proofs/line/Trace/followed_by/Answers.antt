@@ -1,6 +1,5 @@
 use Rattle.std.proofs.Common.{◌≡◌, ◌++◌, ap, arith, length, length-append, refl}
-use Rattle.trace_text.proofs.Joining.{core_count_both}
-use Rattle.trace_text.proofs.Ranges.{ranges_in_both}
+use Rattle.trace_text.proofs.Behind.{core_count_both, ranges_in_both}
 use Rattle.trace_text.proofs.line.Trace.followed_by.Goals as goal
 
 pub invariant_of-result : goal.invariant_of-result
