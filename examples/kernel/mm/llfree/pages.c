@@ -1,13 +1,16 @@
 // SPDX-License-Identifier: GPL-2.0
 /*
- * Page frames of Linux by LLFree. Each zone has an allocator of its own, with two cores for each CPU. Tasks call through
- * one of them, with preemption off. Handlers of interrupts, which may come in the middle of such a call, use the other
- * one, with interrupts off. No NMI gets here.
+ * Page frames of Linux by LLFree. Each zone has an allocator of its own, with two cores for each CPU. Tasks call
+ * through one of them, with preemption off. Handlers of interrupts, which may come in the middle of such a call, use
+ * the other one, with interrupts off. No NMI gets here. Single frames rest with the core of tasks, in place of Linux'
+ * lists of the CPUs. None rest with the other one: no task could take them.
  *
  * The command line has llfree=WORD[,WORD..]:
  *   off      Linux' own free lists
- *   structs  held blocks are structs in a table of Linux; otherwise the library has a list of them
- *   lists    the lists of the CPUs stand before the library
+ *   structs  all held blocks are structs in a table of Linux; otherwise those of single frames are, and the library has
+ *            a list of the others
+ *   lists    Linux' lists of the CPUs stand before the library, and nothing rests
+ *   larger   these lists stand before it from order 1 on, and single frames rest
  *   bits     a bit for each frame, apart from the library: a take must find it clear, a give set
  *   small    wrong on purpose: an opening finds half of the memory that it needs
  */
@@ -37,18 +40,22 @@ enum { TASKS, HANDLERS, CALLERS };
 struct llfree_caller {
 	llfree_core core;
 	bool is_inside;		/* of a call */
+	bool is_asked;		/* to drain behind this call */
+	bool rests;		/* single frames, with this core */
+	u32 resting;		/* how many, as the library said last */
 	struct llfree_counts counts;
 } ____cacheline_aligned_in_smp;
 
 struct llfree_zone {
 	unsigned long first;	/* page frame number of frame 0 */
 	u32 frames;
-	llfree_block *blocks;	/* each held block, at its first frame; NULL if the library has a list */
+	llfree_block *blocks;	/* held blocks, each at its first frame; NULL if the library has a list of all */
 	unsigned long *bits;	/* set if a frame is held; NULL without bits */
 	struct llfree_caller callers[][CALLERS];	/* of each CPU */
 };
 
-bool llfree_on __ro_after_init = true, llfree_lists __ro_after_init;
+bool llfree_on __ro_after_init = true;
+unsigned int llfree_listed __ro_after_init = LLFREE_ORDERS;
 static bool has_structs __ro_after_init, has_bits __ro_after_init;
 static bool is_small __initdata;
 
@@ -62,7 +69,9 @@ static int __init read_words(char *words)
 		else if (!strcmp(word, "structs"))
 			has_structs = true;
 		else if (!strcmp(word, "lists"))
-			llfree_lists = true;
+			llfree_listed = 0;
+		else if (!strcmp(word, "larger"))
+			llfree_listed = 1;
 		else if (!strcmp(word, "bits"))
 			has_bits = true;
 		else if (!strcmp(word, "small"))
@@ -121,21 +130,30 @@ struct rattle_block rattle_realloc(void *old, size_t kept, size_t size, size_t a
 	return block;
 }
 
-/* Moves a struct out of its place before the block is given: after that another CPU may fill this place. */
-static bool move_out(struct llfree_zone *zone, u32 frame, unsigned int order, llfree_block *block)
+static bool has_struct(const struct llfree_zone *zone, u32 frame, unsigned int order)
 {
-	if (!zone->blocks[frame].live || zone->blocks[frame].order != order)
-		return false;
-	*block = zone->blocks[frame];
-	zone->blocks[frame] = (llfree_block)LLFREE_EMPTY;
-	return true;
+	return zone->blocks && zone->blocks[frame].live && zone->blocks[frame].order == order;
 }
 
-static enum llfree_status take_struct(struct llfree_zone *zone, llfree_core *core, unsigned int order, u32 *frame)
+/* Moves a struct out of its place before the block is given: after that another CPU may fill this place. */
+static llfree_block move_out(struct llfree_zone *zone, u32 frame)
+{
+	llfree_block block = zone->blocks[frame];
+
+	zone->blocks[frame] = (llfree_block)LLFREE_EMPTY;
+	return block;
+}
+
+static enum llfree_status take_struct(struct llfree_zone *zone, struct llfree_caller *by, unsigned int order,
+				      u32 *frame)
 {
 	llfree_block block = LLFREE_EMPTY;
-	enum llfree_status status = llfree_take_block(core, order, &block);
+	enum llfree_status status;
 
+	if (by->rests && !order)
+		status = llfree_take_frame(&by->core, &block);
+	else
+		status = llfree_take_block(&by->core, order, &block);
 	if (status == LLFREE_OK) {
 		*frame = block.frame;
 		zone->blocks[block.frame] = block;
@@ -143,45 +161,75 @@ static enum llfree_status take_struct(struct llfree_zone *zone, llfree_core *cor
 	return status;
 }
 
-static enum llfree_status give_struct(struct llfree_zone *zone, llfree_core *core, u32 frame, unsigned int order)
+/* What comes to rest nobody else can take, so its struct is emptied where it lies. */
+static enum llfree_status give_struct(struct llfree_zone *zone, struct llfree_caller *by, u32 frame, unsigned int order)
 {
 	llfree_block block;
 
-	return move_out(zone, frame, order, &block) ? llfree_give_block(core, &block) : LLFREE_NOT_HELD;
+	if (by->rests && !order)
+		return llfree_give_frame(&by->core, &zone->blocks[frame]);
+	block = move_out(zone, frame);
+	return llfree_give_block(&by->core, &block);
 }
 
-static enum llfree_status split_struct(struct llfree_zone *zone, llfree_core *core, u32 frame, unsigned int order)
+static enum llfree_status split_struct(struct llfree_zone *zone, llfree_core *core, u32 frame)
 {
-	llfree_block block, upper = LLFREE_EMPTY;
-	enum llfree_status status;
+	llfree_block block = move_out(zone, frame), upper = LLFREE_EMPTY;
+	enum llfree_status status = llfree_split_block(core, &block, &upper);
 
-	if (!move_out(zone, frame, order, &block))
-		return LLFREE_NOT_HELD;
-	status = llfree_split_block(core, &block, &upper);
 	zone->blocks[frame] = block;
 	if (status == LLFREE_OK)
 		zone->blocks[upper.frame] = upper;
 	return status;
 }
 
-/* The three calls of the library, by number or by structs. */
-static enum llfree_status take(struct llfree_zone *zone, struct llfree_caller *by, unsigned int order, u32 *frame)
+/* From here to the end of the call no handler of this CPU uses the core. */
+static void begin_call(struct llfree_caller *by)
+{
+	WRITE_ONCE(by->is_inside, true);
+	barrier();
+}
+
+/* Answers how many more frames rest with the core than before the call. */
+static long end_call(struct llfree_caller *by)
+{
+	u32 before = by->resting;
+
+	if (by->rests)
+		by->resting = llfree_resting(&by->core);
+	before = by->resting - before;
+	barrier();
+	WRITE_ONCE(by->is_inside, false);
+	return (s32)before;
+}
+
+/* The three calls of the library. A block that has no struct is called by its number, which the library refuses if it
+ * is on no list. */
+static enum llfree_status take(struct llfree_zone *zone, struct llfree_caller *by, unsigned int order, u32 *frame,
+			       long *rested)
 {
 	enum llfree_status status;
 
-	WRITE_ONCE(by->is_inside, true);
-	status = zone->blocks ? take_struct(zone, &by->core, order, frame) : llfree_take(&by->core, order, frame);
-	WRITE_ONCE(by->is_inside, false);
+	begin_call(by);
+	if (zone->blocks && (!order || has_structs))
+		status = take_struct(zone, by, order, frame);
+	else
+		status = llfree_take(&by->core, order, frame);
+	*rested = end_call(by);
 	return status;
 }
 
-static enum llfree_status give(struct llfree_zone *zone, struct llfree_caller *by, u32 frame, unsigned int order)
+static enum llfree_status give(struct llfree_zone *zone, struct llfree_caller *by, u32 frame, unsigned int order,
+			       long *rested)
 {
 	enum llfree_status status;
 
-	WRITE_ONCE(by->is_inside, true);
-	status = zone->blocks ? give_struct(zone, &by->core, frame, order) : llfree_give(&by->core, frame, order);
-	WRITE_ONCE(by->is_inside, false);
+	begin_call(by);
+	if (has_struct(zone, frame, order))
+		status = give_struct(zone, by, frame, order);
+	else
+		status = llfree_give(&by->core, frame, order);
+	*rested = end_call(by);
 	return status;
 }
 
@@ -189,9 +237,12 @@ static enum llfree_status split(struct llfree_zone *zone, struct llfree_caller *
 {
 	enum llfree_status status;
 
-	WRITE_ONCE(by->is_inside, true);
-	status = zone->blocks ? split_struct(zone, &by->core, frame, order) : llfree_split(&by->core, frame, order);
-	WRITE_ONCE(by->is_inside, false);
+	begin_call(by);
+	if (has_struct(zone, frame, order))
+		status = split_struct(zone, &by->core, frame);
+	else
+		status = llfree_split(&by->core, frame, order);
+	end_call(by);
 	return status;
 }
 
@@ -222,17 +273,20 @@ static const char *why(enum llfree_status status)
 /* Handles may be moved: each goes to a cache line of its own. */
 static void __init spread_cores(struct llfree_zone *it, const llfree_core *cores)
 {
-	for (unsigned int cpu = 0; cpu < nr_cpu_ids; cpu++)
+	for (unsigned int cpu = 0; cpu < nr_cpu_ids; cpu++) {
 		for (unsigned int by = TASKS; by < CALLERS; by++)
 			it->callers[cpu][by].core = cores[CALLERS * cpu + by];
+		it->callers[cpu][TASKS].rests = llfree_without_lists(0);
+	}
 }
 
 /* The library opens with all frames free, so each is taken. */
 static void __init take_all(struct llfree_zone *it, const char *name)
 {
 	u32 taken = 0, frame;
+	long rested;
 
-	while (take(it, &it->callers[0][TASKS], 0, &frame) == LLFREE_OK)
+	while (take(it, &it->callers[0][TASKS], 0, &frame, &rested) == LLFREE_OK)
 		taken++;
 	if (taken != it->frames)
 		panic("llfree: of zone %s %u frames of %u were taken", name, taken, it->frames);
@@ -254,12 +308,12 @@ static void __init open_zone(struct zone *zone)
 	memset(cores, 0, sizeof(cores));
 	it->first = first;
 	it->frames = frames;
-	if (has_structs) {
+	if (has_structs || llfree_without_lists(0))
 		it->blocks = get_memory(frames * sizeof(llfree_block));
+	if (has_structs)
 		status = llfree_open_unchecked(cores, count, frames, NULL, 0);
-	} else {
+	else
 		status = llfree_open(cores, count, frames, NULL, 0);
-	}
 	if (status != LLFREE_OK)
 		panic("llfree: zone %s is not opened: %s", zone->name, why(status));
 	spread_cores(it, cores);
@@ -320,12 +374,43 @@ static struct llfree_caller *enter(struct llfree_zone *zone, unsigned long *flag
 	return &callers[HANDLERS];
 }
 
-static void leave(unsigned long flags)
+/* Linux counts as free what is free in the library. What rests is not, as in Linux' lists of the CPUs. */
+static void count_free(struct zone *zone, long given, long rested)
 {
-	if (!in_handler())
-		preempt_enable();
+	if (given != rested)
+		mod_zone_page_state(zone, NR_FREE_PAGES, given - rested);
+}
+
+static void drain(struct zone *zone, struct llfree_caller *by)
+{
+	begin_call(by);
+	llfree_drain(&by->core);
+	by->counts.drained += by->resting;
+	count_free(zone, 0, end_call(by));
+}
+
+/* Gives back what rests with this CPU. A handler in the middle of a call of its CPU leaves that to the task. */
+static void drain_here(struct zone *zone)
+{
+	struct llfree_caller *tasks = &zone->llfree->callers[smp_processor_id()][TASKS];
+
+	if (READ_ONCE(tasks->is_inside))
+		WRITE_ONCE(tasks->is_asked, true);
 	else
+		drain(zone, tasks);
+}
+
+static void leave(struct zone *zone, struct llfree_caller *caller, unsigned long flags)
+{
+	if (in_handler()) {
 		local_irq_restore(flags);
+		return;
+	}
+	if (unlikely(READ_ONCE(caller->is_asked))) {
+		WRITE_ONCE(caller->is_asked, false);
+		drain(zone, caller);
+	}
+	preempt_enable();
 }
 
 /* Whether the library counts more free frames than reclaim leaves, or a free huge frame, which serves each order. */
@@ -341,24 +426,24 @@ struct page *llfree_take_page(struct zone *zone, unsigned int order)
 	enum llfree_status status;
 	unsigned int tries = 0;
 	unsigned long flags;
+	long rested;
 	u32 frame;
 
 	if (!it || order >= LLFREE_ORDERS)
 		return NULL;
 	caller = enter(it, &flags);
-	do {
-		status = take(it, caller, order, &frame);
-	} while (status != LLFREE_OK && ++tries < TRIES);
+	while ((status = take(it, caller, order, &frame, &rested)) != LLFREE_OK && ++tries < TRIES)
+		drain_here(zone);
 	caller->counts.retries += tries;
 	if (status == LLFREE_OK) {
 		caller->counts.takes[order]++;
 		caller->counts.wrong_bits += set_bits(it, frame, order, true);
-		mod_zone_page_state(zone, NR_FREE_PAGES, -(1l << order));
+		count_free(zone, -(1l << order), rested);
 	} else {
 		caller->counts.no_block[order]++;
 		caller->counts.refused_free += seems_free(zone, &caller->core, order);
 	}
-	leave(flags);
+	leave(zone, caller, flags);
 	WARN(status == LLFREE_CLOSED_HANDLE, "llfree: take of order %u: %s\n", order, why(status));
 	return status == LLFREE_OK ? pfn_to_page(it->first + frame) : NULL;
 }
@@ -370,29 +455,31 @@ void llfree_give_page(struct page *page, unsigned int order)
 	u32 frame = page_to_pfn(page) - it->first;
 	struct llfree_caller *caller;
 	enum llfree_status status;
-	unsigned long flags;
 	unsigned int wrong;
+	unsigned long flags;
+	long rested;
 
 	caller = enter(it, &flags);
 	wrong = set_bits(it, frame, order, false);
-	status = give(it, caller, frame, order);
+	status = give(it, caller, frame, order, &rested);
 	caller->counts.wrong_bits += wrong;
 	if (status == LLFREE_OK) {
 		caller->counts.gives[order]++;
-		mod_zone_page_state(zone, NR_FREE_PAGES, 1l << order);
+		count_free(zone, 1l << order, rested);
 	} else {
 		caller->counts.wrong++;
 		if (!wrong)
 			set_bits(it, frame, order, true);
 	}
-	leave(flags);
+	leave(zone, caller, flags);
 	if (unlikely(status != LLFREE_OK))
 		warn("give", frame, order, status);
 }
 
 void llfree_halve_page(struct page *page, unsigned int order)
 {
-	struct llfree_zone *it = page_zone(page)->llfree;
+	struct zone *zone = page_zone(page);
+	struct llfree_zone *it = zone->llfree;
 	u32 frame = page_to_pfn(page) - it->first;
 	struct llfree_caller *caller;
 	enum llfree_status status;
@@ -402,7 +489,7 @@ void llfree_halve_page(struct page *page, unsigned int order)
 	status = split(it, caller, frame, order);
 	caller->counts.splits += status == LLFREE_OK;
 	caller->counts.wrong += status != LLFREE_OK;
-	leave(flags);
+	leave(zone, caller, flags);
 	if (unlikely(status != LLFREE_OK))
 		warn("split", frame, order, status);
 }
@@ -412,6 +499,30 @@ void llfree_split_page(struct page *page, unsigned int order)
 	for (unsigned int from = order; llfree_on && from > 0; from--)
 		for (unsigned int i = 0; i < 1u << order; i += 1u << from)
 			llfree_halve_page(page + i, from);
+}
+
+static void drain_zones_here(void *unused)
+{
+	struct zone *zone;
+
+	for_each_populated_zone(zone)
+		if (zone->llfree)
+			drain_here(zone);
+}
+
+void llfree_drain_cpus(void)
+{
+	if (llfree_without_lists(0))
+		on_each_cpu(drain_zones_here, NULL, true);
+}
+
+void llfree_drain_dead_cpu(unsigned int cpu)
+{
+	struct zone *zone;
+
+	for_each_populated_zone(zone)
+		if (zone->llfree)
+			drain(zone, &zone->llfree->callers[cpu][TASKS]);
 }
 
 static void add_counts(struct llfree_counts *sums, const struct llfree_counts *counts)
@@ -436,12 +547,13 @@ void llfree_read_state(struct zone *zone, struct llfree_state *state)
 	unsigned long flags;
 
 	*state = (struct llfree_state){ .first = it->first, .frames = it->frames, .cores = CALLERS * nr_cpu_ids,
-					.form = it->blocks ? "structs" : "numbers" };
+					.form = has_structs ? "structs" : "numbers" };
 	for (unsigned int cpu = 0; cpu < nr_cpu_ids; cpu++) {
 		const struct llfree_caller *callers = it->callers[cpu];
 
 		add_counts(&state->counts, &callers[TASKS].counts);
 		add_counts(&state->counts, &callers[HANDLERS].counts);
+		state->resting += READ_ONCE(callers[TASKS].resting);
 		state->takes_in_handlers += sum(callers[HANDLERS].counts.takes);
 		state->gives_in_handlers += sum(callers[HANDLERS].counts.gives);
 	}
@@ -450,5 +562,5 @@ void llfree_read_state(struct zone *zone, struct llfree_state *state)
 	caller = enter(it, &flags);
 	state->free_frames = llfree_free_frames(&caller->core);
 	state->free_huge = llfree_free_huge(&caller->core);
-	leave(flags);
+	leave(zone, caller, flags);
 }

@@ -10,7 +10,8 @@ struct zone;
 
 #ifdef CONFIG_LLFREE
 
-extern bool llfree_on, llfree_lists;
+extern bool llfree_on;
+extern unsigned int llfree_listed;
 
 /* False after llfree=off: Linux' own free lists are used. */
 static inline bool llfree_is_on(void)
@@ -18,10 +19,10 @@ static inline bool llfree_is_on(void)
 	return llfree_on;
 }
 
-/* Whether every page goes to the library at once; after llfree=lists pages rest in the lists of the CPUs first. */
-static inline bool llfree_without_lists(void)
+/* Whether blocks of the order go to the library at once, and not to Linux' lists of the CPUs first. */
+static inline bool llfree_without_lists(unsigned int order)
 {
-	return llfree_on && !llfree_lists;
+	return llfree_on && order < llfree_listed;
 }
 
 /* Opens an allocator for each zone, with all frames held as blocks of order 0. Called before memblock frees any. */
@@ -39,6 +40,12 @@ void llfree_halve_page(struct page *page, unsigned int order);
 /* Splits a held block into single frames. */
 void llfree_split_page(struct page *page, unsigned int order);
 
+/* Asks each CPU to give back the frames that rest with it. Called with interrupts on. */
+void llfree_drain_cpus(void);
+
+/* Gives back the frames that rested with a CPU that is offline. */
+void llfree_drain_dead_cpu(unsigned int cpu);
+
 enum { LLFREE_ORDERS = 10 };
 
 /* Sums over the CPUs, since the zone was opened. */
@@ -47,11 +54,12 @@ struct llfree_counts {
 	u64 splits, retries, wrong, wrong_bits;
 	u64 refused_free;	/* takes refused though frames seemed free */
 	u64 inside;		/* calls of handlers in the middle of a call of their CPU */
+	u64 drained;		/* frames that rested, and were given back for others */
 };
 
 struct llfree_state {
 	unsigned long first;	/* page frame number of frame 0 */
-	u32 frames, cores, free_frames, free_huge;
+	u32 frames, cores, free_frames, free_huge, resting;
 	u64 takes_in_handlers, gives_in_handlers;
 	s64 given;		/* frames given less frames taken */
 	const char *form;
@@ -63,12 +71,14 @@ void llfree_read_state(struct zone *zone, struct llfree_state *state);
 #else
 
 static inline bool llfree_is_on(void) { return false; }
-static inline bool llfree_without_lists(void) { return false; }
+static inline bool llfree_without_lists(unsigned int order) { return false; }
 static inline void llfree_open_boot_zones(void) { }
 static inline struct page *llfree_take_page(struct zone *zone, unsigned int order) { return NULL; }
 static inline void llfree_give_page(struct page *page, unsigned int order) { }
 static inline void llfree_halve_page(struct page *page, unsigned int order) { }
 static inline void llfree_split_page(struct page *page, unsigned int order) { }
+static inline void llfree_drain_cpus(void) { }
+static inline void llfree_drain_dead_cpu(unsigned int cpu) { }
 
 #endif
 #endif

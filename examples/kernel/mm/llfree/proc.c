@@ -2,9 +2,11 @@
 /*
  * /proc/llfree shows what the library and Linux count. Written to, it tries what has to fail, or measures; the kernel's
  * log has the answers:
- *   twice                gives a page twice
- *   order                gives a block by another order
+ *   twice                gives a block twice
+ *   frame                gives a single frame twice, which rests
+ *   order                gives a block by another order, and as a single frame
  *   used                 writes to a page that was given, and takes pages until it is had again (page_poison=1)
+ *   drain                asks the CPUs for what rests, and takes the largest blocks until one is refused
  *   pairs ORDER CPUS MS  takes and gives on threads bound to CPUs, by whatever page allocator Linux has
  *   handlers ORDER CPUS MS  the same, while a timer of each CPU takes and gives pages, too
  */
@@ -50,13 +52,14 @@ static void show_zone(struct seq_file *file, struct zone *zone)
 		listed += zone->free_area[order].nr_free;
 	seq_printf(file, "zone %s: %u frames from %lu on, %u cores, by %s\n", zone->name, state.frames, state.first,
 		   state.cores, state.form);
-	seq_printf(file, "free: library %u, Linux %lu, given less taken %lld; huge %u; in lists of the zone %lu\n",
-		   state.free_frames, zone_page_state_snapshot(zone, NR_FREE_PAGES), state.given, state.free_huge, listed);
+	seq_printf(file, "free: library %u, Linux %lu, given less taken %lld of which rest %u; ", state.free_frames,
+		   zone_page_state_snapshot(zone, NR_FREE_PAGES), state.given, state.resting);
+	seq_printf(file, "huge %u; in lists of the zone %lu\n", state.free_huge, listed);
 	show_row(file, "takes", state.counts.takes);
 	show_row(file, "gives", state.counts.gives);
 	show_row(file, "no block", state.counts.no_block);
-	seq_printf(file, "splits %llu, retries %llu, refused though free %llu\n", state.counts.splits,
-		   state.counts.retries, state.counts.refused_free);
+	seq_printf(file, "splits %llu, retries %llu, refused though free %llu, drained %llu\n", state.counts.splits,
+		   state.counts.retries, state.counts.refused_free, state.counts.drained);
 	seq_printf(file, "in handlers: takes %llu, gives %llu, inside of a call %llu\n", state.takes_in_handlers,
 		   state.gives_in_handlers, state.counts.inside);
 	seq_printf(file, "wrong %llu, wrong bits %llu\n", state.counts.wrong, state.counts.wrong_bits);
@@ -77,18 +80,31 @@ static int open(struct inode *inode, struct file *file)
 	return single_open(file, show, NULL);
 }
 
-static int give_wrongly(bool twice)
+/* What rests with this CPU nobody takes before its second give. */
+static int give_twice(unsigned int order)
+{
+	struct page *page = alloc_pages(GFP_KERNEL, order);
+
+	if (!page)
+		return -ENOMEM;
+	preempt_disable();
+	__free_pages(page, order);
+	if (!llfree_without_lists(order))
+		drain_local_pages(NULL);
+	llfree_give_page(page, order);
+	preempt_enable();
+	return 0;
+}
+
+static int give_by_others(void)
 {
 	struct page *page = alloc_pages(GFP_KERNEL, ORDER);
 
 	if (!page)
 		return -ENOMEM;
-	if (!twice)
-		llfree_give_page(page, ORDER - 1);
+	llfree_give_page(page, ORDER - 1);
+	llfree_give_page(page, 0);
 	__free_pages(page, ORDER);
-	drain_all_pages(NULL); /* it may rest in the list of a CPU */
-	if (twice)
-		llfree_give_page(page, ORDER);
 	return 0;
 }
 
@@ -112,6 +128,47 @@ static int use_given(void)
 		__free_pages(page, 0);
 	}
 	return again ? 0 : -EAGAIN;
+}
+
+static u64 drained(void)
+{
+	struct llfree_state state;
+	struct zone *zone;
+	u64 sum = 0;
+
+	for_each_populated_zone(zone) {
+		llfree_read_state(zone, &state);
+		sum += state.counts.drained;
+	}
+	return sum;
+}
+
+static void let_one_rest(void)
+{
+	struct page *page = alloc_page(GFP_KERNEL);
+
+	if (page)
+		__free_page(page);
+}
+
+/* What rests is given back where all CPUs are asked, and before a larger block is refused. */
+static int drain(void)
+{
+	struct page *page, *next;
+	u64 before = drained(), asked;
+	LIST_HEAD(taken);
+
+	let_one_rest();
+	drain_all_pages(NULL);
+	asked = drained();
+	let_one_rest();
+	while ((page = alloc_pages(__GFP_NOWARN, LLFREE_ORDERS - 1)))
+		list_add(&page->lru, &taken);
+	list_for_each_entry_safe(page, next, &taken, lru) {
+		list_del(&page->lru);
+		__free_pages(page, LLFREE_ORDERS - 1);
+	}
+	return before < asked && asked < drained() ? 0 : -EAGAIN;
 }
 
 struct worker {
@@ -216,9 +273,13 @@ static int obey(const char *word)
 	char what[16];
 
 	if (llfree_is_on() && sysfs_streq(word, "twice"))
-		return give_wrongly(true);
+		return give_twice(ORDER);
+	if (llfree_is_on() && sysfs_streq(word, "frame"))
+		return give_twice(0);
 	if (llfree_is_on() && sysfs_streq(word, "order"))
-		return give_wrongly(false);
+		return give_by_others();
+	if (llfree_without_lists(0) && sysfs_streq(word, "drain"))
+		return drain();
 	if (sysfs_streq(word, "used"))
 		return use_given();
 	if (sscanf(word, "%15s %u %u %u", what, &order, &cpus, &milliseconds) != 4 || order >= MAX_ORDER || !cpus ||
