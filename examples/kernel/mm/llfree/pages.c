@@ -31,6 +31,7 @@ enum {
 	CHILD_FRAMES = 512,
 	CORES = 64,
 	TRIES = 8,		/* of a take, since other cores may be in the way */
+	MOST_RESTING = 128,	/* with a core, as the library's header says */
 	ALIGNMENT = 16,
 };
 
@@ -42,7 +43,7 @@ struct llfree_caller {
 	bool is_inside;		/* of a call */
 	bool is_asked;		/* to drain behind this call */
 	bool rests;		/* single frames, with this core */
-	u32 resting;		/* how many, as the library said last */
+	u32 resting;		/* how many, at the end of the last call */
 	struct llfree_counts counts;
 } ____cacheline_aligned_in_smp;
 
@@ -130,7 +131,7 @@ struct rattle_block rattle_realloc(void *old, size_t kept, size_t size, size_t a
 	return block;
 }
 
-static bool has_struct(const struct llfree_zone *zone, u32 frame, unsigned int order)
+static __always_inline bool has_struct(const struct llfree_zone *zone, u32 frame, unsigned int order)
 {
 	return zone->blocks && zone->blocks[frame].live && zone->blocks[frame].order == order;
 }
@@ -144,30 +145,53 @@ static llfree_block move_out(struct llfree_zone *zone, u32 frame)
 	return block;
 }
 
-static enum llfree_status take_struct(struct llfree_zone *zone, struct llfree_caller *by, unsigned int order,
-				      u32 *frame)
+/* Of the frames that rest, if there are any, one is taken; and one more rests after a give, where there is room. */
+static __always_inline enum llfree_status take_frame(struct llfree_caller *by, llfree_block *block)
 {
-	llfree_block block = LLFREE_EMPTY;
+	enum llfree_status status = llfree_take_frame(&by->core, block);
+
+	if (status == LLFREE_OK && by->resting)
+		by->resting--;
+	return status;
+}
+
+static __always_inline enum llfree_status give_frame(struct llfree_caller *by, llfree_block *block)
+{
+	enum llfree_status status = llfree_give_frame(&by->core, block);
+
+	if (unlikely(status != LLFREE_OK || by->resting >= MOST_RESTING))
+		by->resting = llfree_resting(&by->core);
+	else
+		by->resting++;
+	return status;
+}
+
+static __always_inline enum llfree_status take_struct(struct llfree_zone *zone, struct llfree_caller *by,
+						      unsigned int order, u32 *frame)
+{
+	llfree_block block = LLFREE_EMPTY, *place;
 	enum llfree_status status;
 
-	if (by->rests && !order)
-		status = llfree_take_frame(&by->core, &block);
-	else
-		status = llfree_take_block(&by->core, order, &block);
-	if (status == LLFREE_OK) {
-		*frame = block.frame;
-		zone->blocks[block.frame] = block;
-	}
+	status = by->rests && !order ? take_frame(by, &block) : llfree_take_block(&by->core, order, &block);
+	if (status != LLFREE_OK)
+		return status;
+	/* moved field by field, as the library just wrote it, which a processor forwards sooner */
+	*frame = block.frame;
+	place = &zone->blocks[block.frame];
+	place->live = block.live;
+	place->frame = block.frame;
+	place->order = block.order;
 	return status;
 }
 
 /* What comes to rest nobody else can take, so its struct is emptied where it lies. */
-static enum llfree_status give_struct(struct llfree_zone *zone, struct llfree_caller *by, u32 frame, unsigned int order)
+static __always_inline enum llfree_status give_struct(struct llfree_zone *zone, struct llfree_caller *by,
+						      u32 frame, unsigned int order)
 {
 	llfree_block block;
 
 	if (by->rests && !order)
-		return llfree_give_frame(&by->core, &zone->blocks[frame]);
+		return give_frame(by, &zone->blocks[frame]);
 	block = move_out(zone, frame);
 	return llfree_give_block(&by->core, &block);
 }
@@ -184,52 +208,49 @@ static enum llfree_status split_struct(struct llfree_zone *zone, llfree_core *co
 }
 
 /* From here to the end of the call no handler of this CPU uses the core. */
-static void begin_call(struct llfree_caller *by)
+static __always_inline void begin_call(struct llfree_caller *by)
 {
 	WRITE_ONCE(by->is_inside, true);
 	barrier();
 }
 
-/* Answers how many more frames rest with the core than before the call. */
-static long end_call(struct llfree_caller *by)
+static __always_inline void end_call(struct llfree_caller *by)
 {
-	u32 before = by->resting;
-
-	if (by->rests)
-		by->resting = llfree_resting(&by->core);
-	before = by->resting - before;
 	barrier();
 	WRITE_ONCE(by->is_inside, false);
-	return (s32)before;
 }
 
 /* The three calls of the library. A block that has no struct is called by its number, which the library refuses if it
- * is on no list. */
-static enum llfree_status take(struct llfree_zone *zone, struct llfree_caller *by, unsigned int order, u32 *frame,
-			       long *rested)
+ * is on no list. They tell how many more frames rest than before. */
+static __always_inline enum llfree_status take(struct llfree_zone *zone, struct llfree_caller *by,
+					       unsigned int order, u32 *frame, long *rested)
 {
 	enum llfree_status status;
 
 	begin_call(by);
+	*rested = -(long)by->resting;
 	if (zone->blocks && (!order || has_structs))
 		status = take_struct(zone, by, order, frame);
 	else
 		status = llfree_take(&by->core, order, frame);
-	*rested = end_call(by);
+	*rested += by->resting;
+	end_call(by);
 	return status;
 }
 
-static enum llfree_status give(struct llfree_zone *zone, struct llfree_caller *by, u32 frame, unsigned int order,
-			       long *rested)
+static __always_inline enum llfree_status give(struct llfree_zone *zone, struct llfree_caller *by,
+					       u32 frame, unsigned int order, long *rested)
 {
 	enum llfree_status status;
 
 	begin_call(by);
+	*rested = -(long)by->resting;
 	if (has_struct(zone, frame, order))
 		status = give_struct(zone, by, frame, order);
 	else
 		status = llfree_give(&by->core, frame, order);
-	*rested = end_call(by);
+	*rested += by->resting;
+	end_call(by);
 	return status;
 }
 
@@ -343,24 +364,29 @@ static noinline void warn(const char *call, u32 frame, unsigned int order, enum 
 }
 
 /* How many frames of a block were held before a take, or free before a give. */
-static unsigned int set_bits(struct llfree_zone *zone, u32 frame, unsigned int order, bool held)
+static noinline unsigned int change_bits(unsigned long *bits, u32 frame, unsigned int order, bool held)
 {
 	unsigned int wrong = 0;
 
-	if (zone->bits)
-		for (u32 i = frame; i < frame + (1u << order); i++)
-			wrong += held ? test_and_set_bit(i, zone->bits) : !test_and_clear_bit(i, zone->bits);
+	for (u32 i = frame; i < frame + (1u << order); i++)
+		wrong += held ? test_and_set_bit(i, bits) : !test_and_clear_bit(i, bits);
 	WARN(wrong, "llfree: %u wrong bits at frame %u, order %u\n", wrong, frame, order);
 	return wrong;
 }
 
-static bool in_handler(void)
+static __always_inline unsigned int set_bits(struct llfree_zone *zone, u32 frame, unsigned int order, bool held)
 {
-	return in_hardirq() || in_serving_softirq();
+	return unlikely(zone->bits) ? change_bits(zone->bits, frame, order, held) : 0;
+}
+
+/* in_hardirq() || in_serving_softirq(), by one load */
+static __always_inline bool in_handler(void)
+{
+	return preempt_count() & (HARDIRQ_MASK | SOFTIRQ_OFFSET);
 }
 
 /* Before each call. A handler of softirqs may be interrupted by another one, so it has interrupts off. */
-static struct llfree_caller *enter(struct llfree_zone *zone, unsigned long *flags)
+static __always_inline struct llfree_caller *enter(struct llfree_zone *zone, unsigned long *flags)
 {
 	struct llfree_caller *callers;
 
@@ -375,18 +401,23 @@ static struct llfree_caller *enter(struct llfree_zone *zone, unsigned long *flag
 }
 
 /* Linux counts as free what is free in the library. What rests is not, as in Linux' lists of the CPUs. */
-static void count_free(struct zone *zone, long given, long rested)
+static __always_inline void count_free(struct zone *zone, long given, long rested)
 {
-	if (given != rested)
+	if (unlikely(given != rested))
 		mod_zone_page_state(zone, NR_FREE_PAGES, given - rested);
 }
 
-static void drain(struct zone *zone, struct llfree_caller *by)
+static noinline void drain(struct zone *zone, struct llfree_caller *by)
 {
+	u32 drained;
+
 	begin_call(by);
 	llfree_drain(&by->core);
-	by->counts.drained += by->resting;
-	count_free(zone, 0, end_call(by));
+	drained = by->resting - llfree_resting(&by->core);
+	by->resting -= drained;
+	by->counts.drained += drained;
+	end_call(by);
+	count_free(zone, drained, 0);
 }
 
 /* Gives back what rests with this CPU. A handler in the middle of a call of its CPU leaves that to the task. */
@@ -400,7 +431,7 @@ static void drain_here(struct zone *zone)
 		drain(zone, tasks);
 }
 
-static void leave(struct zone *zone, struct llfree_caller *caller, unsigned long flags)
+static __always_inline void leave(struct zone *zone, struct llfree_caller *caller, unsigned long flags)
 {
 	if (in_handler()) {
 		local_irq_restore(flags);
@@ -419,7 +450,7 @@ static bool seems_free(struct zone *zone, llfree_core *core, unsigned int order)
 	return order ? llfree_free_huge(core) > 0 : llfree_free_frames(core) > high_wmark_pages(zone);
 }
 
-struct page *llfree_take_page(struct zone *zone, unsigned int order)
+static __always_inline struct page *take_page(struct zone *zone, unsigned int order)
 {
 	struct llfree_zone *it = zone->llfree;
 	struct llfree_caller *caller;
@@ -448,7 +479,13 @@ struct page *llfree_take_page(struct zone *zone, unsigned int order)
 	return status == LLFREE_OK ? pfn_to_page(it->first + frame) : NULL;
 }
 
-void llfree_give_page(struct page *page, unsigned int order)
+/* Compiled for order 0 by itself. */
+struct page *llfree_take_page(struct zone *zone, unsigned int order)
+{
+	return order ? take_page(zone, order) : take_page(zone, 0);
+}
+
+static __always_inline void give_page(struct page *page, unsigned int order)
 {
 	struct zone *zone = page_zone(page);
 	struct llfree_zone *it = zone->llfree;
@@ -474,6 +511,14 @@ void llfree_give_page(struct page *page, unsigned int order)
 	leave(zone, caller, flags);
 	if (unlikely(status != LLFREE_OK))
 		warn("give", frame, order, status);
+}
+
+void llfree_give_page(struct page *page, unsigned int order)
+{
+	if (order)
+		give_page(page, order);
+	else
+		give_page(page, 0);
 }
 
 void llfree_halve_page(struct page *page, unsigned int order)
