@@ -6,10 +6,11 @@ recording that is replayed, how many takes and gives.
     bench/plot.py --measure allocator|c|pairs|paper|replay [--only GROUP ..] > PLOT.svg
 
 A file of bench/results has lines `# machine:`, `# date:`, `# method:` and then the table as the script prints it,
-with a line for each number of threads; of bench/paper.sh's csv the phases are drawn. A group is an order, or a kind of work, trees or a phase and an order
-(`random,mixed`, `one tree,0`, `take,9`); with none named all are drawn. The plot is for light and dark pages. With
---slide it has no line on machine and method, which belongs beside it then. --measure runs the script first, which takes
-its time, and lays down such a file, a new one at each run.
+with a line for each number of threads, or a csv: of bench/paper.sh's the phases are drawn, of one with columns
+threads, order, who and ns all. A group is an order, or a kind of work, trees or a phase and an order (`random,mixed`,
+`one tree,0`, `take,9`); with none named all are drawn. The plot is for light and dark pages. With --slide it has no
+line on machine and method, which belongs beside it then. --measure runs the script first, which takes its time, and
+lays down such a file, a new one at each run.
 """
 import argparse
 import csv
@@ -22,12 +23,17 @@ import sys
 import textwrap
 
 HERE = os.path.dirname(os.path.abspath(__file__))
-WIDTH, ACROSS, PANEL_HEIGHT, LEFT, EDGE, GAP = 860, 3, 190, 44, 12, 42
+WIDTH, ACROSS, LEFT, EDGE, GAP = 860, 3, 44, 12, 42
+# how high a panel is among others, and alone
+AMONG_OTHERS, ALONE = 190, 300
+# how much of an axis is free outside of the least and the greatest figure, as a factor
+ROOM = 1.15
 FONT = 'font-family="DejaVu Sans, Verdana, sans-serif"'
 # a column of a table, what it is called, and its colour on light and on dark paper
 ALLOCATORS = (
     ('llfree', 'LLFree', '#b3123f', '#ff7b9c'),
     ('unchecked', 'LLFree, blocks in structs', '#e27a97', '#d0587c'),
+    ('resting', 'LLFree, resting frames', '#0f8b8d', '#4fd1c5'),
     ('own', 'LLFree, from Rust', '#7a3b4d', '#b98a98'),
     ('plain', 'LLFree for one thread', '#9a8f93', '#8d8387'),
     ('reference', 'lock-free in plain Rust', '#336fa5', '#6cb0f0'),
@@ -41,11 +47,11 @@ ALLOCATORS = (
 PHASES = 'take', 'give', 'pair', 'foreign'
 
 
-def style():
-    """The colours, by what a browser prefers."""
+def style(columns):
+    """The colours of these lines, by what a browser prefers."""
     def rules(place, paper, text, grid):
         lines = ''.join(f'.{row[0]}{{stroke:{row[2 + place]};fill:none}}.{row[0]}-dot{{fill:{row[2 + place]}}}'
-                        for row in ALLOCATORS)
+                        for row in ALLOCATORS if row[0] in columns)
         return f'.paper{{fill:{paper}}}text{{fill:{text}}}.grid{{stroke:{grid}}}{lines}'
     return (f'<style>{rules(0, "#ffffff", "#24292f", "#dfe4e9")}'
             f'@media (prefers-color-scheme: dark){{{rules(1, "#0d1117", "#e6edf3", "#30363d")}}}</style>')
@@ -71,11 +77,17 @@ def phases_of(table):
             yield {'threads': row['threads'], 'phase': row['case'], 'order': row['order'], **figures}
 
 
+def pairs_of(table):
+    """The figures of bench/c/pairs.c, each in a row of its own."""
+    for row in csv.DictReader(table):
+        yield {'threads': row['threads'], 'order': row['order'], f'{row["who"]} ns': row['ns']}
+
+
 def rows_of(table):
     """The rows of a table, each a cell by the name of its column. The columns are flush right, but for the first, which
     alone may have two words."""
-    if table[0].startswith('benchmark,'):
-        yield from phases_of(table)
+    if ',' in table[0]:
+        yield from (phases_of if table[0].startswith('benchmark,') else pairs_of)(table)
         return
     head, *lines = table
     ends = {end: name for name, end in cells_of(head)}
@@ -137,12 +149,18 @@ def title_of(group):
     return ', '.join([kinds.get(word, word) for word in kind] + [words])
 
 
-def ticks(least, most):
-    """The round numbers of a logarithmic axis, from one below the least to one above the most."""
+def axis_of(least, most):
+    """What a logarithmic axis begins and ends with, a little outside of all figures, and the round numbers on it; where
+    they are fewer than two, it ends with those outside."""
     steps = [step * 10.0 ** power for power in range(-4, 7) for step in (1, 2, 5)]
-    low = max(step for step in steps if step <= least)
-    high = min(step for step in steps if step >= most)
-    return [step for step in steps if low <= step <= high]
+    low, high = least / ROOM, most * ROOM
+    if sum(low <= step <= high for step in steps) < 2:
+        low, high = max(step for step in steps if step <= least), min(step for step in steps if step >= most)
+    return low, high, [step for step in steps if low <= step <= high]
+
+
+def high_of(many):
+    return ALONE if many == 1 else AMONG_OTHERS
 
 
 class Panel:
@@ -153,29 +171,30 @@ class Panel:
         across = min(of, ACROSS)
         self.width = (WIDTH - LEFT - EDGE - (across - 1) * GAP) // across
         self.left = LEFT + place % ACROSS * (self.width + GAP)
-        self.top = top + 24 + place // ACROSS * (PANEL_HEIGHT + 70)
-        self.threads, self.axis = threads, axis
+        self.high = high_of(of)
+        self.top = top + 24 + place // ACROSS * (self.high + 70)
+        self.threads, (self.least, self.most, self.ticks) = threads, axis
 
     def right_of(self, threads):
         at = self.threads.index(threads)
         return self.left + 16 + at * (self.width - 32) / max(1, len(self.threads) - 1)
 
     def height_of(self, figure):
-        low, high = math.log10(self.axis[0]), math.log10(self.axis[-1])
-        return self.top + PANEL_HEIGHT * (high - math.log10(figure)) / (high - low)
+        low, high = math.log10(self.least), math.log10(self.most)
+        return self.top + self.high * (high - math.log10(figure)) / (high - low)
 
     def frame(self, title):
         yield (f'<text x="{self.left}" y="{self.top - 10}" font-size="13" font-weight="bold">'
                f'{title}</text>')
-        for tick in self.axis:
+        for tick in self.ticks:
             height = self.height_of(tick)
             yield f'<path d="M{self.left} {height:.1f}h{self.width}" class="grid"/>'
             yield (f'<text x="{self.left - 5}" y="{height + 4:.1f}" font-size="11" text-anchor="end">'
                    f'{tick:g}</text>')
         for threads in self.threads:
-            yield (f'<text x="{self.right_of(threads):.1f}" y="{self.top + PANEL_HEIGHT + 16}" font-size="11" '
+            yield (f'<text x="{self.right_of(threads):.1f}" y="{self.top + self.high + 16}" font-size="11" '
                    f'text-anchor="middle">{threads}</text>')
-        yield (f'<text x="{self.left + self.width // 2}" y="{self.top + PANEL_HEIGHT + 31}" font-size="11" '
+        yield (f'<text x="{self.left + self.width // 2}" y="{self.top + self.high + 31}" font-size="11" '
                f'text-anchor="middle">threads</text>')
 
     def line(self, points, column, width):
@@ -215,17 +234,18 @@ def escaped(text):
 
 def plot(said, groups, is_slide):
     figures = [point for group in groups.values() for points in group.values() for point in points]
-    axis = ticks(min(figure for _, figure in figures), max(figure for _, figure in figures))
+    axis = axis_of(min(figure for _, figure in figures), max(figure for _, figure in figures))
     threads = sorted({count for count, _ in figures})
     told = [] if is_slide else textwrap.wrap(f'{said["date"]}, {said["machine"]}: {said["method"]}', 140)
-    keys = list(keys_of({column for group in groups.values() for column in group}))
+    columns = {column for group in groups.values() for column in group}
+    keys = list(keys_of(columns))
     more = 18 * keys[-1][0]
     top = 66 + 15 * len(told) + more + (10 if told else 0)
-    height = top + -(-len(groups) // ACROSS) * (PANEL_HEIGHT + 70)
+    height = top + -(-len(groups) // ACROSS) * (high_of(len(groups)) + 70)
     yield (f'<svg xmlns="http://www.w3.org/2000/svg" width="{WIDTH}" height="{height}" '
            f'viewBox="0 0 {WIDTH} {height}" role="img" {FONT}>')
     yield f'<title>{heading_of(groups)}</title>'
-    yield style()
+    yield style(columns)
     yield f'<rect width="{WIDTH}" height="{height}" class="paper"/>'
     yield f'<text x="10" y="24" font-size="15">{heading_of(groups)}</text>'
     for place, text in enumerate(told):

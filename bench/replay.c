@@ -1,5 +1,6 @@
-/* Replays a trace on threads, as fast as it goes, through the library for C, a buddy allocator with lists for each
- * processor as Linux has it, and a buddy allocator and a bitmap, each under a mutex.
+/* Replays a trace on threads, as fast as it goes, through the library for C by numbers, and by structs with single
+ * frames that rest with their core; through a buddy allocator with lists for each processor as Linux has it, and a
+ * buddy allocator and a bitmap, each under a mutex.
  *
  *     replay THREADS CHILDREN REPEATS < TRACE
  *
@@ -38,9 +39,11 @@ struct worker {
     long refused;
 };
 
+/* A take answers the first frame of a block, or NONE. A give is told the block, which has that frame, and the order. */
 struct allocator {
     const char *name;
-    uint32_t (*take)(struct worker *, uint8_t);
+    bool is_library;
+    uint32_t (*take)(struct worker *, uint32_t, uint8_t);
     void (*give)(struct worker *, uint32_t, uint8_t);
 };
 
@@ -48,9 +51,10 @@ static struct worker workers[MOST_THREADS];
 static const struct allocator *now;
 static pthread_barrier_t barrier;
 static uint32_t threads, rounds, blocks, kept;
-static uint32_t frames[MOST_RECORDS]; /* the first frame of each block that is held, or NONE */
+/* the first frame of each block that is held, or NONE; behind the blocks of the trace those that are taken before */
+static uint32_t frames[MOST_RECORDS + CHILDREN];
+static llfree_block structs[MOST_RECORDS + CHILDREN];
 static uint8_t orders[MOST_RECORDS];
-static uint32_t kept_frames[CHILDREN];
 static struct peer *lists, *buddy;
 
 static void want(bool is_right, const char *what)
@@ -71,57 +75,80 @@ static uint64_t nanoseconds(void)
 
 /* The allocators */
 
-static uint32_t library_take(struct worker *me, uint8_t order)
+static uint32_t library_take(struct worker *me, uint32_t block, uint8_t order)
 {
     uint32_t frame;
 
+    (void)block;
     return llfree_take(&me->core, order, &frame) == LLFREE_OK ? frame : NONE;
 }
 
-static void library_give(struct worker *me, uint32_t frame, uint8_t order)
+static void library_give(struct worker *me, uint32_t block, uint8_t order)
 {
-    want(llfree_give(&me->core, frame, order) == LLFREE_OK, "a give was refused");
+    want(llfree_give(&me->core, frames[block], order) == LLFREE_OK, "a give was refused");
 }
 
-static uint32_t lists_take(struct worker *me, uint8_t order)
+static uint32_t resting_take(struct worker *me, uint32_t block, uint8_t order)
 {
+    llfree_block *into = &structs[block];
+    enum llfree_status status =
+        order == 0 ? llfree_take_frame(&me->core, into) : llfree_take_block(&me->core, order, into);
+
+    return status == LLFREE_OK ? into->frame : NONE;
+}
+
+static void resting_give(struct worker *me, uint32_t block, uint8_t order)
+{
+    llfree_block *from = &structs[block];
+    enum llfree_status status =
+        order == 0 ? llfree_give_frame(&me->core, from) : llfree_give_block(&me->core, from);
+
+    want(status == LLFREE_OK, "a give was refused");
+}
+
+static uint32_t lists_take(struct worker *me, uint32_t block, uint8_t order)
+{
+    (void)block;
     return peer_take(lists, (uint32_t)(me - workers), order);
 }
 
-static void lists_give(struct worker *me, uint32_t frame, uint8_t order)
+static void lists_give(struct worker *me, uint32_t block, uint8_t order)
 {
-    peer_give(lists, (uint32_t)(me - workers), frame, order);
+    peer_give(lists, (uint32_t)(me - workers), frames[block], order);
 }
 
-static uint32_t buddy_take(struct worker *me, uint8_t order)
+static uint32_t buddy_take(struct worker *me, uint32_t block, uint8_t order)
 {
     (void)me;
+    (void)block;
     return peer_take(buddy, 0, order);
 }
 
-static void buddy_give(struct worker *me, uint32_t frame, uint8_t order)
+static void buddy_give(struct worker *me, uint32_t block, uint8_t order)
 {
     (void)me;
-    peer_give(buddy, 0, frame, order);
+    peer_give(buddy, 0, frames[block], order);
 }
 
-static uint32_t plain_bitmap_take(struct worker *me, uint8_t order)
+static uint32_t plain_bitmap_take(struct worker *me, uint32_t block, uint8_t order)
 {
     (void)me;
+    (void)block;
     return bitmap_take(order);
 }
 
-static void plain_bitmap_give(struct worker *me, uint32_t frame, uint8_t order)
+static void plain_bitmap_give(struct worker *me, uint32_t block, uint8_t order)
 {
     (void)me;
-    bitmap_give(frame, order);
+    bitmap_give(frames[block], order);
 }
 
 static const struct allocator allocators[] = {
-    { "llfree", library_take, library_give },
-    { "lists", lists_take, lists_give },
-    { "buddy", buddy_take, buddy_give },
-    { "bitmap", plain_bitmap_take, plain_bitmap_give },
+    { "llfree", true, library_take, library_give },
+    { "resting", true, resting_take, resting_give },
+    { "lists", false, lists_take, lists_give },
+    { "buddy", false, buddy_take, buddy_give },
+    { "bitmap", false, plain_bitmap_take, plain_bitmap_give },
 };
 
 /* The trace */
@@ -198,10 +225,10 @@ static void make(struct worker *me, const struct record *record)
     uint32_t *frame = &frames[record->block];
 
     if (record->is_take) {
-        *frame = now->take(me, record->order);
+        *frame = now->take(me, record->block, record->order);
         me->refused += *frame == NONE;
     } else if (*frame != NONE) {
-        now->give(me, *frame, record->order);
+        now->give(me, record->block, record->order);
         *frame = NONE;
     }
 }
@@ -243,9 +270,7 @@ static uint32_t free_children(void)
     uint32_t count = 0;
 
     memset(is_touched, 0, sizeof is_touched);
-    for (uint32_t i = 0; i < kept; i++)
-        is_touched[kept_frames[i] >> MOST_ORDER] = true;
-    for (uint32_t block = 0; block < blocks; block++)
+    for (uint32_t block = 0; block < MOST_RECORDS + kept; block++)
         if (frames[block] != NONE)
             is_touched[frames[block] >> MOST_ORDER] = true;
     for (uint32_t child = 0; child < CHILDREN; child++)
@@ -259,9 +284,9 @@ static void replay(const struct allocator *allocator)
     long refused = 0;
 
     now = allocator;
-    for (uint32_t i = 0; i < kept; i++)
-        want((kept_frames[i] = now->take(&workers[0], MOST_ORDER)) != NONE, "no huge frame before the replay");
     memset(frames, 0xff, sizeof frames);
+    for (uint32_t i = MOST_RECORDS; i < MOST_RECORDS + kept; i++)
+        want((frames[i] = now->take(&workers[0], i, MOST_ORDER)) != NONE, "no huge frame before the replay");
     pthread_barrier_init(&barrier, NULL, threads);
     for (uint32_t i = 0; i < threads; i++) {
         workers[i].spent = 0;
@@ -278,9 +303,9 @@ static void replay(const struct allocator *allocator)
     printf("%u,%s,%" PRIu64 ",%ld,%u\n", threads, now->name, 10 * spent / records, refused, free_children());
     for (uint32_t block = 0; block < blocks; block++)
         if (frames[block] != NONE)
-            now->give(&workers[0], frames[block], orders[block]);
-    for (uint32_t i = 0; i < kept; i++)
-        now->give(&workers[0], kept_frames[i], MOST_ORDER);
+            now->give(&workers[0], block, orders[block]);
+    for (uint32_t i = MOST_RECORDS; i < MOST_RECORDS + kept; i++)
+        now->give(&workers[0], i, MOST_ORDER);
 }
 
 static void open_library(void)
@@ -310,11 +335,13 @@ int main(int count, char **words)
     lists = peer_open(FRAMES, threads);
     buddy = peer_open(FRAMES, 0);
     want(lists != NULL && buddy != NULL, "no memory");
-    for (int repeat = atoi(words[3]); repeat > 0; repeat--) {
-        open_library();
-        for (size_t i = 0; i < sizeof allocators / sizeof *allocators; i++)
+    for (int repeat = atoi(words[3]); repeat > 0; repeat--)
+        for (size_t i = 0; i < sizeof allocators / sizeof *allocators; i++) {
+            if (allocators[i].is_library)
+                open_library();
             replay(&allocators[i]);
-        close_library();
-    }
+            if (allocators[i].is_library)
+                close_library();
+        }
     return 0;
 }
