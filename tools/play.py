@@ -19,6 +19,7 @@ import json
 import lzma
 import operator
 import os
+import re
 import shutil
 import subprocess
 import sys
@@ -46,6 +47,8 @@ COLOURS, LAYERS = 8, 17
 CHUNK = 1 << 22
 # what another make has said to what it calls
 TOLD_TO_MAKE = 'CDPATH', 'MAKEFLAGS', 'MFLAGS', 'GNUMAKEFLAGS'
+# what perf says of a recording with holes: how much it lost, where that is more than a twentieth, or that it did
+LOST_SHARE, LOST = re.compile(r'\blost (\d+(?:\.\d+)?)%'), re.compile(r'\blost \d+ ')
 CALLS = 'open', 'take', 'give', 'split', 'free_frames', 'free_huge', 'close'
 NAMES = ('LLFree', 'buddy with per-CPU lists', 'buddy', 'as recorded')
 
@@ -64,21 +67,29 @@ def shows(text):
 
 
 class Perf:
-    """What perf reads of a file of its own."""
+    """What perf reads of a file of its own, and at its end what share of the events it lost when it recorded."""
 
     def __init__(self, name):
         if shutil.which('perf') is None:
             raise Fault("what perf recorded is read by perf, which is not here: Debian's package is linux-perf")
+        self.lost = ''
         self.errors = tempfile.TemporaryFile()
         self.process = subprocess.Popen(['perf', 'script', '-i', name], stdout=subprocess.PIPE, stderr=self.errors)
 
     def read(self, size):
         more = self.process.stdout.read(size)
-        if not more and self.process.wait():
-            self.errors.seek(0)
-            said = self.errors.read().decode('utf-8', 'replace').split('\n')
-            raise Fault(f'perf ended with status {self.process.returncode}: {" ".join(filter(None, said))[:300]}')
+        if not more:
+            self.end()
         return more
+
+    def end(self):
+        status = self.process.wait()
+        self.errors.seek(0)
+        said = ' '.join(self.errors.read().decode('utf-8', 'replace').split())
+        if status:
+            raise Fault(f'perf ended with status {status}: {said[:300]}')
+        share = LOST_SHARE.search(said)
+        self.lost = f'{float(share[1]):.0f} %' if share else 'some' if LOST.search(said) else ''
 
 
 def opened(name):
@@ -206,6 +217,7 @@ class Replay:
             ends = self.follow(columns, first, given.end)
             if ends:
                 break
+        self.lost = getattr(source, 'lost', '')
         told = column('I', 9)
         self.code.recording_end(self.at, pointer(told))
         (self.count, self.begin, self.micros, self.most_held, self.processors, self.unknown, self.left_out, self.parts,
@@ -364,7 +376,7 @@ def page(replay, given):
     kept = sum(mark >> 4 == 2 for mark in replay.columns()[1])
     said = {'title': given.title, 'film': is_film, 'count': count, 'kept': kept, 'frames': replay.frames,
             'processors': replay.processors, 'names': NAMES, 'children': replay.children, 'begin': begin,
-            'micros': replay.micros - begin}
+            'micros': replay.micros - begin, 'lost': replay.lost}
     if is_film:
         times = times_of(replay, begin, int((given.film or 0) * 1000))
         said['pictures'] = len(times)
@@ -403,6 +415,8 @@ def tell(replay, given):
     if replay.unknown:
         print(f'{replay.unknown:9,} frames that were freed, but allocated before the recording: left out',
               file=sys.stderr)
+    if replay.lost:
+        print(f'{replay.lost:>9} of the events were lost by perf: a larger -m gives it more room', file=sys.stderr)
     if replay.left_out:
         print(f'{replay.left_out:9,} allocations that the kernel refused, and orders that no kernel has: left out',
               file=sys.stderr)

@@ -51,9 +51,10 @@ def tries(name, is_right, said=''):
         print(f'play: {name}{": " + str(said) if said else ""}')
 
 
-def made(words, recording=None):
+def made(words, recording=None, settings=None):
     """What play.py prints, its standard error and its status."""
-    done = subprocess.run([os.path.join(TOOLS, 'play.py'), *words], input=recording, capture_output=True, check=False)
+    done = subprocess.run([os.path.join(TOOLS, 'play.py'), *words], input=recording, capture_output=True, check=False,
+                          env=settings)
     return done.stdout, done.stderr.decode(), done.returncode
 
 
@@ -320,6 +321,10 @@ x 1 [001] 1.000030: kmem:mm_page_alloc: page=0 pfn=0x1008 order=2 migratetype=0
 '''
 
 
+LOST_LITTLE = 'Warning:\nProcessed 47349 events and lost 2 chunks!\n\nCheck IO/CPU overload!\n\n'
+LOST_MUCH = 'Warning:\nProcessed 115895 samples and lost 60.09%!\n\n'
+
+
 # Recordings that are none, and large ones
 
 
@@ -343,6 +348,29 @@ def refusals(folder):
                     for at in range(3000))
     page, said, status = made(['-', '--mib', '16'], wild)
     tries('a wild recording', status == 0 and page, said)
+
+
+def by_perf(folder):
+    """Of a file that perf alone can read, the page says how much perf lost; there is none where perf cannot read it."""
+    data, program, printed = (os.path.join(folder, name) for name in ('perf.data', 'perf', 'perf.txt'))
+    settings = {**os.environ, 'PATH': folder + os.pathsep + os.environ['PATH']}
+    with open(data, 'wb') as out:
+        out.write(b'PERFILE2' + bytes(96))
+    with open(printed, 'w', encoding='utf-8') as out:
+        out.write(PARTS)
+
+    def by(said, status):
+        with open(program, 'w', encoding='utf-8') as out:
+            out.write(f"#!/bin/sh\ncat '{printed}'\ncat >&2 <<'end'\n{said}\nend\nexit {status}\n")
+        os.chmod(program, 0o755)
+        return made([data, '--mib', '16'], settings=settings)
+    for said, lost in (('', ''), (LOST_LITTLE, 'some'), (LOST_LITTLE + LOST_MUCH, '60 %')):
+        page, told, status = by(said, 0)
+        is_told = bool(lost) == (f'{lost} of the events were lost by perf' in told)
+        is_in_it = status == 0 and witness.Page(page).said['lost'] == lost
+        tries(f'perf lost {lost or "nothing"}', is_told and is_in_it, told)
+    page, told, status = by('no', 3)
+    tries('perf fails', status == 1 and page == b'' and told == 'play: perf ended with status 3: no\n', told)
 
 
 def peers(folder):
@@ -571,6 +599,7 @@ def main():
         windows(folder)
         trace_windows()
         refusals(folder)
+        by_perf(folder)
         peers(folder)
         in_browser(folder, given.pictures)
     print(f'{counts["passed"]} passed, {counts["failed"]} failed')

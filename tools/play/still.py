@@ -19,8 +19,9 @@ def style():
     def colours(made):
         return ''.join(f'.p{place}{{stroke:{colour}}}.k{place}{{fill:{colour}}}' for place, colour in enumerate(made))
     return ('<style>text{fill:#24292f;font-family:system-ui,"DejaVu Sans",Verdana,sans-serif}.soft{fill:#59636e}'
+            '.paper{fill:#ffffff}'
             f'.free{{fill:#eef1f4}}.edge{{fill:#d0d7de}}{colours(LIGHT)}@media (prefers-color-scheme:dark)'
-            '{text{fill:#e6edf3}.soft{fill:#9198a1}.free{fill:#1c2128}.edge{fill:#30363d}'
+            '{text{fill:#e6edf3}.soft{fill:#9198a1}.paper{fill:#0d1117}.free{fill:#1c2128}.edge{fill:#30363d}'
             f'{colours(DARK)}}}</style>')
 
 
@@ -132,7 +133,7 @@ def svg(replay, given, names, until):
         shared, used = shares(who.tobytes(), replay.children[one])
         body.append(f'<text x="{left}" y="{top - 8}" font-size="15" font-weight="600">{names[one]}</text>')
         body += [f'<g transform="translate({left} {top})">', *made, '</g>']
-        body.append(f'<text x="{left}" y="{top + high + 23:.0f}" font-size="17" font-weight="700">'
+        body.append(f'<text x="{left}" y="{top + high + 23:.0f}" font-size="16" font-weight="700">'
                     f'{shared:,} of {used:,}<tspan dx="6" font-size="13.5" font-weight="400">huge frames shared</tspan>'
                     '</text>')
         if replay.children[one] > MOST_WITH_SHARES:
@@ -145,6 +146,7 @@ def svg(replay, given, names, until):
     yield f'<svg xmlns="http://www.w3.org/2000/svg" {size} role="img" fill="none">'
     yield f'<title>{escape(words)}</title>'
     yield style()
+    yield f'<rect class="paper" width="{wide}" height="{bottom:.0f}"/>'
     yield f'<text x="{MARGIN}" y="26" font-size="17" font-weight="600">Where a kernel’s page frames lie</text>'
     yield f'<text class="soft" x="{MARGIN}" y="47" font-size="13">{escape(words)}</text>'
     right = MARGIN
