@@ -495,6 +495,23 @@ USERS = '''model.memories.every(m => {
 })'''
 
 
+# of each tile of a film whose points are fewer than twice its colours: it is filled as far as frames of it are held, by
+# its users alone, and where one point has them all, by the one with most
+FILLED = '''model.memories.every(m => {
+  const colours = palette().processor.map(packed), free = packed(css('--free'));
+  if (m.wide >= 2 * m.colours) return false;
+  for (let child = 0; child < m.children; child++) {
+    const at = m.corner(child), layer = l => m.layer[(l * m.children + child) * SAID.pictures + model.at];
+    const users = Array.from({ length: m.colours }, (_, l) => layer(l)), held = users.reduce((sum, n) => sum + n);
+    const taken = [...m.points.subarray(at, at + m.wide)].filter(one => one !== free);
+    if (taken.length !== Math.min(m.wide, Math.ceil(held * m.wide / 256))) return false;
+    if (taken.some(one => !users[colours.indexOf(one)])) return false;
+    if (taken.length === 1 && users[colours.indexOf(taken[0])] !== Math.max(...users)) return false;
+  }
+  return true;
+})'''
+
+
 def is_in_its_room(page):
     """Whether pictures are nearly as wide as their panels, with no point narrower than one of the screen."""
     return all(0.7 * room < shown <= room and points <= shown for room, shown, points in page.value(ROOM))
@@ -577,6 +594,10 @@ def plays(page, name, folder, width, is_dark, pictures):
     page.value("document.querySelectorAll('.larger').forEach(one => one.click())")
     if name != 'film':
         sees('small tiles show their users', page.value(USERS))
+    else:
+        page.value("model.memories.forEach(m => m.fit(3 * m.children ** 0.5 * 2, 1)), show()")
+        sees('narrow tiles show their users', page.value(FILLED))
+        page.value('fit()')
     page.value("seek(SAID.micros * 0.55)")
     sees('the same after all', page.value('model.digest()') == there)
 
