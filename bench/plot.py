@@ -86,9 +86,10 @@ def pairs_of(table):
 def rows_of(table):
     """The rows of a table, each a cell by the name of its column. The columns are flush right, but for the first, which
     alone may have two words."""
-    if ',' in table[0]:
-        yield from (phases_of if table[0].startswith('benchmark,') else pairs_of)(table)
-        return
+    for start, rows in ('benchmark,', phases_of), ('threads,order,who,ns', pairs_of):
+        if table[0].startswith(start):
+            yield from rows(table)
+            return
     head, *lines = table
     ends = {end: name for name, end in cells_of(head)}
     first = cells_of(head)[0][0]
@@ -119,8 +120,8 @@ def result_of(text):
         for column, *_ in ALLOCATORS:
             if f'{column} ns' in row:
                 figures.setdefault(column, []).append((threads, 1000 * threads / float(row[f'{column} ns'])))
-    if not groups:
-        raise Fault('the table has no column "threads"')
+    if not any(groups.values()):
+        raise Fault('the table has no column "threads", or none of allocators beside it')
     return said, groups
 
 

@@ -371,6 +371,9 @@ plots() {
     bench/plot.py bench/results/pairs-2026-11-26.txt --only 'one tree,9' >"$work/plot"
     tries 'the plot in a tree' grep -q 'all on one tree, order 9' "$work/plot"
     refuses 'a plot of no table' '# date: today\n' bench/plot.py
+    local head='# machine: a\n# date: b\n# method: c\n'
+    refuses 'a plot of no allocator' "${head}threads  other ns\n      1      50.6\n" bench/plot.py
+    refuses 'a plot of no threads' "${head}what,ms\none,2\n" bench/plot.py
 }
 
 # are_frames IMAGE SVG: as many points of the picture are of the colour of held frames as the image holds
