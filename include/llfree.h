@@ -76,7 +76,8 @@ enum llfree_status LLFREE_STATUS_TYPE {
     LLFREE_CONTENDED = 8,     /* lost a race with other cores; or (never seen) the library's list had no
                                  place for the block; retry */
     LLFREE_BAD_RANGE = 9,     /* more than 1024 ranges, or one is empty, overlaps or precedes the one before
-                                 it, or has a frame in a hole or past the end of memory */
+                                 it, or has a frame in a hole or past the end of memory; or there is no such
+                                 zone */
     LLFREE_NO_ROOM = 10,      /* the buffer is too small for the image */
     LLFREE_CORES_OPEN = 11,   /* other cores of the allocator are open */
     LLFREE_BAD_IMAGE = 12     /* the numbers are no image of a memory of this size */
@@ -153,9 +154,9 @@ enum llfree_status llfree_open(llfree_core *handles, size_t cores, uint32_t fram
  * several zones, one after another. A frame in no zone lies in a hole: it costs nothing and is never given out.
  * Ranges use the same numbers. A range may continue in the next zone, but has no frame in a hole.
  * Otherwise as llfree_open; BAD_GEOMETRY also for an unlawful list of zones. The core behind handle i of n has
- * the home zone i * zone_count / n, after an opening at an image too. A core takes from its home zone first, then
- * from the next zones in turn. If one of these had a block, the next 1024 takes of that order begin there. (Where
- * takes begin is tested, not proved.) */
+ * the home zone i * zone_count / n, after an opening at an image too, until llfree_set_home. A core takes from its
+ * home zone first, then from the next zones in turn. If one of these had a block, the next 1024 takes of that order
+ * begin there. (Where takes begin is tested, not proved.) */
 LLFREE_NODISCARD
 enum llfree_status llfree_open_zones(llfree_core *handles, size_t cores, const llfree_range *zones,
                                      size_t zone_count, const llfree_range *ranges, size_t range_count);
@@ -233,6 +234,20 @@ enum llfree_status llfree_split(llfree_core *handle, uint32_t frame, uint8_t ord
 /* The frames of all zones of the memory, those of the ranges too; 0 if the handle is closed. */
 uint32_t llfree_frames(llfree_core *handle);
 
+/* The number of zones of the memory; 0 if the handle is closed. */
+uint32_t llfree_zones(llfree_core *handle);
+
+/* The home zone of the core (see llfree_open_zones). Zones are numbered from 0 on, in their order. 0 if the handle
+ * is closed. */
+uint32_t llfree_home(llfree_core *handle);
+
+/* Makes this zone the home of the core: its next take of each order begins there, whichever zone served the last
+ * ones. Nothing else changes: what rests with the core is still taken first (llfree_take_frame). A kernel sets the
+ * home of each processor that comes online to a zone of its node. On BAD_RANGE (no such zone) and CLOSED_HANDLE
+ * nothing changes. It allocates nothing and never locks or waits. */
+LLFREE_NODISCARD
+enum llfree_status llfree_set_home(llfree_core *handle, uint32_t zone);
+
 /* The number of free frames, by the counters of the children, four of them in one load. Exact while no other
  * thread is in a call (tested, not proved). Otherwise the children are read at different times, and frames that
  * a core is about to take or give count as held. Never above llfree_frames; 0 if the handle is closed. It
@@ -242,6 +257,12 @@ uint32_t llfree_free_frames(llfree_core *handle);
 /* The number of free huge frames (children with all frames free), in the same way. A child that is cut off does
  * not count. */
 uint32_t llfree_free_huge(llfree_core *handle);
+
+/* The number of free frames of one zone, in the same way. 0 if there is no such zone, or the handle is closed. */
+uint32_t llfree_free_frames_of(llfree_core *handle, uint32_t zone);
+
+/* The number of free huge frames of one zone, in the same way. */
+uint32_t llfree_free_huge_of(llfree_core *handle, uint32_t zone);
 
 /* Closes the handle of a core, if it is open, and gives back what rests with it (see llfree_take_frame). The last
  * handle of an allocator frees it, together with all blocks that are still held (that all its memory is freed, and

@@ -17,7 +17,7 @@ static inline const char *llfree_status_text(uint32_t status)
     case LLFREE_BAD_GEOMETRY: return "no memory has so many frames or cores, or such zones";
     case LLFREE_OPEN_HANDLE: return "the handle is open, or the struct holds a block";
     case LLFREE_CONTENDED: return "other cores were in the way";
-    case LLFREE_BAD_RANGE: return "the ranges are too many, empty, outside of the memory or out of order";
+    case LLFREE_BAD_RANGE: return "the ranges are too many, empty, outside of the memory or out of order; or no such zone";
     case LLFREE_NO_ROOM: return "the buffer is too small for the image";
     case LLFREE_CORES_OPEN: return "other cores of the allocator are open";
     case LLFREE_BAD_IMAGE: return "the numbers are those of no image";

@@ -57,7 +57,9 @@ PAGES = [
         ("blocks of two zones share no frame", ["blocks_lie_in_zones"]),
         ("opening and closing", ["Zones::open", "Zones::close"]),
         ("what survived", ["Zones::open_at", "Zones::adopt"]),
-        ("how much is free", ["Zones::free_frames", "Zones::free_huge"]),
+        ("how much is free", [
+            "Zones::free_frames", "Zones::free_huge", "Zones::free_frames_of", "Zones::free_huge_of"]),
+        ("a home that is set", ["Zones::set_home"]),
     ]),
     ("c", "The library for C", [
         ("one thread: a take, a give, a split", [
@@ -74,7 +76,9 @@ PAGES = [
         ("several threads: openings at an image", ["llfree_reopen", "llfree_reopen_zones"]),
         ("several threads: the image that the last handle leaves", ["llfree_close_image"]),
         ("the image of words after a kill", ["llfree_words", "llfree_image_of_words"]),
-        ("how much is free", ["llfree_free_frames", "llfree_free_huge"]),
+        ("how much is free", [
+            "llfree_free_frames", "llfree_free_huge", "llfree_free_frames_of", "llfree_free_huge_of"]),
+        ("several threads: zones, and homes that are set", ["llfree_zones", "llfree_home", "llfree_set_home"]),
         ("what no take answers and no stop leaves", ["wrong_takes_are_not_told", "wrong_images_are_not_left"]),
     ]),
     ("threads", "Threads", [

@@ -75,6 +75,8 @@ for _name, _answer, *_arguments in (
         ('split', _u32, _to(Handle), _u32, _u8), ('take_frame', _u32, _to(Handle), _to(Block)),
         ('give_frame', _u32, _to(Handle), _to(Block)), ('drain', None, _to(Handle)), ('resting', _u32, _to(Handle)),
         ('frames', _u32, _to(Handle)), ('free_frames', _u32, _to(Handle)), ('free_huge', _u32, _to(Handle)),
+        ('zones', _u32, _to(Handle)), ('home', _u32, _to(Handle)), ('set_home', _u32, _to(Handle), _u32),
+        ('free_frames_of', _u32, _to(Handle), _u32), ('free_huge_of', _u32, _to(Handle), _u32),
         ('close', None, _to(Handle)),
         ('close_image', _u32, _to(Handle), _to(_u64), _size), ('image_words', _size, _u32)):
     _call = getattr(library, f'llfree_{_name}')
@@ -162,6 +164,23 @@ class Core:
 
     def free_huge(self):
         return self._call('free_huge')
+
+    def zones(self):
+        return self._call('zones')
+
+    def free_frames_of(self, zone):
+        """Those of the zone of this number; 0 if there is none."""
+        return self._call('free_frames_of', zone) if 0 <= zone < 1 << 32 else 0
+
+    def free_huge_of(self, zone):
+        return self._call('free_huge_of', zone) if 0 <= zone < 1 << 32 else 0
+
+    def home(self):
+        """The zone where takes through this core begin."""
+        return self._call('home')
+
+    def set_home(self, zone):
+        _checked(self._call('set_home', _fits(zone, 32, Status.BAD_RANGE)))
 
     def close(self):
         self._call('close')

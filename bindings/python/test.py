@@ -89,14 +89,28 @@ class Calls(unittest.TestCase):
         self.assertEqual(second.close_image()[::9], [512] * 8)
 
     def test_ranges_zones_and_what_is_left(self):
+        def free(*zones):
+            return [(core.free_frames_of(zone), core.free_huge_of(zone)) for zone in zones]
         core, = llfree.open(1024, kept=[(0, 1000)])
         taken = sorted(core.take(0, tries=20) for _ in range(24))
         self.assertEqual(taken, list(range(1000, 1024)))
         self.refused(llfree.Status.NO_BLOCK, core.take, 0, tries=3)
         core, = llfree.open_zones([(0, 512), (4096, 512)])
         self.assertEqual({core.take(9), core.take(9)}, {0, 4096})
+        self.assertEqual(free(0, 1, 1 << 32), [(0, 0)] * 3)
         self.refused(llfree.Status.BAD_GEOMETRY, llfree.open_zones, [(1, 512)])
         core.give(4096, 9)
+        self.assertEqual(free(0, 1, 2, -1), [(0, 0), (512, 1), (0, 0), (0, 0)])
+        for zone in (2, -1, 1 << 32):
+            self.refused(llfree.Status.BAD_RANGE, core.set_home, zone)
+        self.assertEqual((core.zones(), core.home()), (2, 0))
+        core.give(0, 9)
+        for zone in (1, 0):
+            core.set_home(zone)
+            frame = core.take(9)
+            self.assertEqual((core.home(), frame), (zone, 4096 * zone))
+            core.give(frame, 9)
+        self.assertEqual(core.take(9), 0)
         numbers = core.close_image(zones=[(0, 512), (4096, 512)])
         self.assertEqual((len(numbers), numbers[0] & 32768, numbers[9:]), (18, 32768, [512] + [0] * 8))
 

@@ -259,6 +259,8 @@ static void no_calls(void)
         ;
     CHECK(llfree_take(&cores[1], 0, &frame) == LLFREE_NO_BLOCK);
     CHECK(llfree_free_frames(&cores[1]) == 0 && llfree_free_huge(&cores[2]) == 0);
+    CHECK(llfree_free_frames_of(&cores[1], 0) == 0 && llfree_free_huge_of(&cores[2], 0) == 0);
+    CHECK(llfree_zones(&cores[0]) == 1 && llfree_set_home(&cores[1], 0) == LLFREE_OK && llfree_home(&cores[1]) == 0);
     CHECK(llfree_plain_free_frames(&memory) == 0 && llfree_plain_free_huge(&memory) == 0);
     CHECK(llfree_plain_is_held(&memory, frame, 0));
     CHECK(calls == 0);

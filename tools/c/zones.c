@@ -1,5 +1,6 @@
 /* The library for C over zones: every status of the calls that open them, holes that are never handed out, takes that
- * go on to the next zone, images of two and of three zones, and 64 GiB in eight zones with an owner byte a frame. */
+ * go on to the next zone, homes that are set, what is free in each zone, images of two and of three zones, and 64 GiB in
+ * eight zones with an owner byte a frame. */
 #include "check.h"
 #include <pthread.h>
 #include <stdatomic.h>
@@ -221,6 +222,77 @@ static void holes(void)
     close_all(h, 3);
 }
 
+static void none_there(llfree_core *h, uint32_t zone)
+{
+    CHECK(llfree_free_frames_of(h, zone) == 0 && llfree_free_huge_of(h, zone) == 0);
+}
+
+/* So much is free in each of these zones, and in all of them together. */
+static void are_free(llfree_core *h, uint32_t zones, const uint32_t *frames, const uint32_t *huge)
+{
+    uint32_t all = 0, all_huge = 0;
+
+    CHECK(llfree_zones(h) == zones);
+    for (uint32_t z = 0; z < zones; z++) {
+        CHECK(llfree_free_frames_of(h, z) == frames[z] && llfree_free_huge_of(h, z) == huge[z]);
+        all += frames[z];
+        all_huge += huge[z];
+    }
+    CHECK(llfree_free_frames(h) == all && llfree_free_huge(h) == all_huge);
+    none_there(h, zones);
+    none_there(h, zones + 1);
+    none_there(h, UINT32_MAX);
+}
+
+/* What is free in each zone, as blocks of all orders are taken and given through cores of all homes. */
+static void counts(void)
+{
+    static const uint32_t nothing[3] = { 0 }, huge[3] = { 1, 0, 1 };
+    static uint32_t held[END / CHILD + 1];
+    static llfree_claim blocks[HELD];
+    llfree_core h[3] = { LLFREE_CLOSED, LLFREE_CLOSED, LLFREE_CLOSED };
+    uint64_t x = 88172645463325252ull;
+    uint32_t frames[3] = { 1000, 511, 692 }, whole[3], n = 0;
+
+    CHECK(llfree_zones(&h[0]) == 0);
+    none_there(&h[0], 0);
+    CHECK(llfree_open_zones(h, 3, three, 3, back, 3) == LLFREE_OK);
+    are_free(&h[1], 3, frames, huge);
+    for (int round = 0; round < 3000; round++) {
+        next_random(&x);
+        llfree_core *core = &h[x % 3];
+        bool takes = n < HELD && (x >> 20) % 8 < (round / 500 % 2 ? 3 : 5);
+        uint32_t i = n ? (uint32_t)(x >> 24) % n : 0;
+
+        if (takes) {
+            blocks[n] = (llfree_claim) { 0, (uint8_t)((x >> 40) % 10) };
+            if (llfree_take(core, blocks[n].order, &blocks[n].frame) != LLFREE_OK)
+                continue;
+            i = n++;
+        } else if (n > 0) {
+            CHECK(llfree_give(core, blocks[i].frame, blocks[i].order) == LLFREE_OK);
+        } else {
+            continue;
+        }
+        uint32_t size = 1u << blocks[i].order, z = blocks[i].frame / 4096;
+
+        frames[z] += takes ? -size : size;
+        held[blocks[i].frame / CHILD] += takes ? size : -size;
+        if (!takes)
+            blocks[i] = blocks[--n];
+        for (z = 0; z < 3; z++)
+            whole[z] = huge[z] && held[three[z].first / CHILD] == 0;
+        are_free(&h[(x >> 8) % 3], 3, frames, whole);
+    }
+    while (n-- > 0)
+        CHECK(llfree_give(&h[n % 3], blocks[n].frame, blocks[n].order) == LLFREE_OK);
+    are_free(&h[2], 3, (const uint32_t[]) { 1000, 511, 692 }, huge);
+    while (llfree_take(&h[0], 0, &n) == LLFREE_OK)
+        ;
+    are_free(&h[1], 3, nothing, nothing);
+    close_all(h, 3);
+}
+
 /* One core, whose home is the first zone: a full zone falls over to the next one, and each order to where it is. */
 static void falls_over(void)
 {
@@ -319,6 +391,91 @@ static void stays(void)
         CHECK(llfree_take(&h, 0, &f) == LLFREE_OK && f < 4096);
     CHECK(llfree_take(&h, 0, &f) == LLFREE_OK && f >= 4096);
     llfree_close(&h);
+}
+
+/* The next take of an order comes from the zone. */
+static void takes_in(llfree_core *h, uint8_t order, uint32_t zone)
+{
+    uint32_t f = 0;
+
+    CHECK(llfree_take(h, order, &f) == LLFREE_OK && f / 8192 == zone);
+    CHECK(llfree_give(h, f, order) == LLFREE_OK);
+}
+
+/* Takes begin in the zone that was made the home, of each core by itself; there is no other zone. */
+static void set_homes(llfree_core *h)
+{
+    static const uint32_t none[] = { 3, 4, 1u << 31, UINT32_MAX };
+
+    CHECK(llfree_home(&h[0]) == 0 && llfree_home(&h[1]) == 1);
+    for (uint32_t z = 0; z < 3; z++)
+        for (int i = 0; i < 2; i++) {
+            CHECK(llfree_set_home(&h[i], z) == LLFREE_OK && llfree_home(&h[i]) == z);
+            for (uint8_t order = 0; order <= LARGEST; order++)
+                takes_in(&h[i], order, z);
+            for (size_t k = 0; k < sizeof none / sizeof *none; k++)
+                CHECK(llfree_set_home(&h[i], none[k]) == LLFREE_BAD_RANGE && llfree_home(&h[i]) == z);
+            takes_in(&h[i], 0, z);
+            takes_in(&h[i], LARGEST, z);
+            CHECK(llfree_home(&h[!i]) == (i ? z : z ? z - 1 : 1));
+        }
+}
+
+/* Homes that are set: after an opening and after one at an image, where the home is full, and where an order stays. */
+static void homes_are_set(void)
+{
+    enum { WORDS = 3 * 9 * 8 };
+    static const llfree_range zones[3] = { { 0, 4096 }, { 8192, 4096 }, { 16384, 4096 } };
+    static uint64_t words[WORDS];
+    llfree_core h[2] = { LLFREE_CLOSED, LLFREE_CLOSED };
+    llfree_block b = LLFREE_EMPTY;
+    uint32_t f = 0;
+
+    CHECK(llfree_set_home(&h[0], 0) == LLFREE_CLOSED_HANDLE && !h[0].live && llfree_home(&h[0]) == 0);
+    CHECK(llfree_open_zones(h, 2, zones, 3, NULL, 0) == LLFREE_OK);
+    set_homes(h);
+    llfree_close(&h[1]);
+    CHECK(llfree_close_image(&h[0], words, WORDS) == LLFREE_OK);
+    CHECK(llfree_reopen_zones(h, 2, zones, 3, words, WORDS, NULL, 0) == LLFREE_OK);
+    set_homes(h);
+    close_all(h, 2);
+
+    for (uint8_t order = 0; order <= LARGEST; order += LARGEST) {
+        uint32_t count = 4096u >> order, size = 1u << order;
+
+        CHECK(llfree_open_zones(h, 2, zones, 3, NULL, 0) == LLFREE_OK);
+        CHECK(llfree_set_home(&h[0], 1) == LLFREE_OK);
+        for (uint32_t i = 0; i < count; i++)
+            CHECK(llfree_take(&h[0], order, &f) == LLFREE_OK && f / 8192 == 1);
+        CHECK(llfree_take(&h[0], order, &f) == LLFREE_OK && f / 8192 == 2);
+        CHECK(llfree_give(&h[0], 8192, order) == LLFREE_OK && llfree_give(&h[0], 8192 + size, order) == LLFREE_OK);
+        /* the order stays, where no home was set, too */
+        CHECK(llfree_take(&h[0], order, &f) == LLFREE_OK && f / 8192 == 2);
+        CHECK(llfree_set_home(&h[0], 3) == LLFREE_BAD_RANGE);
+        CHECK(llfree_take(&h[0], order, &f) == LLFREE_OK && f / 8192 == 2);
+        CHECK(llfree_set_home(&h[0], 1) == LLFREE_OK);
+        CHECK(llfree_take(&h[0], order, &f) == LLFREE_OK && f / 8192 == 1);
+        CHECK(llfree_set_home(&h[0], 0) == LLFREE_OK);
+        CHECK(llfree_take(&h[0], order, &f) == LLFREE_OK && f / 8192 == 0);
+        CHECK(llfree_free_frames_of(&h[1], 0) == 4096 - size && llfree_free_frames_of(&h[1], 1) == size);
+        CHECK(llfree_free_frames_of(&h[1], 2) == 4096 - 3 * size);
+        close_all(h, 2);
+    }
+
+    /* of blocks in structs, and of single frames once what rests is gone */
+    CHECK(llfree_open_zones_unchecked(h, 2, zones, 3, NULL, 0) == LLFREE_OK);
+    for (uint32_t z = 3; z-- > 0;) {
+        CHECK(llfree_set_home(&h[1], z) == LLFREE_OK);
+        CHECK(llfree_take_block(&h[1], 3, &b) == LLFREE_OK && b.frame / 8192 == z);
+        CHECK(llfree_give_block(&h[1], &b) == LLFREE_OK);
+        CHECK(llfree_take_frame(&h[1], &b) == LLFREE_OK && b.frame / 8192 == z);
+        CHECK(llfree_give_frame(&h[1], &b) == LLFREE_OK && llfree_resting(&h[1]) == 1);
+        CHECK(llfree_set_home(&h[1], (z + 1) % 3) == LLFREE_OK && llfree_resting(&h[1]) == 1);
+        CHECK(llfree_take_frame(&h[1], &b) == LLFREE_OK && b.frame / 8192 == z);
+        CHECK(llfree_give_block(&h[1], &b) == LLFREE_OK);
+    }
+    CHECK(llfree_free_frames(&h[0]) == 3 * 4096);
+    close_all(h, 2);
 }
 
 static void opened_at(const uint64_t *words, size_t count, const llfree_claim *claims, size_t claimed)
@@ -567,9 +724,11 @@ int main(void)
         limits(openings[i]);
     }
     holes();
+    counts();
     falls_over();
     homes();
     stays();
+    homes_are_set();
     image_of_holes();
     reopened();
     large();

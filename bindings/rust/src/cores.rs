@@ -148,6 +148,36 @@ impl<F: Form> Core<F> {
         // SAFETY: a handle behind `&mut`.
         unsafe { sys::llfree_free_huge(&mut self.handle) }
     }
+
+    /// How many zones the memory has.
+    pub fn zones(&mut self) -> u32 {
+        // SAFETY: a handle behind `&mut`.
+        unsafe { sys::llfree_zones(&mut self.handle) }
+    }
+
+    /// How many frames are free in the zone of this number, in the same way; 0 if there is none.
+    pub fn free_frames_of(&mut self, zone: u32) -> u32 {
+        // SAFETY: a handle behind `&mut`.
+        unsafe { sys::llfree_free_frames_of(&mut self.handle, zone) }
+    }
+
+    /// How many huge frames are free in the zone of this number, in the same way.
+    pub fn free_huge_of(&mut self, zone: u32) -> u32 {
+        // SAFETY: a handle behind `&mut`.
+        unsafe { sys::llfree_free_huge_of(&mut self.handle, zone) }
+    }
+
+    /// The home zone of this core, where its takes begin.
+    pub fn home(&mut self) -> u32 {
+        // SAFETY: a handle behind `&mut`.
+        unsafe { sys::llfree_home(&mut self.handle) }
+    }
+
+    /// Makes the zone of this number the home of this core. [`Refused::BadRange`] if there is none.
+    pub fn set_home(&mut self, zone: u32) -> Result<(), Refused> {
+        // SAFETY: a handle behind `&mut`.
+        Refused::of(unsafe { sys::llfree_set_home(&mut self.handle, zone) })
+    }
 }
 
 /// Single frames that are soon taken again rest with the core that gave them, at most 128. A frame that rests is not

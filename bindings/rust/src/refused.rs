@@ -22,7 +22,7 @@ pub enum Refused {
     OpenHandle = 7,
     /// Other cores won each exchange.
     Contended = 8,
-    /// A range is empty, out of order or outside of the memory, or there are too many.
+    /// A range is empty, out of order or outside of the memory, or there are too many; or there is no such zone.
     BadRange = 9,
     /// The image has more numbers than the buffer.
     NoRoom = 10,
@@ -66,7 +66,7 @@ impl fmt::Display for Refused {
             Refused::BadGeometry => "no memory has so many frames or cores, or such zones",
             Refused::OpenHandle => "the core is open already",
             Refused::Contended => "other cores won",
-            Refused::BadRange => "the ranges are too many, empty, out of order or outside of the memory",
+            Refused::BadRange => "the ranges are too many, empty, out of order or outside of the memory; or no such zone",
             Refused::NoRoom => "the buffer is too small for the image",
             Refused::CoresOpen => "other cores of the memory are open",
             Refused::BadImage => "the numbers are those of no image",

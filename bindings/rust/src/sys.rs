@@ -58,4 +58,9 @@ extern "C" {
     pub fn llfree_frames(handle: *mut Handle) -> u32;
     pub fn llfree_free_frames(handle: *mut Handle) -> u32;
     pub fn llfree_free_huge(handle: *mut Handle) -> u32;
+    pub fn llfree_zones(handle: *mut Handle) -> u32;
+    pub fn llfree_home(handle: *mut Handle) -> u32;
+    pub fn llfree_set_home(handle: *mut Handle, zone: u32) -> u32;
+    pub fn llfree_free_frames_of(handle: *mut Handle, zone: u32) -> u32;
+    pub fn llfree_free_huge_of(handle: *mut Handle, zone: u32) -> u32;
 }

@@ -311,8 +311,17 @@ fn takes_of_zones<F: Form>() {
     assert_eq!([one.frame(), two.frame()], [0, 4_194_304]);
     assert_eq!(core.take(0).unwrap_err(), Refused::NoBlock);
     core.give(two).expect("given");
+    assert_eq!((core.free_frames_of(0), core.free_frames_of(1), core.free_frames_of(2)), (0, 512, 0));
+    assert_eq!((core.free_huge_of(0), core.free_huge_of(1), core.free_huge_of(2)), (0, 1, 0));
     core.give(one).expect("given");
     assert_eq!(core.free_huge(), 2);
+    assert_eq!((core.zones(), core.home(), core.set_home(2)), (2, 0, Err(Refused::BadRange)));
+    for (zone, order) in [(1, 0), (0, 0), (1, 9), (0, 9)] {
+        core.set_home(zone).expect("a home");
+        let block = core.take(order).expect("a block at home");
+        assert_eq!((core.home(), block.frame() / 4_194_304), (zone, zone));
+        core.give(block).expect("given");
+    }
 }
 
 #[test]
