@@ -1,5 +1,5 @@
 -- What desks hold at the end of a run is just what the closed memory holds.
-use Rattle.std.proofs.Common.{◌≡◌, ◌+◌, ◌∙◌, max, ℕ, zero, suc, pos, List, []}
+use Rattle.std.proofs.Common.{◌≡◌, ◌+◌, ◌≤◌, ◌∙◌, max, ℕ, zero, suc, pos, List, []}
 use Rattle.std.proofs.Common.{◌∷◌, ◌++◌, Bool, true, false, map, replicate, refl, sym, ap}
 use Rattle.std.proofs.Common.{subst, arith}
 use Rattle.std.specs.List.{All, sum_by}
@@ -11,7 +11,7 @@ use Rattle.frame_words.specs.declared.geometry.Geometry.{Geometry}
 use Rattle.frame_model.specs.declared.block.FrameBlock.{FrameBlock}
 use Rattle.frame_model.specs.declared.key.Key.{Key}
 use Rattle.frame_model.specs.declared.view.Eye.{Eye}
-use Rattle.frame_model.specs.Block.{IsBlock, covers, small_at, smalls, whole_at, wholes}
+use Rattle.frame_model.specs.Block.{IsBlock, small_at, smalls, whole_at, wholes}
 use Rattle.frame_model.specs.Events.{views_of}
 use Rattle.frame_model.specs.Holding.{holders, IsHolding}
 use Rattle.frame_core.specs.Image.{Contents}
@@ -24,6 +24,7 @@ use Rattle.frame_model.specs.View.{boot_blocks}
 use Rattle.frame_model.specs.Words.{bit_of, huge_of}
 use Rattle.frame_core.proofs.Apart.{apart_of}
 use Rattle.frame_model.proofs.Safe.{holders_are}
+use Rattle.frame_model.proofs.Stopping.Known.{holders_both}
 use Rattle.frame_model.proofs.Steps.Shared.{view_of as view_at}
 use Rattle.frame_table.specs.Closing.{IsClosed, IsClosingOf, kept_through, lent_through}
 use Rattle.frame_table.specs.Seats.{view_of}
@@ -114,10 +115,6 @@ held_max : (key : Key) (ws : List ℕ) (x : ℕ) → held_at key ws x ≡ max (b
 unfolding held_at
 held_max key ws x = refl
 
-holders_both : (x : ℕ) (bs cs : List FrameBlock) → holders x (bs ++ cs) ≡ holders x bs + holders x cs
-unfolding holders
-holders_both x bs cs = sum_by-append (λ b. covers b x) bs cs
-
 smalls_same : (a : Allocator) (x : ℕ) (ds : List Desk) → All (IsDeskOf a) ds
     → smalls x (all_blocks (lists_at ds)) ≡ smalls x (kept_through (seats_at ds))
 unfolding smalls
@@ -158,38 +155,32 @@ module _ (a : Allocator) (ds : List Desk) (image : Contents) (sealed : (memory_o
   pub holds_lists : HoldsFrames (memory_of a) image.words (all_blocks (lists_at ds) ++ boot_blocks (memory_of a))
   holds_lists x within = by (is_boot_frame (memory_of a) x) refl
     where
+      -- as often as it is a boot frame
+      times : (n : ℕ) → holders x (boot_blocks (memory_of a)) ≡ n
+          → bit_of (memory_of a) image.words x ≡ smalls x (kept_through (seats_at ds)) + n
+          → holders x (closing.closed.eye.view.own ++ closing.closed.eye.view.kept) + n ≤ 1
+          → held_at (memory_of a) image.words x ≡ holders x (all_blocks (lists_at ds) ++ boot_blocks (memory_of a))
+      times n boot bit few =
+          omega (
+            arith,
+            boot,
+            bit,
+            few,
+            held_max (memory_of a) image.words x,
+            just.huge (child_of x) (omega (arith, within)),
+            holders_both x (all_blocks (lists_at ds)) (boot_blocks (memory_of a)),
+            lists_hold x,
+            kept_holders (memory_of a) (seats_at ds) image.words closing.closed x,
+          )
+
       by : (t : Bool) → is_boot_frame (memory_of a) x ≡ t
           → held_at (memory_of a) image.words x ≡ holders x (all_blocks (lists_at ds) ++ boot_blocks (memory_of a))
       by true e =
-          let key : Key = memory_of a in
-          let boot : holders x (boot_blocks key) ≡ 1 = rw e at (boot_are key x within) in
-          let bit : bit_of key image.words x ≡ smalls x (kept_through (seats_at ds)) + 1 = rw e at (just.bits x within) in
-          omega (
-            arith,
-            boot,
-            bit,
-            held_max key image.words x,
-            just.huge (child_of x) (omega (arith, within)),
-            holders_both x (all_blocks (lists_at ds)) (boot_blocks key),
-            lists_hold x,
-            kept_holders key (seats_at ds) image.words closing.closed x,
-            (last_apart key (seats_at ds) image.words closing.closed).no_boot_frame x sealed e,
-          )
+          times 1 (rw e at (boot_are (memory_of a) x within)) (rw e at (just.bits x within))
+          (omega (arith, (last_apart (memory_of a) (seats_at ds) image.words closing.closed).no_boot_frame x sealed e))
       by false e =
-          let key : Key = memory_of a in
-          let boot : holders x (boot_blocks key) ≡ 0 = rw e at (boot_are key x within) in
-          let bit : bit_of key image.words x ≡ smalls x (kept_through (seats_at ds)) + 0 = rw e at (just.bits x within) in
-          omega (
-            arith,
-            boot,
-            bit,
-            held_max key image.words x,
-            just.huge (child_of x) (omega (arith, within)),
-            holders_both x (all_blocks (lists_at ds)) (boot_blocks key),
-            lists_hold x,
-            kept_holders key (seats_at ds) image.words closing.closed x,
-            (last_apart key (seats_at ds) image.words closing.closed).disjoint x,
-          )
+          times 0 (rw e at (boot_are (memory_of a) x within)) (rw e at (just.bits x within))
+          (omega (arith, (last_apart (memory_of a) (seats_at ds) image.words closing.closed).disjoint x))
 
   -- the image has the sizes of the memory
   pub image_is : (geometry : Geometry) (ranges : List (ℕ × ℕ)) → memory_of a ≡ sealed_key geometry ranges → image.geometry ≡ geometry

@@ -1,12 +1,12 @@
 -- What each core answers in a round, as one run of the lines in their order.
-use Rattle.std.proofs.Common.{◌≡◌, ◌≢◌, ◌==◌, ◌+◌, ◌<◌, ◌≤◌, ◌∙◌, ℕ, List, [], ◌∷◌, zero, suc, true}
-use Rattle.std.proofs.Common.{false, length, get_or, set, map, refl, sym, ap, ap₂, subst, arith}
+use Rattle.std.proofs.Common.{◌≡◌, ◌≢◌, ◌==◌, ◌+◌, ◌<◌, ◌≤◌, ◌∙◌, ℕ, List, [], ◌∷◌, true}
+use Rattle.std.proofs.Common.{false, length, get_or, set, map, refl, sym, ap, subst, arith}
 use Rattle.std.proofs.Common.{inl, inr}
 use Rattle.std.specs.List.{All}
 use Rattle.std.proofs.Math.ListN.{length-set}
 use Rattle.std.proofs.lemmas.Bool.Decides.{nat_tests, eqb_tells}
 use Rattle.std.proofs.lemmas.Grind.{get_or-set_at}
-use Rattle.std.proofs.lemmas.List.{get_or-set_other, length-map}
+use Rattle.std.proofs.lemmas.List.{ext_get_or, get_or-map, get_or-set_other, length-map}
 use Rattle.std.proofs.lemmas.List.Elements.{All-head, All-tail}
 use Rattle.core_frames.specs.Cores.{memory_of}
 use Rattle.core_frames.specs.Desks.{IsDeskOf, list_of as list_in}
@@ -23,7 +23,6 @@ use Rattle.llfree_trace.specs.Rounds.{spot, RoundRan}
 use Rattle.trace_text.specs.Trace.{cores_in}
 use Rattle.trace_text.specs.declared.line.Line.{Line}
 use Rattle.trace_text.specs.declared.line.Line.TheVariants as line
-use Rattle.trace_text.specs.declared.line.Request.{Request}
 use Rattle.trace_text.specs.declared.reply.Answer.{Answer}
 
 -- what the lists of all cores do, each by its own requests and answers
@@ -35,16 +34,6 @@ pub record Apart (key : Key) (old : List (List LabelledBlock)) (asks : List Ask)
   pub runs : (k : ℕ) → k < length old
       → DeskRun key (core_list old k) (asks_by k asks) (answers_by k answers) (core_list new k)
 
--- lists with the same elements are one
-same_lists : (xs ys : List (List LabelledBlock)) → length ys ≡ length xs
-    → ((k : ℕ) → k < length xs → core_list xs k ≡ core_list ys k) → xs ≡ ys
-same_lists [] [] size all = refl
-same_lists [] (y ∷ ys) size all = absurd (omega arith)
-same_lists (x ∷ xs) [] size all = absurd (omega arith)
-same_lists (x ∷ xs) (y ∷ ys) size all =
-    ap₂ (λ (z : List LabelledBlock) (zs : List (List LabelledBlock)). z ∷ zs) (all 0 (omega arith))
-    (same_lists xs ys (omega arith) (λ k lt. all (suc k) (omega arith)))
-
 test_same : (m k : ℕ) → m ≡ k → (m == k) ≡ true
 test_same m k e = grind (arith, nat_tests)
 
@@ -54,15 +43,10 @@ test_other m k e = grind (arith, nat_tests)
 head_line : (a b : Answer) (c : Ask) (rest : List Answer) (cs : List Ask) → map spot (a ∷ rest) ≡ map ask_spot (c ∷ cs)
     → (a.line ≡ c.number) × (a.core ≡ c.core) × (map spot rest ≡ map ask_spot cs)
 head_line a b c rest cs e =
-    (ap (λ (p : ℕ × ℕ). p.0) (ap (first_of (spot a)) e), ap (λ (p : ℕ × ℕ). p.1) (ap (first_of (spot a)) e), ap rest_of e)
-  where
-    first_of : ℕ × ℕ → List (ℕ × ℕ) → ℕ × ℕ
-    first_of d [] = d
-    first_of d (x ∷ xs) = x
-
-    rest_of : List (ℕ × ℕ) → List (ℕ × ℕ)
-    rest_of [] = []
-    rest_of (x ∷ xs) = xs
+    let both : spot a ∷ map spot rest ≡ ask_spot c ∷ map ask_spot cs = e in
+    let first : spot a ≡ ask_spot c = cc in
+    let others : map spot rest ≡ map ask_spot cs = cc in
+    (ap (λ (p : ℕ × ℕ). p.0) first, ap (λ (p : ℕ × ℕ). p.1) first, others)
 
 -- the rest of a round, behind its first request
 rest_apart : (key : Key) (old : List (List LabelledBlock)) (ask : Ask) (asks : List Ask) (a : Answer) (answers : List Answer)
@@ -103,17 +87,11 @@ pub interleaved : (key : Key) (number : ℕ) (old : List (List LabelledBlock)) (
     → Apart key old (asks_from number lines) answers new → Runs MayRefuse key number old lines answers new
 unfolding Runs asks_from DeskRun
 interleaved key number old [] [] new all inside apart =
-    same_lists old new apart.width (λ k lt. apart.runs k lt)
-interleaved key number old [] (a ∷ answers) new all inside apart = absurd (no_spots a answers apart.spots)
-  where
-    no_spots : (a : Answer) (answers : List Answer) → map spot (a ∷ answers) ≡ map ask_spot [] → ⊥
-    no_spots a answers e = let z = ap length e in absurd (omega (arith, z))
+    ext_get_or [] old new (sym apart.width) (λ k lt. apart.runs k lt)
+interleaved key number old [] (a ∷ answers) new all inside apart =
+    let none = ap length apart.spots in absurd (omega (arith, none))
 interleaved key number old (line.Ask core request ∷ lines) [] new all inside apart =
-    absurd (no_places core request lines apart.spots)
-  where
-    no_places : (core : ℕ) (request : Request) (lines : List Line)
-        → map spot [] ≡ map ask_spot (asks_from number (line.Ask core request ∷ lines)) → ⊥
-    no_places core request lines e = let z = ap length e in absurd (omega (arith, z))
+    let none = ap length apart.spots in absurd (omega (arith, none))
 interleaved key number old (line.Ask core request ∷ lines) (a ∷ answers) new all inside apart =
     let ask : Ask = record { number = number; core = core; request = request } in
     let asks = asks_from (number + 1) lines in
@@ -141,9 +119,7 @@ interleaved key number old (l ∷ lines) answers new all inside apart = absurd (
 
 -- the list at a place is that of the desk there
 pub list_there : (ds : List Desk) (k : ℕ) (d : Desk) → k < length ds → get_or (map list_in ds) k [] ≡ list_in (get_or ds k d)
-list_there [] k d lt = absurd (omega arith)
-list_there (x ∷ ds) zero d lt = refl
-list_there (x ∷ ds) (suc k) d lt = list_there ds k d (omega arith)
+list_there ds k d lt = get_or-map list_in ds k d [] lt
 
 some_desk : (ds : List Desk) (k : ℕ) → k < length ds → Desk
 some_desk [] k lt = absurd (omega arith)

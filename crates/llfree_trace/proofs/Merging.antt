@@ -183,29 +183,26 @@ run_spots : (key : Key) (old : List LabelledBlock) (lines : List Ask) (answers :
     → DeskRun key old lines answers new → map spot answers ≡ map ask_spot lines
 unfolding DeskRun
 run_spots key old [] [] new run = refl
-run_spots key old [] (a ∷ answers) new run = absurd run
-run_spots key old (l ∷ lines) [] new run = absurd run
 run_spots key old (l ∷ lines) (a ∷ answers) new run =
     ap₂ (λ (p : ℕ × ℕ) (ps : List (ℕ × ℕ)). p ∷ ps) (ap₂ (λ (x y : ℕ). (x, y)) run.0 run.1) (run_spots key run.2 lines answers new run.4)
+run_spots key old _ _ new run = absurd run
 
 -- what ran at one core
 ran_at : (al : Allocator) (core : ℕ) (desks : List Desk) (lines : List Ask) (done : List Done) (k : ℕ) (d : Desk) (e : Done)
     → RanAll al core desks lines done → k < length done → Ran al (core + k) (get_or desks k d) lines (get_or done k e)
 ran_at al core [] lines [] k d e all lt = absurd (omega arith)
-ran_at al core [] lines (f ∷ done) k d e all lt = absurd all
-ran_at al core (b ∷ desks) lines [] k d e all lt = absurd all
 ran_at al core (b ∷ desks) lines (f ∷ done) zero d e all lt = rw add-zero all.0
 ran_at al core (b ∷ desks) lines (f ∷ done) (suc k) d e all lt =
     let same : core + 1 + k ≡ core + suc k = omega arith in
     let less : k < length done = omega arith in
     rw same at (ran_at al (core + 1) desks lines done k d e all.1 less)
+ran_at al core _ lines _ k d e all lt = absurd all
 
 same_width : (al : Allocator) (core : ℕ) (desks : List Desk) (lines : List Ask) (done : List Done)
     → RanAll al core desks lines done → length done ≡ length desks
 same_width al core [] lines [] all = refl
-same_width al core [] lines (f ∷ done) all = absurd all
-same_width al core (b ∷ desks) lines [] all = absurd all
 same_width al core (b ∷ desks) lines (f ∷ done) all = ap suc (same_width al (core + 1) desks lines done all.1)
+same_width al core _ lines _ all = absurd all
 
 -- what all cores ran fits the requests
 pub fitting : (al : Allocator) (desks : List Desk) (lines : List Ask) (done : List Done) → RanAll al 0 desks lines done
@@ -230,10 +227,9 @@ same_lents : (al : Allocator) (core : ℕ) (desks : List Desk) (lines : List Ask
     → lent_by_desks (map (λ (x : Done). x.desk) done) ≡ lent_by_desks desks
 unfolding lent_through
 same_lents al core [] lines [] all = refl
-same_lents al core [] lines (f ∷ done) all = absurd all
-same_lents al core (b ∷ desks) lines [] all = absurd all
 same_lents al core (b ∷ desks) lines (f ∷ done) all =
     ap₂ ◌+ℤ◌ all.0.lent (same_lents al (core + 1) desks lines done all.1)
+same_lents al core _ lines _ all = absurd all
 
 pub round_ran : (al : Allocator) (old : List Desk) (lines : List Ask) (done : List Done) (answers : List Answer) (new : List Desk)
     → RanAll al 0 old lines done → Merged lines done answers → new ≡ map (λ (d : Done). d.desk) done → RoundRan al old lines answers new

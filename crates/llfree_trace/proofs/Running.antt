@@ -60,8 +60,6 @@ pub runs_append : (refuses : Key → List FrameBlock → ℕ → Fault → Type 
 unfolding Runs
 runs_append refuses key number old [] [] mid more others new run next =
     rw run (renumbered refuses key (number + 0) number mid more others new (omega arith) next)
-runs_append refuses key number old [] (b ∷ answers) mid more others new run next = absurd run
-runs_append refuses key number old (line.Ask m x ∷ lines) [] mid more others new run next = absurd run
 runs_append refuses key number old (line.Ask m x ∷ lines) (b ∷ answers) mid more others new run next = (
   run.0,
   run.1,
@@ -71,7 +69,6 @@ runs_append refuses key number old (line.Ask m x ∷ lines) (b ∷ answers) mid 
   runs_append refuses key (number + 1) _ lines answers mid more others new run.5
       (renumbered refuses key _ (number + 1 + length lines) mid more others new (omega arith) next),
 )
-runs_append refuses key number old (line.Move m l to ∷ lines) [] mid more others new run next = absurd run
 runs_append refuses key number old (line.Move m l to ∷ lines) (b ∷ answers) mid more others new run next = (
   run.0,
   run.1,
@@ -88,6 +85,7 @@ runs_append refuses key number old (line.Round ∷ lines) answers mid more other
 runs_append refuses key number old (line.Reserve f n ∷ lines) answers mid more others new run next =
     runs_append refuses key (number + 1) old lines answers mid more others new run
     (renumbered refuses key _ (number + 1 + length lines) mid more others new (omega arith) next)
+runs_append refuses key number old _ _ mid more others new run next = absurd run
 
 -- a take that is refused only where it must be is one that may be refused
 may_here : (key : Key) (old : List LabelledBlock) (label : List ℕ) (order : ℕ)
@@ -117,16 +115,14 @@ pub may_runs : (key : Key) (number : ℕ) (old : List (List LabelledBlock)) (lin
     → Runs MayRefuse key number old lines answers new
 unfolding Runs
 may_runs key number old [] [] new run = run
-may_runs key number old [] (b ∷ answers) new run = absurd run
-may_runs key number old (line.Ask m x ∷ lines) [] new run = absurd run
 may_runs key number old (line.Ask m x ∷ lines) (b ∷ answers) new run =
     (run.0, run.1, run.2, may_step key (core_list old m) x b.reply run.2 run.3, run.4, may_runs key (number + 1) _ lines answers new run.5)
-may_runs key number old (line.Move m l to ∷ lines) [] new run = absurd run
 may_runs key number old (line.Move m l to ∷ lines) (b ∷ answers) new run =
     (run.0, run.1, run.2, run.3, run.4, run.5, may_runs key (number + 1) _ lines answers new run.6)
 may_runs key number old (line.Round ∷ lines) answers new run = may_runs key (number + 1) old lines answers new run
 may_runs key number old (line.Reserve f n ∷ lines) answers new run =
     may_runs key (number + 1) old lines answers new run
+may_runs key number old _ _ new run = absurd run
 
 -- One core.
 
@@ -164,8 +160,7 @@ pub moved : (refuses : Key → List FrameBlock → ℕ → Fault → Type 0) (ke
 unfolding Runs
 moved refuses key number zero label zero old new a others first n k lawful step =
     (n, k, new ∷ others, step, lawful, lawful, refl)
-moved refuses key number (suc core) label to old new a others first n k lawful step = absurd (omega arith)
-moved refuses key number zero label (suc to) old new a others first n k lawful step = absurd (omega arith)
+moved refuses key number _ label _ old new a others first n k lawful step = absurd (omega arith)
 
 -- a record without an answer
 pub unanswered : (refuses : Key → List FrameBlock → ℕ → Fault → Type 0) (key : Key) (number : ℕ)

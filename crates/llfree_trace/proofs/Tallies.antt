@@ -131,8 +131,6 @@ pub runs_count : (refuses : Key → List FrameBlock → ℕ → Fault → Type 0
     → in_lists x new + times_given x answers ≡ in_lists x old + times_taken x answers
 unfolding Runs core_count
 runs_count refuses key number x old [] [] new inside run = rw run refl
-runs_count refuses key number x old [] (b ∷ answers) new inside run = absurd run
-runs_count refuses key number x old (line.Ask core ask ∷ lines) [] new inside run = absurd run
 runs_count refuses key number x old (line.Ask core ask ∷ lines) (b ∷ answers) new inside run =
     let mid : List (List LabelledBlock) = set old core run.2 in
     let width : length mid ≡ length old = length-set old core run.2 in
@@ -144,7 +142,6 @@ runs_count refuses key number x old (line.Ask core ask ∷ lines) (b ∷ answers
       sum_by-cons (λ (a : Answer). given_by x a.reply) b answers,
       sum_by-cons (λ (a : Answer). taken_by x a.reply) b answers,
     )
-runs_count refuses key number x old (line.Move core label to ∷ lines) [] new inside run = absurd run
 runs_count refuses key number x old (line.Move core label to ∷ lines) (b ∷ answers) new inside run =
     let moved = moves_count x old core label to b.reply run.2 (omega (arith, inside)) (omega (arith, inside)) run.3 in
     omega (
@@ -158,6 +155,7 @@ runs_count refuses key number x old (line.Round ∷ lines) answers new inside ru
     runs_count refuses key (number + 1) x old lines answers new (omega (arith, inside)) run
 runs_count refuses key number x old (line.Reserve f n ∷ lines) answers new inside run =
     runs_count refuses key (number + 1) x old lines answers new (omega (arith, inside)) run
+runs_count refuses key number x old _ _ new inside run = absurd run
 
 -- each answer names its record and its core
 pub runs_named : (refuses : Key → List FrameBlock → ℕ → Fault → Type 0) (key : Key) (number : ℕ)
@@ -165,12 +163,9 @@ pub runs_named : (refuses : Key → List FrameBlock → ℕ → Fault → Type 0
     → Runs refuses key number old lines answers new → map spot answers ≡ answered_from number lines
 unfolding Runs answered_from
 runs_named refuses key number old [] [] new run = refl
-runs_named refuses key number old [] (b ∷ answers) new run = absurd run
-runs_named refuses key number old (line.Ask core ask ∷ lines) [] new run = absurd run
 runs_named refuses key number old (line.Ask core ask ∷ lines) (b ∷ answers) new run =
     ap₂ (λ (p : ℕ × ℕ) (ps : List (ℕ × ℕ)). p ∷ ps) (ap₂ (λ (n k : ℕ). (n, k)) run.0 run.1)
     (runs_named refuses key (number + 1) _ lines answers new run.5)
-runs_named refuses key number old (line.Move core label to ∷ lines) [] new run = absurd run
 runs_named refuses key number old (line.Move core label to ∷ lines) (b ∷ answers) new run =
     ap₂ (λ (p : ℕ × ℕ) (ps : List (ℕ × ℕ)). p ∷ ps) (ap₂ (λ (n k : ℕ). (n, k)) run.0 run.1)
     (runs_named refuses key (number + 1) _ lines answers new run.6)
@@ -178,6 +173,7 @@ runs_named refuses key number old (line.Round ∷ lines) answers new run =
     runs_named refuses key (number + 1) old lines answers new run
 runs_named refuses key number old (line.Reserve f n ∷ lines) answers new run =
     runs_named refuses key (number + 1) old lines answers new run
+runs_named refuses key number old _ _ new run = absurd run
 
 -- empty lists
 pub none_in_lists : (x n : ℕ) → in_lists x (replicate n []) ≡ 0

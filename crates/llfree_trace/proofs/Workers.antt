@@ -1,7 +1,7 @@
 -- How the answers of a desk grow by one.
 use Rattle.std.proofs.Common.{◌≡◌, ◌≢◌, ◌==◌, ◌+◌, ◌<◌, ◌∙◌, ℕ, List, [], ◌∷◌, ◌++◌, true, false}
 use Rattle.std.proofs.Common.{length, take, get_or, refl, sym, subst, ap, arith, add-zero, zero-add}
-use Rattle.std.proofs.Common.{ap₂, zero, suc, ◌≤◌, Result, Ok, Err, IfOk}
+use Rattle.std.proofs.Common.{zero, suc, ◌≤◌, Result, Ok, Err, IfOk}
 use Rattle.std.proofs.lemmas.Bool.Decides.{nat_tests}
 use Rattle.std.specs.List.{All}
 use Rattle.std.specs.declared.alloc.Global.{Global}
@@ -34,10 +34,9 @@ run_more : (key : Key) (old : List LabelledBlock) (lines : List Ask) (answers : 
     → DeskRun key old (lines ++ line ∷ []) (answers ++ a ∷ []) new
 unfolding DeskRun
 run_more key old [] [] mid new line a run n k step = (n, k, new, rw run step, refl)
-run_more key old [] (b ∷ answers) mid new line a run n k step = absurd run
-run_more key old (l ∷ lines) [] mid new line a run n k step = absurd run
 run_more key old (l ∷ lines) (b ∷ answers) mid new line a run n k step =
     (run.0, run.1, run.2, run.3, run_more key run.2 lines answers mid new line a run.4 n k step)
+run_more key old _ _ mid new line a run n k step = absurd run
 
 -- the next line is the core's own
 pub line_ran : (core : ℕ) (lines : List Ask) (i : ℕ) (d : Ask) (key : Key) (old : List LabelledBlock) (answers : List Answer)
@@ -75,21 +74,11 @@ pub ask_is : (first : ℕ) (lines : List Line) (i : ℕ) (d : Line) (e : Ask) (c
     → get_or (asks_from first lines) i e ≡ record { number = first + i; core = core; request = request }
 unfolding asks_from
 ask_is first [] i d e core request all lt is = absurd (omega arith)
-ask_is first (line.Ask own r ∷ lines) zero d e core request all lt is = rw add-zero (same_ask first own core r request is)
-  where
-    core_in : ℕ → Line → ℕ
-    core_in k (line.Ask own r) = own
-    core_in k _ = k
-
-    request_in : Request → Line → Request
-    request_in x (line.Ask own r) = r
-    request_in x _ = x
-
-    same_ask : (n own core : ℕ) (r request : Request) → line.Ask own r ≡ line.Ask core request
-        → ◌≡◌ {A = Ask} (record { number = n; core = own; request = r }) (record { number = n; core = core; request = request })
-    same_ask n own core r request is =
-        ap₂ {C = Ask} (λ (k : ℕ) (x : Request). record { number = n; core = k; request = x })
-        (ap (core_in own) is) (ap (request_in r) is)
+ask_is first (line.Ask own r ∷ lines) zero d e core request all lt is =
+    let here : line.Ask own r ≡ line.Ask core request = is in
+    let same : own ≡ core = cc in
+    let asked : r ≡ request = cc in
+    rw (add-zero, same, asked) refl
 ask_is first (line.Ask own r ∷ lines) (suc i) d e core request all lt is =
     let next : first + 1 + i ≡ first + suc i = omega arith in
     rw next at (ask_is (first + 1) lines i d e core request (All-tail IsAsk (line.Ask own r) lines all) (omega arith) is)
@@ -110,11 +99,10 @@ ask_other first (l ∷ lines) i d e core all lt other = absurd (All-head IsAsk l
 one_more : (al : Allocator) (core : ℕ) (desks : List Desk) (lines : List Ask) (done : List Done) (d : Desk) (e : Done)
     → RanAll al core desks lines done → Ran al (core + length desks) d lines e → RanAll al core (desks ++ d ∷ []) lines (done ++ e ∷ [])
 one_more al core [] lines [] d e all ran = (rw add-zero at ran, tt)
-one_more al core [] lines (f ∷ done) d e all ran = absurd all
-one_more al core (b ∷ desks) lines [] d e all ran = absurd all
 one_more al core (b ∷ desks) lines (f ∷ done) d e all ran =
     let same : core + length (b ∷ desks) ≡ core + 1 + length desks = omega arith in
     (all.0, one_more al (core + 1) desks lines done d e all.1 (rw same at ran))
+one_more al core _ lines _ d e all ran = absurd all
 
 -- the desks in front of the last one, and the last one
 pub front_desks : (al : Allocator) (all front : List Desk) (last : Desk) → all ≡ front ++ last ∷ [] → All (IsDeskOf al) all

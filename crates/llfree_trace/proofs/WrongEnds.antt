@@ -1,12 +1,10 @@
 -- Outcomes that a run cannot have.
-use Rattle.std.proofs.Common.{◌≡◌, ◌≤◌, ◌+◌, List, ℕ, Bool, [], ◌++◌, replicate, arith}
+use Rattle.std.proofs.Common.{◌≡◌, ◌≤◌, ◌+◌, List, ℕ, Bool, [], replicate, arith}
 use Rattle.std.proofs.lemmas.List.{length-replicate}
-use Rattle.std.proofs.lemmas.List.Sums.{sum_by-append}
-use Rattle.frame_model.specs.Block.{covers}
 use Rattle.frame_model.specs.Holding.{holders}
 use Rattle.frame_core.specs.Image.{Contents}
+use Rattle.frame_model.proofs.Stopping.Known.{holders_both}
 use Rattle.frame_model.specs.View.{boot_blocks}
-use Rattle.frame_model.specs.declared.block.FrameBlock.{FrameBlock}
 use Rattle.held_blocks.specs.declared.labelled_block.LabelledBlock.{LabelledBlock}
 use Rattle.llfree_trace.specs.Outcome.{IsAnsweredBy, all_blocks, key_under}
 use Rattle.llfree_trace.specs.WrongRuns.{FrameIsShared, OtherFramesAreHeld, OtherIsAnswered, refusing}
@@ -38,10 +36,6 @@ other_is_answered alone lines answers image other a =
 pub frame_is_shared : FrameIsShared
 frame_is_shared alone lines answers image x inside twice a =
     absurd (omega (arith, twice, at_end alone lines answers image x inside a, a.disjoint.disjoint x))
-
-holders_both : (x : ℕ) (bs cs : List FrameBlock) → holders x (bs ++ cs) ≡ holders x bs + holders x cs
-unfolding holders
-holders_both x bs cs = sum_by-append (λ b. covers b x) bs cs
 
 pub other_frames : OtherFramesAreHeld
 other_frames alone lines answers image x inside within other a =

@@ -55,8 +55,7 @@ other_kind alone key old (line.Ask core ask) r wrong number n k lines answers ne
     wrong (of_kind (refusing alone) key core (core_list old core) ask r run.2 run.3)
 other_kind alone key old (line.Move core label to) r wrong number n k lines answers new run =
     wrong (move_of_kind old core label to r run.2 run.3)
-other_kind alone key old line.Round r wrong number n k lines answers new run = wrong tt
-other_kind alone key old (line.Reserve frame count) r wrong number n k lines answers new run = wrong tt
+other_kind alone key old _ r wrong number n k lines answers new run = wrong tt
 
 -- Takes.
 
@@ -104,25 +103,18 @@ take_is_refused alone key old core label order f = (
 
 -- Gives and moves.
 
-abbrev head_or : {T : Type 0} → T → List T → T
-head_or d [] = d
-head_or d (x ∷ xs) = x
-
-abbrev tail_of : {T : Type 0} → List T → List T
-tail_of [] = []
-tail_of (x ∷ xs) = xs
-
 -- the first of a kind is one
 same_first : {T : Type 0} (P : T → Type 0) (front : List T) (x : T) (back front' : List T) (y : T) (back' : List T)
     → HasNone P front → P x → HasNone P front' → P y → front ++ x ∷ back ≡ front' ++ y ∷ back' → x ≡ y
-same_first P [] x back [] y back' none is none' is' same = ap (head_or x) same
+same_first P [] x back [] y back' none is none' is' same = let here : x ∷ back ≡ y ∷ back' = same in cc
 same_first P [] x back (z ∷ front') y back' none is none' is' same =
-    absurd (All-head (λ t. ¬ P t) z front' none' (subst P (ap (head_or x) same) is))
+    let here : x ≡ z = cc in absurd (All-head (λ t. ¬ P t) z front' none' (subst P here is))
 same_first P (z ∷ front) x back [] y back' none is none' is' same =
-    absurd (All-head (λ t. ¬ P t) z front none (subst P (ap (head_or y) (sym same)) is'))
+    let here : y ≡ z = cc in absurd (All-head (λ t. ¬ P t) z front none (subst P here is'))
 same_first P (z ∷ front) x back (w ∷ front') y back' none is none' is' same =
+    let others : front ++ x ∷ back ≡ front' ++ y ∷ back' = cc in
     same_first P front x back front' y back' (All-tail (λ t. ¬ P t) z front none) is
-    (All-tail (λ t. ¬ P t) w front' none') is' (ap tail_of same)
+    (All-tail (λ t. ¬ P t) w front' none') is' others
 
 first_is_one : (P : LabelledBlock → Type 0) (old : List LabelledBlock) (e f : LabelledBlock) (new other : List LabelledBlock)
     → TakesFirst P old e new → TakesFirst P old f other → e ≡ f
@@ -163,16 +155,6 @@ exactly old frame order r new step = by_order (nat_le order 9) refl
         let high : 9 < order = grind (arith, common_steps) in
         inl (high, (step.0 high).0)
 
-no_block : (r : Result (ℕ × ℕ) Fault) (b : ℕ × ℕ) → r ≡ Ok b → ¬ (r ≡ Err fault.BadOrder)
-no_block r b p q = absurd (cc)
-
-not_bad_order : ¬ (fault.NotHeld ≡ fault.BadOrder)
-not_bad_order e = absurd (cc)
-
-abbrev err_in : Result (ℕ × ℕ) Fault → Fault → Fault
-err_in (Ok b) d = d
-err_in (Err f) d = f
-
 move_refused : (old : List (List LabelledBlock)) (core : ℕ) (label : List ℕ) (to : ℕ) (f : Fault)
     (new : List (List LabelledBlock)) → Moves old core label to (reply.Refused f) new
     → (f ≡ fault.NotHeld) × HasNone (IsUnder label) (core_list old core) × (new ≡ old)
@@ -182,7 +164,6 @@ move_refused old core label to f new step = absurd step
 
 pub other_block : OtherBlockIsGiven
 unfolding Runs DeskStep Moves
-other_block alone key old (line.Ask core (request.Take label order)) e others takes = absurd takes.holds
 other_block alone key old (line.Ask core (request.Give label)) e others takes = (
   λ frame o other. (
     λ number n k lines answers new run.
@@ -197,14 +178,14 @@ other_block alone key old (line.Ask core (request.GiveAt frame order)) e others 
   λ g o other. (
     λ number n k lines answers new run.
         elim (exactly (core_list old core) frame order (Ok (g, o)) run.2 run.3) [
-          | inl h ↦ no_block (Ok (g, o)) (g, o) refl h.1
+          | inl h ↦ let no = h.1 in absurd (cc)
           | inr h ↦ other (given_first (IsTheBlock frame order) (core_list old core) e others (g, o) run.2 takes h.1)
         ],
     λ number n k lines answers new run. absurd run.3,
   ),
   λ number n k lines answers new run.
       elim (exactly (core_list old core) frame order (Err fault.NotHeld) run.2 run.3) [
-        | inl h ↦ not_bad_order (ap (λ (r : Result (ℕ × ℕ) Fault). err_in r fault.NotHeld) h.1)
+        | inl h ↦ let no = h.1 in absurd (cc)
         | inr h ↦ not_none (IsTheBlock frame order) (core_list old core) e others takes
             (give_refused (IsTheBlock frame order) (core_list old core) fault.NotHeld run.2 h.1).1
       ],
@@ -221,23 +202,20 @@ other_block alone key old (line.Move core label to) e others takes = (
       not_none (IsUnder label) (core_list old core) e others takes
       (move_refused old core label to fault.NotHeld run.2 run.3).1,
 )
-other_block alone key old line.Round e others takes = absurd takes.holds
-other_block alone key old (line.Reserve frame count) e others takes = absurd takes.holds
+other_block alone key old _ e others takes = absurd takes.holds
 
 pub give_is_refused : GiveIsRefused
 unfolding Runs DeskStep
-give_is_refused alone key old (line.Ask core (request.Take label order)) f wrong number n k lines answers new run = wrong tt
 give_is_refused alone key old (line.Ask core (request.Give label)) f wrong number n k lines answers new run =
     wrong (give_refused (IsUnder label) (core_list old core) f run.2 run.3).0
 give_is_refused alone key old (line.Ask core (request.GiveAt frame order)) f wrong number n k lines answers new run =
     elim (exactly (core_list old core) frame order (Err f) run.2 run.3) [
-      | inl h ↦ wrong (inr (h.0, ap (λ (r : Result (ℕ × ℕ) Fault). err_in r f) h.1))
+      | inl h ↦ let bad : f ≡ fault.BadOrder = let same = h.1 in cc in wrong (inr (h.0, bad))
       | inr h ↦ wrong (inl (h.0, (give_refused (IsTheBlock frame order) (core_list old core) f run.2 h.1).0))
     ]
 give_is_refused alone key old (line.Move core label to) f wrong number n k lines answers new run =
     wrong (move_refused old core label to f run.2 run.3).0
-give_is_refused alone key old line.Round f wrong number n k lines answers new run = wrong tt
-give_is_refused alone key old (line.Reserve frame count) f wrong number n k lines answers new run = wrong tt
+give_is_refused alone key old _ f wrong number n k lines answers new run = wrong tt
 
 -- Lists that overlap.
 
@@ -245,23 +223,18 @@ pub list_overlaps : ListOverlaps
 unfolding Runs DeskStep
 list_overlaps alone key old core x twice = (
   λ label order f number n k lines answers new run.
-      let same = (take_refused (refusing alone) key (core_list old core) label order f run.2 run.3.0).1 in
-      let holding : IsHolding key (blocks_of (core_list old core)) =
-      subst (λ (l : List LabelledBlock). IsHolding key (blocks_of l)) same run.4 in
-      absurd (omega (arith, twice, holding.disjoint x)),
+      shared run.2 (take_refused (refusing alone) key (core_list old core) label order f run.2 run.3.0).1 run.4,
   λ label other f. (
-    λ number n k lines answers new run.
-        let same = (move_refused old core label other f run.2 run.3).2 in
-        let holding : IsHolding key (blocks_of (core_list old core)) =
-        subst (λ (ls : List (List LabelledBlock)). IsHolding key (blocks_of (core_list ls core))) same run.4 in
-        absurd (omega (arith, twice, holding.disjoint x)),
-    λ number n k lines answers new run.
-        let same = (move_refused old other label core f run.2 run.3).2 in
-        let holding : IsHolding key (blocks_of (core_list old core)) =
-        subst (λ (ls : List (List LabelledBlock)). IsHolding key (blocks_of (core_list ls core))) same run.5 in
-        absurd (omega (arith, twice, holding.disjoint x)),
+    λ number n k lines answers new run. shared_in run.2 (move_refused old core label other f run.2 run.3).2 run.4,
+    λ number n k lines answers new run. shared_in run.2 (move_refused old other label core f run.2 run.3).2 run.5,
   ),
 )
+  where
+    shared : (list : List LabelledBlock) → list ≡ core_list old core → IsHolding key (blocks_of list) → ⊥
+    shared list same holds = let holding = rw same at holds in absurd (omega (arith, twice, holding.disjoint x))
+
+    shared_in : (lists : List (List LabelledBlock)) → lists ≡ old → IsHolding key (blocks_of (core_list lists core)) → ⊥
+    shared_in lists same holds = shared (core_list lists core) (ap (λ l. core_list l core) same) holds
 
 -- Worked runs.
 

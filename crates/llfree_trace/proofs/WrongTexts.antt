@@ -1,6 +1,6 @@
 -- What is neither shown nor refused, and how no call ends.
 use Rattle.std.proofs.Common.{◌≡◌, ◌≢◌, ◌<◌, ◌∙◌, inl, inr, ℕ, List, Bool, true, false, Option, Some, None}
-use Rattle.std.proofs.Common.{Result, Ok, Err, refl, sym, ap, subst, arith, length, IfSome, IsSomeAnd}
+use Rattle.std.proofs.Common.{Result, Ok, Err, refl, sym, subst, arith, length, IfSome, IsSomeAnd}
 use Rattle.core_frames.specs.Ranges.{MayHoldBack}
 use Rattle.frame_model.specs.Laws.{AddsUp}
 use Rattle.frame_model.specs.Rebuilt.{IsRebuilt}
@@ -27,19 +27,11 @@ use Rattle.trace_text.specs.declared.line.Line.{Line}
 
 -- What a text says is one.
 
-abbrev ok_in : {A B : Type 0} → A → Result A B → A
-ok_in d (Ok x) = x
-ok_in d (Err e) = d
-
-abbrev err_in : {A B : Type 0} → B → Result A B → B
-err_in d (Ok x) = d
-err_in d (Err e) = e
-
 same_ok : {A B : Type 0} (r : Result A B) (x y : A) → r ≡ Ok x → r ≡ Ok y → x ≡ y
-same_ok r x y p q = ap (ok_in x) (sym p ∙ q)
+same_ok r x y p q = let same = sym p ∙ q in cc
 
 same_err : {A B : Type 0} (r : Result A B) (x y : B) → r ≡ Err x → r ≡ Err y → x ≡ y
-same_err r x y p q = ap (err_in x) (sym p ∙ q)
+same_err r x y p q = let same = sym p ∙ q in cc
 
 not_both : {A B : Type 0} (r : Result A B) (x : A) (y : B) → r ≡ Ok x → r ≡ Err y → ⊥
 not_both r x y p q = absurd (cc)
