@@ -17,7 +17,8 @@ void main(void);
 enum { HELD = 2048, HANDLED = 16, ROUNDS = 200000, TICK = 50000 /* nanoseconds */, WRONG_GIVE = 1000 };
 
 struct held {
-    llfree_block block; /* of both forms: by numbers just its frame and order count */
+    llfree_block block; /* of both forms: by number just its frame and order count */
+    bool is_number;
     uint64_t stamp;
 };
 
@@ -25,9 +26,9 @@ struct held {
 struct hand {
     _Alignas(64) llfree_core core;
     struct held held[HELD], post; /* any hand takes out what lies in the post */
-    bool is_locked;
+    bool is_locked, was_wrong;
     volatile bool is_at_work, is_inside; /* of a call */
-    uint64_t random, stamps, takes, splits, gives, none, inside;
+    uint64_t random, stamps, takes, splits, gives, none, inside, frames; /* the last: takes of frames that may rest */
 };
 static struct hand hands[2 * CPUS], *const handlers = hands + CPUS;
 
@@ -37,46 +38,67 @@ static uint32_t phase, done;
 static bool is_checked, is_quiet, has_sse, gives_twice, goes_on;
 static llfree_claim claims[2 * CPUS * (HELD + 1)];
 
-static uint32_t take(struct hand *hand, uint8_t order, llfree_block *block)
+static uint32_t random(struct hand *hand, uint32_t below)
 {
+    hand->random = hand->random * 6364136223846793005u + 1442695040888963407u;
+    return (uint32_t)((hand->random >> 32) * below >> 32);
+}
+
+/* In both forms half of the single frames are taken by the call for frames that rest; these are structs. */
+static uint32_t take(struct hand *hand, uint8_t order, struct held *one)
+{
+    bool may_rest = order == 0 && random(hand, 2) == 0;
+    uint32_t status;
+
+    one->is_number = is_checked && !may_rest;
     hand->is_inside = true;
-    uint32_t status = is_checked ? llfree_take(&hand->core, order, &block->frame)
-                                 : llfree_take_block(&hand->core, order, block);
+    status = may_rest         ? llfree_take_frame(&hand->core, &one->block)
+             : one->is_number ? llfree_take(&hand->core, order, &one->block.frame)
+                              : llfree_take_block(&hand->core, order, &one->block);
     hand->is_inside = false;
-    if (is_checked && status == LLFREE_OK) {
-        block->order = order;
-        block->live = true;
+    hand->frames += may_rest && status == LLFREE_OK;
+    if (one->is_number && status == LLFREE_OK) {
+        one->block.order = order;
+        one->block.live = true;
     }
     return status;
 }
 
-static uint32_t give(struct hand *hand, llfree_block *block)
+/* Half of the single frames in structs come to rest, whichever call took them. */
+static uint32_t give(struct hand *hand, struct held *one)
 {
+    bool may_rest = one->block.order == 0 && random(hand, 2) == 0;
+    uint32_t status;
+
     hand->is_inside = true;
-    uint32_t status = is_checked ? llfree_give(&hand->core, block->frame, block->order)
-                                 : llfree_give_block(&hand->core, block);
+    status = one->is_number ? llfree_give(&hand->core, one->block.frame, one->block.order)
+             : may_rest     ? llfree_give_frame(&hand->core, &one->block)
+                            : llfree_give_block(&hand->core, &one->block);
     hand->is_inside = false;
-    if (is_checked && status == LLFREE_OK)
-        block->live = false;
+    if (one->is_number && status == LLFREE_OK)
+        one->block = (llfree_block)LLFREE_EMPTY;
     return status;
 }
 
-static uint32_t split(struct hand *hand, llfree_block *block, llfree_block *upper)
+static uint32_t split(struct hand *hand, struct held *one, struct held *upper)
 {
+    llfree_block *block = &one->block;
+
     hand->is_inside = true;
-    uint32_t status = is_checked ? llfree_split(&hand->core, block->frame, block->order)
-                                 : llfree_split_block(&hand->core, block, upper);
+    uint32_t status = one->is_number ? llfree_split(&hand->core, block->frame, block->order)
+                                     : llfree_split_block(&hand->core, block, &upper->block);
     hand->is_inside = false;
-    if (is_checked && status == LLFREE_OK) {
+    upper->is_number = one->is_number;
+    if (one->is_number && status == LLFREE_OK) {
         block->order--;
-        *upper = (llfree_block){ true, block->frame + (1u << block->order), block->order };
+        upper->block = (llfree_block){ true, block->frame + (1u << block->order), block->order };
     }
     return status;
 }
 
 static void take_one(struct hand *hand, struct held *one, uint8_t order)
 {
-    uint32_t status = take(hand, order, &one->block);
+    uint32_t status = take(hand, order, one);
 
     if (status == LLFREE_NO_BLOCK || status == LLFREE_CONTENDED) {
         hand->none++;
@@ -90,14 +112,16 @@ static void take_one(struct hand *hand, struct held *one, uint8_t order)
 
 static void give_one(struct hand *hand, struct held *one)
 {
-    bool is_wrong = hand == &hands[cpus - 1] && hand->gives == WRONG_GIVE;
-    llfree_block before = one->block;
+    bool is_wrong = hand == &hands[cpus - 1] && hand->gives >= WRONG_GIVE && !hand->was_wrong &&
+                    one->is_number == is_checked;
+    struct held before = *one;
 
+    hand->was_wrong |= is_wrong;
     hand->gives++;
     if (is_wrong && goes_on) {
         /* its pages are written on, so that whoever takes them next finds its stamp, or it finds another one */
-        expect(give(hand, &one->block) == LLFREE_OK, "a block that was held is refused");
-        stamp(&before, one->stamp, one->stamp);
+        expect(give(hand, one) == LLFREE_OK, "a block that was held is refused");
+        stamp(&before.block, one->stamp, one->stamp);
         return;
     }
     if (is_wrong && gives_twice) {
@@ -105,7 +129,7 @@ static void give_one(struct hand *hand, struct held *one)
         tell_alone();
     }
     stamp(&one->block, one->stamp, 0);
-    expect(give(hand, &one->block) == LLFREE_OK, "a block that was held is refused");
+    expect(give(hand, one) == LLFREE_OK, "a block that was held is refused");
     if (is_wrong && gives_twice) {
         expect(give(hand, &before) == LLFREE_OK, "a block that was given is refused");
         expect(false, "a block that was given is given again");
@@ -116,7 +140,7 @@ static void split_one(struct hand *hand, struct held *one, struct held *empty)
 {
     if (one->block.order == 0 || empty->block.live)
         return;
-    expect(split(hand, &one->block, &empty->block) == LLFREE_OK, "a split is refused");
+    expect(split(hand, one, empty) == LLFREE_OK, "a split is refused");
     empty->stamp = one->stamp;
     hand->splits++;
 }
@@ -132,12 +156,6 @@ static void exchange(struct held *one, struct hand *to, bool waits)
     *one = to->post;
     to->post = before;
     __atomic_clear(&to->is_locked, __ATOMIC_RELEASE);
-}
-
-static uint32_t random(struct hand *hand, uint32_t below)
-{
-    hand->random = hand->random * 6364136223846793005u + 1442695040888963407u;
-    return (uint32_t)((hand->random >> 32) * below >> 32);
 }
 
 static void work(struct hand *hand)
@@ -268,7 +286,8 @@ static void open_all(llfree_core *handles)
 
         hand->core = handles[i]; /* moved, each into cache lines of its own */
         handles[i] = (llfree_core)LLFREE_CLOSED;
-        hand->takes = hand->splits = hand->gives = hand->none = hand->inside = 0;
+        hand->was_wrong = false;
+        hand->takes = hand->splits = hand->gives = hand->none = hand->inside = hand->frames = 0;
     }
 }
 
@@ -291,6 +310,7 @@ static uint64_t claim_all(llfree_core *handles, size_t *count)
 static void print_counts(void)
 {
     uint64_t takes = 0, splits = 0, none = 0, interrupts = 0, handled = 0, gives = 0, inside = 0;
+    uint64_t frames = 0;
 
     for (unsigned i = 0; i < cpus; i++) {
         takes += hands[i].takes;
@@ -300,10 +320,13 @@ static void print_counts(void)
         handled += handlers[i].takes;
         gives += handlers[i].gives;
         inside += handlers[i].inside;
+        frames += hands[i].frames + handlers[i].frames;
     }
     print("%u takes, %u splits, %u times no block, %u interrupts so far\n", takes, splits, none, interrupts);
     print("in handlers %u takes, %u gives; %u of these calls came inside of a call of their CPU\n", handled, gives,
           inside);
+    print("%u single frames were taken by the call for those that rest\n", frames);
+    expect(frames > 0, "no frame was taken by that call");
     expect(is_quiet || inside > 0, "no handler came inside of a call");
 }
 
