@@ -6,7 +6,8 @@ Traces and images are made, damaged byte by byte, cut, repeated, quoted and stre
 and docs/FORMATS.md say of that text: the checker reads it again by the rules of tools/records.py, finds the
 record that is refused, and follows the answers of what is accepted frame by frame. Some texts are long enough to be
 read in parts: about the places where they are cut the records are quoted, ended and broken in all ways. One seed tries
-the same cases each time; each case that fails is kept as a file.
+the same cases each time; each case that fails is kept as a file. An answer may take the seconds that are named (1), and
+as many for each million bytes of its text.
 
     tools/fuzz.py [--cases N] [--seed N] [--jobs N] [--seconds N] [--program FILE] [--under WORDS]
 """

@@ -1,7 +1,8 @@
 #!/usr/bin/env bash
-# Random takes and gives on threads for some seconds (60), with a stamp in each frame of a real memory
-# of some children (64; 2 MiB each). Ends with 0 where no frame was in two hands and what is held at
-# the end is just what is stamped.
+# Random takes and gives on threads, with a stamp in each frame of a real memory of children of 2 MiB:
+#     tools/stamps.sh [SECONDS [CHILDREN [THREADS]]]
+# by default 60, 64 and the number of processors. It ends with 0 where no frame was in two hands and what is held at the
+# end is just what is stamped.
 set -eu
 unset CDPATH MAKEFLAGS MFLAGS
 cd "$(dirname "$0")/.."
