@@ -1,12 +1,11 @@
 #!/usr/bin/env bash
-# Tries what ./llfree and make build, and when they do so again, in a small tree, with the kit's rt over a stand-in for
-# its other programs (tools/stand_in.sh); what they refuse; what the gate's last lines say; and with the kit itself a tree
+# Tries what ./llfree and make build, when they do so again, and what they refuse, in a small tree, with the kit's rt over
+# a stand-in for its other programs (tools/stand_in.sh); what the gate's last lines say; and with the kit itself a tree
 # with a crate for each rule of rt ci, which rt ci and make have to refuse. The last line counts.
 set -u
-unset CDPATH MAKEFLAGS MFLAGS LLFREE_UNPROVED RT_JOBS
-root=$(cd "$(dirname "$0")/.." && pwd) work=$(mktemp -d) real=$(dirname "$(rt doc)")
-tree="$work/a tree" kit=$work/kit passed=0 failed=0
-trap 'rm -rf "$work"' EXIT
+. "$(dirname "$0")/holds.sh"
+unset LLFREE_UNPROVED RT_JOBS
+root=$(cd "$(dirname "$0")/.." && pwd) work=$folder real=$(dirname "$(rt doc)") tree="$folder/a tree" kit=$folder/kit
 mkdir -p "$kit"/{bin,c,stand,toolchain/bin,rattle,rlibs/std.rlib} "$work/bin"
 for name in bin/{rattle,rattle-link} toolchain/bin/clang stand/rt; do cp "$root/tools/stand_in.sh" "$kit/$name"; done
 cp "$real"/{WHAT,bin/rtlib.py} "$kit/bin" && mv "$kit/bin/WHAT" "$kit" && ln -s "$real/rattle/std" "$kit/rattle"
@@ -14,15 +13,13 @@ sed "1a import os, sys\nif sys.argv[1:2] in (['ci'], ['try']): os.execv('$kit/st
     install -m 755 /dev/stdin "$kit/bin/rt"
 ln -sft "$work/bin" /bin/*; ln -sft "$work/bin" /usr/bin/*; rm -f "$work"/bin/{make,gmake,rt}
 
-# holds NAME WORDS WORDS: the row passes where both are the same
-holds() {
-    if [ "$2" = "$3" ]; then passed=$((passed + 1)); return; fi
-    failed=$((failed + 1))
-    echo "first_run: $1: not so: $2, but wanted: $3; the end of what was said: $(tail -n 8 "$work/output" "$work/errors")"
+# is WORDS WORDS: both are the same
+is() {
+    [ "$1" = "$2" ] || { echo "$1, but wanted: $2; what was said ends: $(tail -n 8 "$work/output" "$work/errors")"; false; }
 }
 # runs COMMAND..: in the tree, with the stand-in
 runs() {
-    : >"$kit/calls" && status=0
+    : >"$work/calls" && status=0
     (cd "$tree" && PATH=$kit/bin:$PATH "$@") >"$work/output" 2>"$work/errors" </dev/null || status=$?
 }
 # rows: of each line the name, what is done, and what comes then: the crates that are built, the sentence behind a !
@@ -35,13 +32,13 @@ rows() {
         case $then in
             !*) found=!$([ "$status" = 0 ] || cat "$work/output" <(grep -oF -m 1 -e "${then#!}" "$work/errors")) ;;
             =*) found="=$status, $(tail -n 2 "$work/output" | grep -E '^skipped: |^[0-9]+ passed' | paste -sd ';')" ;;
-            *) found=$([ "$status" = 0 ] || echo "status $status"; echo $(cat "$kit/calls")) ;;
+            *) found=$([ "$status" = 0 ] || echo "status $status"; echo $(cat "$work/calls")) ;;
         esac
-        holds "$row" "$found" "$then"
+        holds "$row" is "$found" "$then"
     done
 }
 fresh() {
-    rm -rf "$tree" "$kit"/hook.*
+    rm -rf "$tree" "$work"/hook.*
     mkdir -p "$tree"/{tools,.git,.ci,docs,man,include,bindings/rust,crates/low/must-fail}
     (cd "$root" && cp --parents llfree Makefile VERSION HANDLES .ci/run tools/prove.py "$tree")
     echo 'stand-in logic 1' | tee "$tree/README.md" >"$kit/KIT-ID"
@@ -54,7 +51,7 @@ fresh() {
     chmod -R a+rwX "$work" && chmod -R go-w "$tree"
 }
 edits() { echo "$2" >"$tree/crates/$1"; }
-hooks() { echo "$2" >"$kit/hook.$1"; }
+hooks() { echo "$2" >"$work/hook.$1"; }
 links() { mv "$tree/$1" "$work/moved"; ln -s "$work/moved" "$tree/$1"; }
 # another text is there while mid is proved from a copy, and no longer when the program is built
 swaps() {
@@ -65,16 +62,15 @@ swaps() {
 unlinks() { rm "$tree/$1"; mv "$work/moved" "$tree/$1"; }
 # stopped SIGNAL: while mid is built, as by a terminal
 stopped() {
-    hooks mid "kill -$1 -- -\$(cat '$work/pid'); sleep 2; echo late >>'$kit/calls'"
+    hooks mid "kill -$1 -- -\$(cat '$work/pid'); sleep 2; echo late >>'$work/calls'"
     runs setsid -w bash -c 'echo $$ >"$0"; exec "$@"' "$work/pid" env --default-signal=INT "${words[@]}"
-    sleep 2.5; rm "$kit/hook.mid"
+    sleep 2.5; rm "$work/hook.mid"
 }
 # gate [NAME TEXT]: the gate over parts that say that they passed, but for one
 gate() {
     fresh
-    : | tee "$tree/include/llfree.h" "$tree/crates/low/must-fail/one.edit" >"$kit/hook.ci"
-    for name in tools/{{answers,beside,steps,c,clients,crash,kernel,first_run,play}.sh,{refusals,fuzz,definitions,contracts,readmes}.py} \
-        man/pages.py bindings/rust/test.sh; do
+    : | tee "$tree/include/llfree.h" "$tree/crates/low/must-fail/one.edit" >"$work/hook.ci"
+    for name in $(grep -ohE '(tools|man|bindings/rust)/\w+\.(sh|py)' "$tree"/{.ci/run,Makefile} | grep -v prove); do
         printf '#!/bin/sh\necho "1 passed, 0 failed"\n' >"$tree/$name" && chmod +x "$tree/$name"
     done
     [ $# = 0 ] || printf '#!/bin/sh\n%s\n' "${2:-}" >"$tree/$1"
@@ -104,9 +100,9 @@ another C archive|echo '# new' >>"$kit/c/liblibc_c.a"|low mid llfree
 another program was laid in its place|echo by hand >"$tree/build/llfree"|
 the clone is copied|cp -r "$tree" "$work/copy"; rm -rf "$tree"; mv "$work/copy" "$tree"|
 a crate fails|edits mid/src/lib.rt bad; hooks mid 'exit 1'|!mid is refused: it is not proved
-what failed is taken back|edits mid/src/lib.rt mid; rm "$kit/hook.mid"|
-a source was another while it was built|swaps; runs "${words[@]}"; rm "$kit"/hook.*|mid llfree
-it was edited while it was built|edits mid/src/lib.rt new; hooks mid "echo mad >'$tree/crates/low/src/lib.rt'"; runs "${words[@]}"; rm "$kit"/hook.*|low mid llfree
+what failed is taken back|edits mid/src/lib.rt mid; rm "$work/hook.mid"|
+a source was another while it was built|swaps; runs "${words[@]}"; rm "$work"/hook.*|mid llfree
+it was edited while it was built|edits mid/src/lib.rt new; hooks mid "echo mad >'$tree/crates/low/src/lib.rt'"; runs "${words[@]}"; rm "$work"/hook.*|low mid llfree
 next after Ctrl-C|edits low/src/lib.rt int; stopped INT|mid llfree
 next after TERM|edits low/src/lib.rt term; stopped TERM|mid llfree
 next after kill -9|edits low/src/lib.rt kill; stopped KILL 2>/dev/null|mid llfree
@@ -119,7 +115,7 @@ a link to sources|unlinks crates/low/src/lib.rt; links crates/low/src|!crates/lo
 a link to crates|unlinks crates/low/src; links crates|!crates is a link
 a source that no crate reads|unlinks crates; edits low/other.rt text|!no check reads crates/low/other.rt
 a word that rt ci refuses|rm "$tree/crates/low/other.rt"; edits low/src/lib.rt word; hooks low "word='batches=trusted '"|!low is refused: rattle's last line has a word
-a program that starts others|rm "$kit/hook.low"; echo 'echo posix_spawn' >>"$kit/toolchain/bin/clang"|!llfree is refused: it reaches what only the handle Processes gives
+a program that starts others|rm "$work/hook.low"; echo 'echo posix_spawn' >>"$kit/toolchain/bin/clang"|!llfree is refused: it reaches what only the handle Processes gives
 no make|cp "$kit/stand/rt" "$kit/toolchain/bin/clang"; words=(env PATH="$kit/bin:$work/bin" ./llfree run 1 1)|!make is not here
 no rt|words=(env PATH="$work/bin:$(dirname "$(command -v make)")" ./llfree run 1 1)|!rt of the Rattle kit is not on the PATH
 no find, sort or cmp|rm "$work"/bin/{find,sort,cmp}; ln -sf "$(command -v make)" "$(python3 -c 'import sys; print(sys.executable)')" "$work/bin"; words=(env PATH="$kit/bin:$work/bin" ./llfree run 1 1)|low mid llfree
@@ -145,12 +141,12 @@ ROWS
 
 # what no program has to be built for, and just what the program has as no command; what it refuses for its sizes is its own
 fresh
-for line in --help --version; do runs ./llfree $line; holds "$line" "$status, $(cat "$kit/calls"), $(wc -l <"$work/output")" '0, , 1'; done
+for line in --help --version; do runs ./llfree $line; holds "$line" is "$status, $(cat "$work/calls"), $(wc -l <"$work/output")" '0, , 1'; done
 runs ./llfree; usage="2, , $(cat "$work/errors")"
 while read -r said line; do
     if [ "$said" = usage ]; then said=$usage; else said="0, try $line, llfree: this answer is not proved (LLFREE_UNPROVED is set)"; fi
     eval "runs env LLFREE_UNPROVED=1 ./llfree $line"
-    holds "words: $line" "$status, $(cat "$kit/calls"), $(cat "$work/errors")" "$said"
+    holds "words: $line" is "$status, $(cat "$work/calls"), $(cat "$work/errors")" "$said"
 done < <(grep -v '^#' "$root/tools/refused/commands.txt"; printf '%s\n' 'of run 1 1' 'of run 000000001 64' 'of run 1 1 512' \
     'of image 4096 64 1' 'of rebuild' 'of report' "usage run 1 $'\\xff'" 'usage run 1 1 -1' 'usage run 1 +1' 'usage "run 1 1"')
 
@@ -165,8 +161,8 @@ done < <(grep -v '^#' "$root/tools/refused/rules.txt")
 (cd "$tree" && rt ci; make -k $(tr -d : <crates.txt) 2>&1 | grep -E '^\w+ is (proved|refused)') \
     >"$work/output" 2>"$work/errors"
 for name in $(tr -d : <"$tree/crates.txt"); do
-    holds "rt ci, make: $name" "$(grep -oE "^(rt: $name NOT PROVED|$name is (proved|refused))" "$work/output" | paste -sd ';')" \
+    holds "rt ci, make: $name" \
+        is "$(grep -oE "^(rt: $name NOT PROVED|$name is (proved|refused))" "$work/output" | paste -sd ';')" \
         "$([ "$name" = good ] && echo 'good is proved' || echo "rt: $name NOT PROVED;$name is refused")"
 done
-echo "$passed passed, $failed failed"
-[ "$failed" = 0 ]
+ends

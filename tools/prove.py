@@ -24,12 +24,12 @@ import types
 TOP = os.path.dirname(os.path.dirname(os.path.realpath(__file__)))
 PARTS = ('src', 'specs', 'proofs')
 GOALS = {'library': ['llfree_c'], 'kernel': ['llfree_c'], 'examples': ['llfree_c'], 'bench': ['llfree_bench'],
-         'install': ['llfree', 'llfree_c'], 'all': ['llfree', 'llfree_c']}
+         'install': ['llfree', 'llfree_c']}
 # with which flags clang compiles the archives
 KERNEL = '-mgeneral-regs-only -mllvm -force-attribute=noredzone -fno-function-sections -fno-data-sections'
 ARCHIVES = {'libllfree_c.a': '', 'libllfree_kernel.a': KERNEL,
             'libllfree_linux.a': f'{KERNEL} -mllvm -force-attribute=fn_ret_thunk_extern'}
-HELD = []
+HELD = {}
 
 
 def text_of(path):
@@ -63,16 +63,10 @@ def copy(folder, new, by=shutil.copy2):
 
 def lock(name, how=fcntl.LOCK_EX):
     """Returns whether it is held, against other builds in this clone and until this process ends."""
-    HELD.append(open(f'{ROOM}/{name}.lock', 'w', encoding='utf-8'))  # pylint: disable=consider-using-with
+    HELD[name] = open(f'{ROOM}/{name}.lock', 'w', encoding='utf-8')  # pylint: disable=consider-using-with
     with contextlib.suppress(BlockingIOError):
-        return fcntl.flock(HELD[-1], how) is None
+        return fcntl.flock(HELD[name], how) is None
     return False
-
-
-def left_of(names, begin):
-    """Those of the crates that this build has not come to."""
-    keys = {it: f'{ROOM}/{it}/key' for it in names}
-    return [it for it in names if not os.path.exists(keys[it]) or os.path.getmtime(keys[it]) < begin]
 
 
 # where git keeps this clone, which is elsewhere for a tree of several
@@ -84,20 +78,17 @@ class Build:
     """Of the crates of crates.txt, by the kit on the PATH."""
 
     def __init__(self):
-        rt = shutil.which('rt')
-        if rt is None:
-            sys.exit('the command rt of the Rattle kit is not on the PATH: README.md says which kit it is')
+        rt = shutil.which('rt') or sys.exit('rt of the Rattle kit is not on the PATH: README.md says which kit it is')
         self.kit = os.path.dirname(os.path.dirname(os.path.realpath(rt)))
         kit = text_of(f'{self.kit}/KIT-ID').strip()
         if f'logic {kit.rpartition("logic ")[2]}' not in text_of('README.md'):
             sys.exit(f'the kit on the PATH, {kit}, is none of those that README.md names')
         rows = [it.partition('#')[0].strip() for it in text_of('crates.txt').splitlines()]
         self.line = {re.match(r'\w+', it)[0]: it for it in rows if it}
-        libraries = {name: it.partition(':')[2].split() for name, it in self.line.items()}
-        self.uses = {name: [it for it in libraries[name] if it in self.line] for name in self.line}
+        self.uses = {it: [u for u in row.partition(':')[2].split() if u in self.line] for it, row in self.line.items()}
         self.allowed = text_of('HANDLES')
         # how the files of the kit look that are read, and by which script
-        names = sorted({'std', *(it for uses in libraries.values() for it in uses)} - {*self.line})
+        names = sorted({'std', *(it for row in rows for it in row.partition(':')[2].split())} - {*self.line})
         read = [f'{self.kit}/{it}' for it in ('bin', 'c', 'toolchain', 'logic_built', 'rattle/logic', 'rattle/antt')]
         for name in names:
             read += [f'{self.kit}/rlibs/{name}.rlib']
@@ -108,13 +99,6 @@ class Build:
             sys.exit('this clone cannot be written to: copy it to a folder of yours')
         os.makedirs(ROOM, exist_ok=True)
         os.makedirs('build', exist_ok=True)
-
-    def rt(self):
-        """The kit's rt, which judges."""
-        rt = types.ModuleType('rt')
-        rt.__file__ = f'{self.kit}/bin/rt'
-        exec(compile(text_of(rt.__file__), rt.__file__, 'exec'), rt.__dict__)  # pylint: disable=exec-used
-        return rt
 
     def below(self, *names):
         """These crates and all that they stand on, the lowest first."""
@@ -136,36 +120,40 @@ class Build:
                 sys.exit(f'{path} is a link, or no file: put the file or folder itself there')
             if path.endswith(('.rt', '.antt')) and not path.startswith(read):
                 sys.exit(f'no check reads {path}: it belongs to a crate of crates.txt')
-        crates, stale = self.below(*self.line), []
-        needed = self.below(*(it for goal in goals for it in GOALS.get(goal, [goal]) if it in crates)) or crates
-        lines = {it: 1 + sum(text_of(path).count('\n') for path in files_in(f'crates/{it}/src')) for it in crates}
+        names = [it for goal in goals for it in GOALS.get(goal, [goal])]
+        needed = self.below(*(names if {*names} <= {*self.line} else self.line))
+        lines = {it: 1 + sum(text_of(path).count('\n') for path in files_in(f'crates/{it}/src')) for it in needed}
         # of each crate, the lines of the longest chain of crates from it up
         chain = {}
         for name in reversed(needed):
             chain[name] = lines[name] + max((chain[it] for it in needed if name in self.uses[it]), default=0)
-        rows = [f'.PHONY: {it} {it}.proved' for it in crates]
-        for name in crates:
+        rows, stale = [f'.PHONY: {it} {it}.proved' for it in needed], []
+        for name in needed:
             made = [name] if os.path.exists(f'crates/{name}/src/main.rt') else []
             made += ARCHIVES if 'staticlib' in self.line[name].partition(':')[0] else []
             rows += [f'{name}: {f"build/{made[0]}" if made else f"{name}.proved"}']
             rows += [f'build/{it}: {name}.proved ; @tools/prove.py place {name} $@' for it in made]
             if not self.is_kept(name) or {*stale} & {*self.uses[name]}:
                 stale += [name]
-                below = sorted(self.below(name)[:-1], key=lambda it: -chain.get(it, 0))
+                below = sorted(self.below(name)[:-1], key=lambda it: -chain[it])
                 rows += [f'{name}.proved: {" ".join(f"{it}.proved" for it in below)} ; @tools/prove.py crate {name}']
-        stale = [it for it in needed if it in stale]
         free = int(re.search(r'MemAvailable: *(\d+)', text_of('/proc/meminfo'))[1])
         slots = max(1, min(int(os.environ.get('RT_JOBS') or 4), os.cpu_count(), free // 2_000_000))
         write('build/crates.mk', '\n'.join([f'slots := {slots}', *rows, '']))
         write(f'{ROOM}/began', json.dumps([time.time(), {it: lines[it] for it in stale}, chain, slots]))
         if stale:
-            goals = f'{" ".join(goals)}: proves at most {len(stale)} of {len(needed)} crates'
-            print(f'{goals}; proved and judged; not tested: .ci/run', file=sys.stderr)
+            print(f'{" ".join(goals)}: proves and judges at most {len(stale)} of {len(needed)} crates', file=sys.stderr)
 
     def crate(self, name):
         begin, lines, chain, slots = json.loads(text_of(f'{ROOM}/began'))
         below, stage, log = self.below(name)[:-1], f'{ROOM}/{name}.new', f'{TOP}/build/{name}.log'
         new, proved = f'{stage}/crates/{name}', []
+
+        def left():
+            """The crates that this build has not come to."""
+            keys = {it: f'{ROOM}/{it}/key' for it in lines}
+            return [it for it in lines if not os.path.exists(keys[it]) or os.path.getmtime(keys[it]) < begin]
+
         for it in below:
             lock(it, fcntl.LOCK_SH)
         lock(name)
@@ -183,9 +171,12 @@ class Build:
             copy(f'{ROOM}/{it}', f'{stage}/crates/{it}', os.link)
         write(f'{stage}/HANDLES', self.allowed)
         write(f'{stage}/crates.txt', ''.join(f'{self.line[it]}\n' for it in [*below, name]))
-        key, rt = self.key(name, new), self.rt()
+        key = self.key(name, new)
         # the crate with the longest chain above it goes first, and the others have what it leaves
-        os.nice(0 if all(chain[it] <= chain.get(name, 0) for it in left_of(lines, begin)) else 5)
+        os.nice(0 if all(chain[it] <= chain.get(name, 0) for it in left()) else 5)
+        rt = types.ModuleType('rt')
+        rt.__file__ = f'{self.kit}/bin/rt'
+        exec(compile(text_of(rt.__file__), rt.__file__, 'exec'), rt.__dict__)  # pylint: disable=exec-used
 
         class Crate(rt.Crate):
             """What an archive is compiled from stays, and programs are compiled by LLVM alone."""
@@ -215,10 +206,10 @@ class Build:
             why = [it for it in said if re.match(r'rt: (?!\S+ NOT PROVED|note)', it)] or ['rt: it is not proved']
             sys.exit('\n'.join([*said[-12:], f'{name} is refused: {why[-1][4:]}; the log is build/{name}.log']))
         self.keep(name, new, key)
-        left, took = left_of(lines, begin), time.time() - begin
-        rest, whole = sum(lines[it] for it in left), sum(lines.values())
-        more = f', about {1 + int(rest * took / 60 / max(1, whole - rest))} min left' if left else ''
-        print(f'{name} is proved ({len(lines) - len(left)} of {len(lines)}) after {took:.0f} s{more}', file=sys.stderr)
+        rest, took = left(), time.time() - begin
+        done, ahead = sum(lines[it] for it in lines if it not in rest), sum(lines[it] for it in rest)
+        more = f', about {1 + int(ahead * took / 60 / max(1, done))} min left' if rest else ''
+        print(f'{name} is proved ({len(lines) - len(rest)} of {len(lines)}) after {took:.0f} s{more}', file=sys.stderr)
 
     def keep(self, name, new, key):
         """Puts what was judged in its place. Of a library that says what it said before, the old one is left, so that

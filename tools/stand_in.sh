@@ -1,25 +1,24 @@
 #!/usr/bin/env bash
 # Stands in the place of a kit's programs, by its name, for tools/first_run.sh: it proves nothing, says what it was
-# called for in the file calls, does what a file hook.CRATE says, and builds files of the sources.
+# called for in the file calls, does what a file hook.CRATE says, and builds files of the sources. It lies in kit/.
 set -eu
-kit=${0%/*/*} words=$(printf '%s\n' "$@")
-kit=${kit%/toolchain}
+work=${0%/kit/*} words=$(printf '%s\n' "$@")
 named() { sed -n "/^$1\$/{n;p}" <<<"$words"; }
 case ${0##*/}:$* in
-    rt:try*) echo "try ${*:3}" >>"$kit/calls" ;;
+    rt:try*) echo "try ${*:3}" >>"$work/calls" ;;
     rt:ci)
         for crate in low mid other; do
             mkdir -p "crates/$crate/out/rlib/$crate.rlib"
             cat "crates/$crate"/src/*.rt >"crates/$crate/out/rlib/$crate.rlib/text"
         done
-        . "$kit/hook.ci"
+        . "$work/hook.ci"
         printf '%s\n' 'rt: must-fail low/one.edit: refused, as it must be' '3 passed, 0 failed' ;;
     rattle:*--crate-checked*) cat "$(named --crate-checked)/text" >"$(named -o)" ;;
     rattle:*--crate-name*)
         name=$(named --crate-name) made=$(named -o)
-        echo "$name" >>"$kit/calls"
+        echo "$name" >>"$work/calls"
         text=$(sed -n 's|^.*=\(/.*/crates/.*\.rlib\)$|\1/text|p' <<<"$words" | xargs -d '\n' cat src/*.rt)
-        if [ -e "$kit/hook.$name" ]; then . "$kit/hook.$name"; fi
+        if [ -e "$work/hook.$name" ]; then . "$work/hook.$name"; fi
         mkdir -p "$made"
         echo "$text" >"$made/text"
         cat proofs/*.antt >"$made/checked.a"
