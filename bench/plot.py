@@ -8,9 +8,9 @@ recording that is replayed, how many takes and gives.
 A file of bench/results has lines `# machine:`, `# date:`, `# method:` and then the table as the script prints it,
 with a line for each number of threads, or a csv: of bench/paper.sh's the phases are drawn, of one with columns
 threads, order, who and ns all. A group is an order, or an order behind a kind of work, trees or a phase
-(`random,mixed`, `one tree,0`, `take,9`); with none named all are drawn. The plot is for light and dark pages. With --slide it has no
-line on machine and method, which belongs beside it then. --measure runs the script first, which takes its time, and
-lays down such a file, a new one at each run.
+(`random,mixed`, `one tree,0`, `take,9`); with none named all are drawn. The plot is for light and dark pages. With
+--slide it has no line on machine and method, which belongs beside it then. --measure runs the script first, which takes
+its time, and lays down such a file, a new one at each run.
 """
 import argparse
 import csv

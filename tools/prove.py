@@ -138,14 +138,16 @@ class Build:
                 below = sorted(self.below(name)[:-1], key=lambda it: -chain[it])
                 rows += [f'{name}.proved: {" ".join(f"{it}.proved" for it in below)} ; @tools/prove.py crate {name}']
         free = int(re.search(r'MemAvailable: *(\d+)', text_of('/proc/meminfo'))[1])
-        slots = max(1, min(int(os.environ.get('RT_JOBS') or 4), os.cpu_count(), free // 2_000_000))
-        write('build/crates.mk', '\n'.join([f'slots := {slots}', *rows, '']))
-        write(f'{ROOM}/began', json.dumps([time.time(), {it: lines[it] for it in stale}, chain, slots]))
+        jobs = max(1, min(int(os.environ.get('RT_JOBS') or 4), os.cpu_count(), free // 2_000_000))
+        # two crates at once keep all processors busy; more only take turns
+        write('build/crates.mk', '\n'.join([f'slots := {(jobs + 1) // 2}', *rows, '']))
+        write(f'{ROOM}/began', json.dumps([time.time(), {it: lines[it] for it in stale}, chain, jobs]))
         if stale:
-            print(f'{" ".join(goals)}: proves and judges at most {len(stale)} of {len(needed)} crates', file=sys.stderr)
+            goals = f'{" ".join(goals)}: proves and judges at most {len(stale)} of {len(needed)} crates'
+            print(f'{goals}; not tested: .ci/run', file=sys.stderr)
 
     def crate(self, name):
-        begin, lines, chain, slots = json.loads(text_of(f'{ROOM}/began'))
+        begin, lines, chain, jobs = json.loads(text_of(f'{ROOM}/began'))
         below, stage, log = self.below(name)[:-1], f'{ROOM}/{name}.new', f'{TOP}/build/{name}.log'
         new, proved = f'{stage}/crates/{name}', []
 
@@ -160,8 +162,8 @@ class Build:
         if self.is_kept(name):
             os.utime(f'{ROOM}/{name}/key')
             return
-        # as many provers as memory has room for, whatever make was told
-        while not any(lock(f'slot {it}', fcntl.LOCK_EX | fcntl.LOCK_NB) for it in range(slots)):
+        # as many crates as memory has room for, whatever make was told
+        while not any(lock(f'slot {it}', fcntl.LOCK_EX | fcntl.LOCK_NB) for it in range((jobs + 1) // 2)):
             time.sleep(0.2)
         # a repository of this crate and those below it
         shutil.rmtree(stage, ignore_errors=True)
@@ -193,7 +195,7 @@ class Build:
             for it in below:
                 os.makedirs(f'{stage}/crates/{it}/out')
                 os.symlink(f'{ROOM}/{it}/out/rlib', f'{stage}/crates/{it}/out/rlib')
-            proved.append(tasks[name, 'proof'][3](dict.fromkeys(((it, 'proof') for it in below), True), slots))
+            proved.append(tasks[name, 'proof'][3](dict.fromkeys(((it, 'proof') for it in below), True), jobs))
             sys.exit()
 
         rt.Crate, rt.in_lanes = Crate, alone
