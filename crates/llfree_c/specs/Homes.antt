@@ -1,4 +1,4 @@
--- How many zones are behind handles, and where takes through these begin.
+-- How many zones are behind handles, and the home zones of cores there.
 use Rattle.std.specs.Prelude.{◌≡◌, ℕ, ◌≤◌, Option, Some, None}
 use Rattle.zone_slots.specs.Homes.{zones_by, home_by}
 use Rattle.zone_slots.specs.declared.core_state.CoreState.{CoreState}
@@ -8,7 +8,7 @@ abbrev pub zones_behind : Option CoreState → ℕ
 zones_behind (Some s) = zones_by s
 zones_behind None = 0
 
--- the zone where takes through the core behind the handle begin, or 0
+-- the home zone of the core behind the handle, or 0
 abbrev pub home_behind : Option CoreState → ℕ
 home_behind (Some s) = home_by s
 home_behind None = 0

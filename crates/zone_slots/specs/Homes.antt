@@ -1,4 +1,4 @@
--- How many zones there are, and where takes through a core begin.
+-- How many zones there are, and the home zone of a core.
 use Rattle.std.specs.Prelude.{◌≡◌, ℕ, ◌≤◌}
 use Rattle.frame_words.specs.declared.fault.Fault.{Fault}
 use Rattle.frame_words.specs.declared.fault.Fault.TheVariants.{BadRange}
@@ -13,12 +13,12 @@ use Rattle.zone_slots.specs.declared.core_state.CoreState.{CoreState}
 abbrev pub zones_by : CoreState → ℕ
 zones_by s = zone_count (zones_of s)
 
--- the zone where takes through the core begin
+-- the home zone of the core
 abbrev pub home_by : CoreState → ℕ
 home_by s = s.core.home
 
--- takes of every order begin in this zone; the core's part in each zone, what it remembers, what it has counted and
--- what rests with it are as before
+-- the home of the core is this zone, and no order stays in another one; its part in each zone, what it remembers, what
+-- it has counted and what rests with it are as before
 pub record BeginsIn (z : ℕ) (s t : CoreState) : Type 0 where
   pub home : MovesHome z s.core t.core
   pub lays : LaysNone s t
@@ -26,7 +26,7 @@ pub record BeginsIn (z : ℕ) (s t : CoreState) : Type 0 where
   pub halves : last_halves t ≡ last_halves s
   pub rest : KeepsRest s t
 
--- why takes do not begin in this zone: there is none of the number, and nothing changes
+-- why the home is not moved to this zone: there is none of the number, and nothing changes
 pub record HasNoZone (z : ℕ) (s t : CoreState) (fault : Fault) : Type 0 where
   pub why : fault ≡ BadRange
   pub none : zones_by s ≤ z
