@@ -31,6 +31,24 @@ fn a_full_home_zone_falls_over_to_the_next(rt: HostRuntime) -> Result<(), Fail> 
     Ok(())
 }
 
+#[test]
+fn takes_begin_in_the_home_that_is_set(rt: HostRuntime) -> Result<(), Fail> {
+    let (zones, mut first, mut second) = open_for_two(rt.alloc(), 1)?;
+    assert!(rt; zones.count() == 2);
+    zones.set_home(&mut first, 1);
+    assert!(rt; taken(&zones, &mut first, 8) == Ok(8448));
+    assert!(rt; taken(&zones, &mut first, 8) == Ok(256));
+    assert!(rt; taken(&zones, &mut first, 7) == Ok(8320));
+    zones.set_home(&mut first, 0);
+    assert!(rt; taken(&zones, &mut first, 7) == Ok(128));
+    assert!(rt; taken(&zones, &mut second, 6) == Ok(8256));
+    assert!(rt; zones.free_frames_of(&mut first, 0) == 504 - 256 - 128);
+    assert!(rt; zones.free_frames_of(&mut first, 1) == 504 - 256 - 128 - 64);
+    assert!(rt; zones.free_huge_of(&mut second, 0) == 0);
+    assert!(rt; zones.free_huge_of(&mut second, 1) == 0);
+    Ok(())
+}
+
 // Whether a memory of one child a zone has the frame and does not hold it back.
 fn is_there(frame: u64) -> bool {
     matches!(frame, 0..=7 | 16..=511 | 8192..=8199 | 8208..=8703)
