@@ -445,9 +445,14 @@ static __always_inline void leave(struct zone *zone, struct llfree_caller *calle
 }
 
 /* Whether the library counts more free frames than reclaim leaves, or a free huge frame, which serves each order. */
-static bool seems_free(struct zone *zone, llfree_core *core, unsigned int order)
+static bool seems_free(struct zone *zone, struct llfree_caller *by, unsigned int order)
 {
-	return order ? llfree_free_huge(core) > 0 : llfree_free_frames(core) > high_wmark_pages(zone);
+	bool answer;
+
+	begin_call(by);
+	answer = order ? llfree_free_huge(&by->core) > 0 : llfree_free_frames(&by->core) > high_wmark_pages(zone);
+	end_call(by);
+	return answer;
 }
 
 static __always_inline struct page *take_page(struct zone *zone, unsigned int order)
@@ -472,7 +477,7 @@ static __always_inline struct page *take_page(struct zone *zone, unsigned int or
 		count_free(zone, -(1l << order), rested);
 	} else {
 		caller->counts.no_block[order]++;
-		caller->counts.refused_free += seems_free(zone, &caller->core, order);
+		caller->counts.refused_free += seems_free(zone, caller, order);
 	}
 	leave(zone, caller, flags);
 	WARN(status == LLFREE_CLOSED_HANDLE, "llfree: take of order %u: %s\n", order, why(status));
@@ -605,7 +610,9 @@ void llfree_read_state(struct zone *zone, struct llfree_state *state)
 	for (unsigned int order = 0; order < LLFREE_ORDERS; order++)
 		state->given += (s64)(state->counts.gives[order] - state->counts.takes[order]) << order;
 	caller = enter(it, &flags);
+	begin_call(caller);
 	state->free_frames = llfree_free_frames(&caller->core);
 	state->free_huge = llfree_free_huge(&caller->core);
+	end_call(caller);
 	leave(zone, caller, flags);
 }
