@@ -141,15 +141,21 @@ class Build:
         jobs = max(1, min(int(os.environ.get('RT_JOBS') or 4), os.cpu_count(), free // 2_000_000))
         # two crates at once keep all processors busy; more only take turns
         write('build/crates.mk', '\n'.join([f'slots := {(jobs + 1) // 2}', *rows, '']))
-        write(f'{ROOM}/began', json.dumps([time.time(), {it: lines[it] for it in stale}, jobs]))
+        write(f'{ROOM}/began', json.dumps([time.time(), {it: lines[it] for it in stale}, chain, jobs]))
         if stale:
             goals = f'{" ".join(goals)}: proves and judges at most {len(stale)} of {len(needed)} crates'
             print(f'{goals}; not tested: .ci/run', file=sys.stderr)
 
     def crate(self, name):
-        begin, lines, jobs = json.loads(text_of(f'{ROOM}/began'))
+        begin, lines, chain, jobs = json.loads(text_of(f'{ROOM}/began'))
         below, stage, log = self.below(name)[:-1], f'{ROOM}/{name}.new', f'{TOP}/build/{name}.log'
         new, proved = f'{stage}/crates/{name}', []
+
+        def left():
+            """The crates that this build has not come to."""
+            keys = {it: f'{ROOM}/{it}/key' for it in lines}
+            return [it for it in lines if not os.path.exists(keys[it]) or os.path.getmtime(keys[it]) < begin]
+
         for it in below:
             lock(it, fcntl.LOCK_SH)
         lock(name)
@@ -168,6 +174,8 @@ class Build:
         write(f'{stage}/HANDLES', self.allowed)
         write(f'{stage}/crates.txt', ''.join(f'{self.line[it]}\n' for it in [*below, name]))
         key = self.key(name, new)
+        # the crate with the longest chain above it goes first, and the others have what it leaves
+        os.nice(0 if all(chain[it] <= chain.get(name, 0) for it in left()) else 5)
         rt = types.ModuleType('rt')
         rt.__file__ = f'{self.kit}/bin/rt'
         exec(compile(text_of(rt.__file__), rt.__file__, 'exec'), rt.__dict__)  # pylint: disable=exec-used
@@ -200,9 +208,7 @@ class Build:
             why = [it for it in said if re.match(r'rt: (?!\S+ NOT PROVED|note)', it)] or ['rt: it is not proved']
             sys.exit('\n'.join([*said[-12:], f'{name} is refused: {why[-1][4:]}; the log is build/{name}.log']))
         self.keep(name, new, key)
-        keys, took = {it: f'{ROOM}/{it}/key' for it in lines}, time.time() - begin
-        # the crates that this build has not come to
-        rest = [it for it in lines if not os.path.exists(keys[it]) or os.path.getmtime(keys[it]) < begin]
+        rest, took = left(), time.time() - begin
         done, ahead = sum(lines[it] for it in lines if it not in rest), sum(lines[it] for it in rest)
         more = f', about {1 + int(ahead * took / 60 / max(1, done))} min left' if rest else ''
         print(f'{name} is proved ({len(lines) - len(rest)} of {len(lines)}) after {took:.0f} s{more}', file=sys.stderr)
