@@ -156,9 +156,8 @@ class Build:
             keys = {it: f'{ROOM}/{it}/key' for it in lines}
             return [it for it in lines if not os.path.exists(keys[it]) or os.path.getmtime(keys[it]) < begin]
 
-        for it in below:
-            lock(it, fcntl.LOCK_SH)
-        lock(name)
+        for it in [*below, name]:
+            lock(it, fcntl.LOCK_EX if it == name else fcntl.LOCK_SH)
         if self.is_kept(name):
             os.utime(f'{ROOM}/{name}/key')
             return
