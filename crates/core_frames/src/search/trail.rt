@@ -2,8 +2,6 @@
 
 ghost use Rattle.std.specs.Prelude.{◌≤◌};
 
-use super::trees::NEARLY_FREE;
-
 /// Where the pass of a core over all trees begins.
 #[derive(Clone, Copy, Debug, PartialEq, Eq)]
 pub enum Start {
@@ -39,14 +37,14 @@ impl Trail {
         }
     }
 
-    /// The tree that the pass over all trees begins with, where none of them counts more than `freest`
-    /// free frames: `first` where one is nearly free, or none is remembered.
-    pub(crate) fn start(&self, first: u32, trees: u32, freest: u32) -> u32
+    /// The tree that the pass over all trees begins with: `first` where one is nearly free, or none is
+    /// remembered.
+    pub(crate) fn start(&self, first: u32, trees: u32, nearly_free: bool) -> u32
         requires { first ≤ trees }
         ensures { result ≤ trees }
     {
         match self.last {
-            Some(tree) if tree < trees && freest <= NEARLY_FREE => tree,
+            Some(tree) if tree < trees && !nearly_free => tree,
             _ => first,
         }
     }

@@ -15,7 +15,7 @@ use Rattle.core_frames.proofs.SearchSteps.{made_one, made_none, made_both}
 use Rattle.core_frames.proofs.search.attempts.try_reserve.Goals as goal
 use Rattle.core_frames.proofs.search.attempts.try_reserve.Goals.{then-tree_reserved-via-then-tree_reserved}
 use Rattle.core_frames.proofs.search.attempts.try_reserve.Goals.{then-tree_reserved-via-else-tree_reserved+then-free-least}
-use Rattle.core_frames.proofs.search.attempts.try_reserve.Goals.{then-tree_reserved-via-else-tree_reserved+else-free-least+then-free-most}
+use Rattle.core_frames.proofs.search.attempts.try_reserve.Goals.{then-tree_reserved-via-else-tree_reserved+else-free-least+then-is_more}
 
 pub reserve-requires : goal.reserve-requires
 reserve-requires g c =
@@ -52,7 +52,7 @@ returns-then-reserve g c =
             (sure_made c.if-reserve.true (g.met.M.Moves.stays_alone c.load-seen.new.self) c.reserve.ensures));
         some = record {
           enough = c.if-free-least.false;
-          not_more = c.if-free-most.false;
+          not_more = c.if-is_more.ensures;
           few = omega (arith, c.load-seen.ensures.layout.0, c.tree_free-free.ensures.value);
           view = reserved M.tick m.view w.view x.view
               (still_as_before m.view u.view w.view (M.tick u.view.moves) u.view.lost was.view c.load-seen.ensures.view) c.args.tree
@@ -102,7 +102,7 @@ returns-then-tree_reserved g c =
             elim c.then-tree_reserved.branch [
               | then-tree_reserved-via-then-tree_reserved w ↦ inl (w.if-tree_reserved.ensures.set.0 refl)
               | then-tree_reserved-via-else-tree_reserved+then-free-least w ↦ inr (inl w.if-free-least.true)
-              | then-tree_reserved-via-else-tree_reserved+else-free-least+then-free-most w ↦ inr (inr w.if-free-most.true)
+              | then-tree_reserved-via-else-tree_reserved+else-free-least+then-is_more w ↦ inr (inr w.if-is_more.ensures)
             ] in
             passed_first u.key m.key c.args.tree c.load-seen.result c.tree_free-free.result c.args.least c.args.most m.words w.words
             was.keeps.same_key c.tree_free-free.ensures.value why seen;
