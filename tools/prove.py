@@ -10,7 +10,6 @@ it is taken again. Texts and libraries lie below .git, since rt refuses sources 
 """
 import contextlib
 import fcntl
-import functools
 import hashlib
 import json
 import os
@@ -30,8 +29,7 @@ GOALS = {'library': ['llfree_c'], 'kernel': ['llfree_c'], 'examples': ['llfree_c
 KERNEL = '-mgeneral-regs-only -mllvm -force-attribute=noredzone -fno-function-sections -fno-data-sections'
 ARCHIVES = {'libllfree_c.a': '', 'libllfree_kernel.a': KERNEL,
             'libllfree_linux.a': f'{KERNEL} -mllvm -force-attribute=fn_ret_thunk_extern'}
-# the step of `rt ci` that proves from nothing, by the names that kits have for it, and whether it keeps what it proves
-STEPS = {'ci_over': True, 'ci_from_nothing': False}
+STEPS = {'ci_over': [True], 'ci_from_nothing': []}  # of `rt ci`, from nothing, and what they take beside a folder
 HELD = {}
 
 
@@ -181,12 +179,6 @@ class Build:
         rt = types.ModuleType('rt')
         rt.__file__ = f'{self.kit}/bin/rt'
         exec(compile(text_of(rt.__file__), rt.__file__, 'exec'), rt.__dict__)  # pylint: disable=exec-used
-        step = next((rt.__dict__[it] for it in STEPS if it in rt.__dict__), None)
-        if not step:
-            sys.exit(f'{rt.__file__} has none of the steps that tools/prove.py knows ({", ".join(STEPS)})')
-        if STEPS[step.__name__]:
-            # all is proved here: what rt keeps of other runs was proved over other copies of the libraries
-            step, rt.STORE = functools.partial(step, anew=True), f'{stage}/HANDLES/none'
 
         class Crate(rt.Crate):
             """What an archive is compiled from stays, and programs are compiled by LLVM alone."""
@@ -206,11 +198,13 @@ class Build:
             proved.append(tasks[name, 'proof'][3](dict.fromkeys(((it, 'proof') for it in below), True), jobs))
             sys.exit()
 
-        rt.Crate, rt.in_lanes = Crate, alone
+        # what rt keeps of other runs stands on other copies of the libraries
+        rt.Crate, rt.in_lanes, rt.STORE = Crate, alone, f'{stage}/HANDLES/none'
+        step = next((it for it in STEPS if it in rt.__dict__), '') or sys.exit('rt has no step of proof known here')
         os.chdir(stage)
         with open(log, 'w', encoding='utf-8') as out, contextlib.redirect_stdout(out), contextlib.redirect_stderr(out):
             with contextlib.suppress(SystemExit):
-                step(f'{stage}/.git')
+                rt.__dict__[step](f'{stage}/.git', *STEPS[step])
         if not any(proved):
             said = text_of(log).replace(f'{stage}/crates/', '').splitlines()
             why = [it for it in said if re.match(r'rt: (?!\S+ NOT PROVED|note)', it)] or ['rt: it is not proved']
