@@ -70,12 +70,14 @@ pub record AreOpened (cores : ℕ) (places : List Place) (zs : Zones) (cs : List
   pub homes : HaveHomes cores (zone_count zs) cs
   pub each : All (IsNewIn zs) cs
 
--- why an opening was refused: zones may not lie so, or one may not hold back what it is to; or there
--- is not enough memory
+-- zones may be opened at the spans: they may lie so, and each may hold back what it is to
+abbrev pub MayOpenAt : ℕ → List Span → Type 0
+MayOpenAt cores spans = MayBeZones cores (map place_of_span spans) × All HoldsLawful spans
+
+-- why an opening was refused: zones may not be opened so; or there is not enough memory
 abbrev pub AreUnopenedFor : ℕ → List Span → Fault → Type 0
 AreUnopenedFor cores spans fault =
-    ((fault ≡ BadRange) × ¬ (MayBeZones cores (map place_of_span spans) × All HoldsLawful spans))
-    ⊎ ((fault ≡ NoMemory) × MayBeZones cores (map place_of_span spans))
+    ((fault ≡ BadRange) × ¬ MayOpenAt cores spans) ⊎ ((fault ≡ NoMemory) × MayOpenAt cores spans)
 
 -- why an opening at images was refused: zones may not lie so; or there is not enough memory
 abbrev pub AreUnopenedAt : ℕ → List ZoneImage → Fault → Type 0

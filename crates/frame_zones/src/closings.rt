@@ -13,9 +13,12 @@ use crate::row::Row;
 use crate::zones::{ZoneCore, Zones};
 use frame_words::Fault;
 use std::alloc::Global;
+use std::fmt::{self, Debug, Formatter, Write};
+use thiserror::Error;
 
 /// Zones of which some were not closed. These and the cores are as they were there.
-#[derive(Drop)]
+#[derive(Drop, Error)]
+#[error("the zones were not all closed: {fault}")]
 pub struct ZonesFault {
     /// `MissingCores` or `NoMemory`.
     pub fault: Fault,
@@ -24,6 +27,14 @@ pub struct ZonesFault {
     pub cores: Vec<ZoneCore>,
     /// The images of the zones behind these, in order.
     pub images: Vec<ZoneImage>,
+}
+
+impl Debug for ZonesFault {
+    fn fmt<W: Write>(&self, f: &mut Formatter<W>) -> fmt::Result {
+        f.debug_struct("ZonesFault")
+            .field("fault", &self.fault)
+            .finish_non_exhaustive()
+    }
 }
 
 impl Zones {

@@ -13,6 +13,7 @@ mod last_zone;
 mod laws;
 mod numbers;
 mod openings;
+mod ranges;
 mod reopenings;
 mod row;
 mod spans;

@@ -3,10 +3,10 @@
 ghost use Rattle.std.specs.Prelude.{◌≡◌, ◌<◌, ◌≤◌, [], IfOk, IfErr, OnOk, vec_len, vec_capacity, map};
 ghost use Rattle.std.specs.List.{All};
 ghost use Rattle.core_frames.specs.Cores.{IsOpened};
-ghost use Rattle.core_frames.specs.Ranges.{IsUnopenedFor};
 ghost use Rattle.frame_zones.specs.Spans.{most_zones, place_of_span, HoldsLawful};
 ghost use Rattle.frame_zones.specs.Openings.{home_for, HaveHomes, IsLonger, AreDealt, IsBegun, AreOpened, AreUnopenedFor};
 
+use crate::ranges::may_hold_back;
 use crate::row::Row;
 use crate::spans::{Span, may_be_zones};
 use crate::zones::{ORDERS, Stay, ZoneCore, Zones};
@@ -23,7 +23,7 @@ impl Zones {
         ensures lawful { IfOk result (λ _. All HoldsLawful spans.now) }
         ensures refused { IfErr result (AreUnopenedFor cores spans.now) }
     {
-        if !may_be_zones(cores, spans) {
+        if !may_be_zones(cores, spans) || !may_hold_back(spans) {
             return Err(Fault::BadRange);
         }
         let mut all = begun(alloc, cores, spans.len() as u32)?;
@@ -49,9 +49,9 @@ impl Zones {
 
 // The allocator of the span, with its cores.
 fn open_zone(alloc: Global, span: &Span) -> Result<(Allocator, Vec<Core>), Fault>
+    requires { HoldsLawful span.now }
     ensures opened { IfOk result (λ r. IsOpened (place_of_span span.now).key r.0 r.1.items) }
-    ensures lawful { IfOk result (λ r. HoldsLawful span.now) }
-    ensures refused { IfErr result (IsUnopenedFor span.now.geometry span.now.ranges.items) }
+    ensures err { IfErr result (λ e. e ≡ Fault.NoMemory) }
 {
     Allocator::open_starting(alloc, span.geometry, &span.ranges, Start::Last)
 }

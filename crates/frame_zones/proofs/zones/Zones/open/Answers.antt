@@ -5,7 +5,7 @@ use Rattle.frame_model.specs.declared.key.Key.{Key}
 use Rattle.frame_zones.specs.Sizes.{AreSized}
 use Rattle.frame_zones.specs.Spans.{Place, place_of_span}
 use Rattle.frame_zones.specs.declared.spans.Span.{Span}
-use Rattle.frame_zones.proofs.Begun.{IsOpening, opening_one, opening_all, laid_out, have_cores, holds_one, sized_one}
+use Rattle.frame_zones.proofs.Begun.{IsOpening, opening_one, opening_all, laid_out, have_cores, sized_one}
 use Rattle.frame_zones.proofs.Lying.{one_read, place_read}
 use Rattle.frame_zones.proofs.zones.Zones.open.Goals as goal
 
@@ -48,7 +48,7 @@ loop-span-preserved c =
           (omega (arith, inv.count, c.loop-span-test.true, length-map spans place_of_span))
           (c.in_ok-zone.ensures.opened.count ∙ same ∙ sym inv.opening.as_many)
           c.in_ok-deal.ensures.dealt));
-      holds = holds_one spans c.loop-span.span-index s c.loop-span-test.true c.span-item.is inv.holds c.in_ok-zone.ensures.lawful;
+      holds = inv.holds;
       count = search rules;
       room = search rules;
       firsts_room = search rules;
@@ -85,6 +85,3 @@ returns-clause-opened c =
     (subst (λ (l : List Allocator). IsOpening (length c.args.spans.now) c.args.cores places l c.loop-span.firsts.items c.loop-span.all.items)
     (sym c.of.ensures) inv.opening)
     whole (whole ∙ sym (length-map c.args.spans.now place_of_span)) refl
-
-pub returns-clause-lawful : goal.returns-clause-lawful
-returns-clause-lawful c = λ k s within. c.loop-span.invariant.holds k s (omega (arith, within, c.loop-span-test.false))
