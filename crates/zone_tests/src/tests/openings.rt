@@ -2,7 +2,7 @@
 
 use super::memory::{open_two, span};
 use frame_words::{Fault, Geometry};
-use frame_zones::{ZoneCore, Zones};
+use frame_zones::{Span, ZoneCore, Zones};
 use std::alloc::Global;
 use std::test::Fail;
 
@@ -31,6 +31,37 @@ fn spans_are_refused_by_the_rule(rt: HostRuntime) -> Result<(), Fail> {
         assert!(rt; fault == want, "from {first} on");
     }
     assert!(rt; Zones::open(rt.alloc(), 1, &[]).err() == Some(Fault::BadRange));
+    Ok(())
+}
+
+// An opening of two zones of one child, of which the second is to hold this range back.
+fn open_holding(alloc: Global, range: (u32, u32)) -> Result<(Zones, Vec<ZoneCore>), Fault> {
+    let geometry = Geometry::new(1, 1)?;
+    let mut ranges = Vec::with_capacity(alloc, 1)?;
+    ranges.push_reserved(range);
+    let mut spans = Vec::with_capacity(alloc, 2)?;
+    spans.push_reserved(span(alloc, 0, geometry)?);
+    spans.push_reserved(Span {
+        first: 512,
+        geometry,
+        ranges,
+    });
+    Zones::open(alloc, 1, &spans)
+}
+
+#[test]
+fn ranges_of_a_later_zone_are_refused(rt: HostRuntime) -> Result<(), Fail> {
+    for (first, frames, lawful) in [
+        (0, 512, true),
+        (511, 1, true),
+        (0, 0, false),
+        (511, 2, false),
+        (512, 1, false),
+    ] {
+        let fault = open_holding(rt.alloc(), (first, frames)).err();
+        let want = if lawful { None } else { Some(Fault::BadRange) };
+        assert!(rt; fault == want, "{frames} frames from {first} on");
+    }
     Ok(())
 }
 
