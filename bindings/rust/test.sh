@@ -35,8 +35,19 @@ by_cargo() (
         printf '%s\n' 'create libllfree.a' "${@/#*\//addlib }" save end | ar -M && cd "$folder/crate" &&
         LLFREE_LIB=$folder/lib cargo run --offline --quiet --example region | prints
 )
+# from where pkg-config finds them, as they are installed
+by_pkg_config() (
+    mkdir "$folder/lib/pkgconfig" &&
+        sed 's/@version@/1/' "$here/../../examples/c/llfree.pc.in" >"$folder/lib/pkgconfig/llfree.pc" && cd "$folder/crate" &&
+        PKG_CONFIG_PATH=$folder/lib/pkgconfig cargo run --offline --quiet --example region | prints
+)
 if command -v cargo >/dev/null && command -v ar >/dev/null; then
     holds 'by cargo' by_cargo "$@"
+    if command -v pkg-config >/dev/null; then
+        holds 'by cargo and pkg-config' by_pkg_config
+    else
+        skips 'the binding for Rust by pkg-config' 'pkg-config (pkg-config)'
+    fi
 else
     skips 'the binding for Rust by cargo' 'cargo or ar (cargo, binutils)'
 fi
