@@ -40,8 +40,7 @@ build/$(shared): build/libllfree_c.a build/heap.o examples/c/llfree.map
 install: $(filter build/%,$(subst :, ,$(installed)))
 	for it in $(installed); do install -D -m 644 "$${it%:*}" "$(to)/$${it#*:}" || exit; done
 	chmod 755 $(to)/bin/llfree $(to)/lib/$(shared)
-	ln -sf $(shared) $(to)/lib/libllfree.so.$(major)
-	ln -sf $(shared) $(to)/lib/libllfree.so
+	for it in '' .$(major); do ln -sf $(shared) $(to)/lib/libllfree.so$$it; done
 	man/pages.py $(to)/share/man/man3 <include/llfree.h
 uninstall:
 	rm -f $(foreach it,$(installed),$(to)/$(lastword $(subst :, ,$(it)))) $(to)/share/man/man3/llfree_*.3 \

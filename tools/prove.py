@@ -29,7 +29,6 @@ GOALS = {'library': ['llfree_c'], 'kernel': ['llfree_c'], 'examples': ['llfree_c
 KERNEL = '-mgeneral-regs-only -mllvm -force-attribute=noredzone -fno-function-sections -fno-data-sections'
 ARCHIVES = {'libllfree_c.a': '', 'libllfree_kernel.a': KERNEL,
             'libllfree_linux.a': f'{KERNEL} -mllvm -force-attribute=fn_ret_thunk_extern'}
-STEPS = {'ci_over': [True], 'ci_from_nothing': []}  # of `rt ci`, from nothing, and what they take beside a folder
 HELD = {}
 
 
@@ -160,8 +159,7 @@ class Build:
         for it in [*below, name]:
             lock(it, fcntl.LOCK_EX if it == name else fcntl.LOCK_SH)
         if self.is_kept(name):
-            os.utime(f'{ROOM}/{name}/key')
-            return
+            return os.utime(f'{ROOM}/{name}/key')
         # as many crates as memory has room for, whatever make was told
         while not any(lock(f'slot {it}', fcntl.LOCK_EX | fcntl.LOCK_NB) for it in range((jobs + 1) // 2)):
             time.sleep(0.2)
@@ -198,13 +196,13 @@ class Build:
             proved.append(tasks[name, 'proof'][3](dict.fromkeys(((it, 'proof') for it in below), True), jobs))
             sys.exit()
 
-        # what rt keeps of other runs stands on other copies of the libraries
+        # what rt keeps of other runs stands on other copies of the libraries; kits have two names for the step
         rt.Crate, rt.in_lanes, rt.STORE = Crate, alone, f'{stage}/HANDLES/none'
-        step = next((it for it in STEPS if it in rt.__dict__), '') or sys.exit('rt has no step of proof known here')
+        step = next(filter(rt.__dict__.get, ('ci_over', 'ci_from_nothing')), '') or sys.exit('rt has no known step')
         os.chdir(stage)
         with open(log, 'w', encoding='utf-8') as out, contextlib.redirect_stdout(out), contextlib.redirect_stderr(out):
             with contextlib.suppress(SystemExit):
-                rt.__dict__[step](f'{stage}/.git', *STEPS[step])
+                rt.__dict__[step](f'{stage}/.git', *[True] * (step == 'ci_over'))
         if not any(proved):
             said = text_of(log).replace(f'{stage}/crates/', '').splitlines()
             why = [it for it in said if re.match(r'rt: (?!\S+ NOT PROVED|note)', it)] or ['rt: it is not proved']
