@@ -1,4 +1,5 @@
 pub mod GapBits
+pub mod HeldBack
 pub mod Overlaps
 pub mod Replaying
 pub mod Searches

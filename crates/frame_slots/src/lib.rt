@@ -6,6 +6,7 @@ mod by_numbers;
 mod claims;
 mod free_blocks;
 mod gaps;
+mod held_back;
 mod numbers;
 mod receipt;
 mod replay;

@@ -1,15 +1,17 @@
 //! The slots of all blocks in one list: that of a block stands where its first frame and its last add
 //! up to.
 
-ghost use Rattle.std.specs.Prelude.{◌≡◌, ◌+◌, ◌≤◌, IfOk, IfErr, IfSome, vec_len, vec_capacity};
+ghost use Rattle.std.specs.Prelude.{◌≡◌, ◌+◌, ◌≤◌, ◌↔◌, IsTrue, IfOk, IfErr, IfSome, IfNone, vec_len, vec_capacity};
 ghost use Rattle.std.specs.List.{All};
 ghost use Rattle.core_frames.specs.Cores.{IsCoreOf, IsOutOf};
 ghost use Rattle.core_frames.specs.Uses.{HasGiven};
 ghost use Rattle.frame_slots.specs.SlotLists.{place_for, HasRoomFor, HasListAndCore, IsListOf, IsNextBetween};
+ghost use Rattle.frame_slots.specs.SlotLists.{HasSlotAt, HasSlotFor, HasSlotsBeside, AccountsFor};
 ghost use Rattle.frame_slots.specs.Slots.{IsSlotFor, IsUsedAsBefore, IsWholeAgain, HasGivenSoMany};
 
 use crate::free_blocks::take_all;
 use crate::gaps::Gaps;
+use crate::held_back::is_held_back;
 use crate::slot::Slot;
 use core_frames::{Allocator, Core};
 use frame_core::HeldBlock;
@@ -66,39 +68,75 @@ impl SlotList {
         }
     }
 
-    /// A slot for each block that is free, and room for those of so many frames. Refused only for want
-    /// of memory.
+    /// The slots of a fresh memory of so many frames, whose opening holds these ranges back: one for each
+    /// block with no frame in a range. Refused for want of memory; also where such a block was not found,
+    /// which was never seen.
     pub fn open(
         alloc: Global,
         allocator: &Allocator,
         core: &mut Core,
         frames: u32,
+        ranges: &[(u32, u32)],
     ) -> Result<SlotList, Fault>
         requires core { IsCoreOf allocator.now core.old }
         ensures core { IsCoreOf allocator.now core.new }
         ensures lends { IfOk result (λ _. IsUsedAsBefore core.old core.new) }
         ensures room { IfOk result (HasRoomFor frames) }
         ensures slots { IfOk result (IsListOf allocator.now) }
+        ensures each { IfOk result (HasSlotsBeside frames ranges.now) }
         ensures err { IfErr result (λ e. e ≡ Fault.NoMemory) }
     {
         let mut slots = SlotList::with_room(alloc, allocator, frames)?;
         let blocks = take_all(alloc, allocator, core)?;
         slots.add_all(allocator, core, blocks)?;
+        if !slots.has_each(frames, ranges) {
+            return Err(Fault::NoMemory);
+        }
         Ok(slots)
+    }
+
+    // Has each block of so many frames a slot, but those with a frame in one of the ranges?
+    fn has_each(&self, frames: u32, ranges: &[(u32, u32)]) -> bool
+        ensures { IsTrue result → HasSlotsBeside frames ranges.now self.now }
+    {
+        for place in 0..2 * frames as usize {
+            if !self.accounts_for(frames, ranges, place) {
+                return false;
+            }
+        }
+        true
+    }
+
+    #[inline(always)]
+    fn accounts_for(&self, frames: u32, ranges: &[(u32, u32)], place: usize) -> bool
+        ensures { IsTrue result → AccountsFor frames ranges.now place self.now }
+    {
+        if self.has_slot(place) {
+            return true;
+        }
+        is_held_back(frames, ranges, place)
+    }
+
+    #[inline(always)]
+    fn has_slot(&self, place: usize) -> bool
+        ensures { IsTrue result ↔ HasSlotAt place self.now }
+    {
+        place < self.list.len() && !self.gaps.has(place)
     }
 
     /// The slot of the block of these numbers, if there is such a block.
     #[inline(always)]
     pub fn find(&self, allocator: &Allocator, frame: u32, order: u8) -> Option<&Slot>
         requires { IsListOf allocator.now self.now }
-        ensures { IfSome result (λ p. IsSlotFor allocator.now frame order p.now) }
+        ensures slot { IfSome result (λ p. IsSlotFor allocator.now frame order p.now) }
+        ensures none { IfNone result (¬ HasSlotFor frame order self.now) }
     {
         let _ = allocator;
         if order > HUGE_ORDER || frame % frames_of(order) != 0 {
             return None;
         }
         let place = place_of(frame, order);
-        if place >= self.list.len() || self.gaps.has(place) {
+        if !self.has_slot(place) {
             return None;
         }
         Some(&self.list[place])

@@ -21,7 +21,7 @@ use Rattle.frame_zones.specs.declared.zones.ZoneCore.{ZoneCore}
 use Rattle.frame_zones.proofs.Parted.{some_of}
 use Rattle.frame_zones.proofs.Placing.{others_stay, at_any_zone}
 use Rattle.zone_slots.specs.Memories.{HaveNumbers, AreSlotted}
-use Rattle.zone_slots.specs.Openings.{HasSlots, IsListIn, AreListsIn, IsUsedAlike, IsUnusedCore, HasNumbers, AreUnusedIn}
+use Rattle.zone_slots.specs.Openings.{HasSlots, IsListIn, AreListsIn, IsUsedAlike, IsUnusedCore, HasNumbers, HoldBack, AreUnusedIn}
 
 -- where the written core belongs to its zone, all do
 pub cores_still : (zs : Zones) (c d : ZoneCore) (z : ℕ) (a : Allocator) (x y : Core) → AreCoresOf zs c → z < zone_count zs
@@ -57,13 +57,28 @@ unused_still zs c d was are used unused z x within =
     record { lent = one.lent ∙ none.lent; kept = one.kept ∙ none.kept }
 
 -- the list of a zone as it was read
-pub list_here : (has : Bool) (zs : Zones) (z n : ℕ) (a : Allocator) (s : SlotList) → z < zone_count zs → a ≡ zone_at zs z a
-    → n ≡ (memory_of a).frames → IsListOf a s → HasSlots has n s → IsListIn has zs z s
-list_here has zs z n a s within a-is frames list room =
+pub list_here : (has : Bool) (zs : Zones) (z : ℕ) (a : Allocator) (s : SlotList) → z < zone_count zs → a ≡ zone_at zs z a
+    → IsListOf a s → HasSlots has (memory_of a) s → IsListIn has zs z s
+list_here has zs z a s within a-is list slots =
     let at : (b : Allocator) → a ≡ zone_at zs z b = λ b. a-is ∙ get_or_default zs.zones.items z a b within in
     record {
       is_list = λ b. subst (λ (e : Allocator). IsListOf e s) (at b) list;
-      room = λ b. subst (λ (e : Allocator). HasSlots has (memory_of e).frames s) (at b) (subst (λ m. HasSlots has m s) frames room);
+      slots = λ b. subst (λ (e : Allocator). HasSlots has (memory_of e) s) (at b) slots;
+    }
+
+-- zones hold back what the spans say that they were opened at
+pub holding_back : (as_many : ℕ) (spans : List Span) (zs : Zones) (cs : List ZoneCore)
+    → AreOpened as_many (map place_of_span spans) zs cs → HoldBack spans zs
+holding_back as_many spans zs cs opened =
+    let count : zone_count zs ≡ length spans = omega (arith, opened.zones, length-map spans place_of_span) in
+    record {
+      count = count;
+      each = λ z s a within.
+          let p : Place = place_of_span s in
+          let at : IsAt (slice_index_or (map place_of_span spans) z p) (first_frame_of zs z) (zone_at zs z a) = opened.are_at z p a within in
+          let same : slice_index_or (map place_of_span spans) z p ≡ place_of_span (slice_index_or spans z s) =
+          get_or-map place_of_span spans z s p (subst (λ n. z < n) count within) in
+          ap (λ (k : Key). k.ranges) at.memory ∙ ap (λ (q : Place). q.key.ranges) same;
     }
 
 -- the list of one zone more
@@ -112,8 +127,8 @@ numbered as_many spans zs cs opened numbers z a within =
       numbers z s here,
     )
 
--- where it is an answer, what is said of it twice gives a third
-pub both_ok : (r : Result SlotList Fault) (P Q R : SlotList → Type 0) → ((s : SlotList) → P s → Q s → R s)
-    → IfOk r P → IfOk r Q → IfOk r R
-both_ok (Ok s) P Q R both p q = both s p q
-both_ok (Err e) P Q R both p q = tt
+-- where it is an answer, three facts of it give a fourth
+pub all_ok : (r : Result SlotList Fault) (P Q S R : SlotList → Type 0) → ((s : SlotList) → P s → Q s → S s → R s)
+    → IfOk r P → IfOk r Q → IfOk r S → IfOk r R
+all_ok (Ok s) P Q S R all p q t = all s p q t
+all_ok (Err e) P Q S R all p q t = tt

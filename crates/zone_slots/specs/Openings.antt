@@ -4,9 +4,10 @@ use Rattle.std.specs.Arc.{arc_value}
 use Rattle.std.specs.List.{All}
 use Rattle.frame_words.specs.declared.fault.Fault.{Fault}
 use Rattle.frame_words.specs.declared.fault.Fault.TheVariants.{BadRange, NoMemory}
+use Rattle.frame_model.specs.declared.key.Key.{Key}
 use Rattle.core_frames.specs.declared.shared.allocator.Allocator.{Allocator}
 use Rattle.core_frames.specs.Cores.{memory_of}
-use Rattle.frame_slots.specs.SlotLists.{HasRoomFor, IsListOf}
+use Rattle.frame_slots.specs.SlotLists.{HasRoomFor, HasSlotsBeside, IsListOf}
 use Rattle.frame_slots.specs.Slots.{IsUnused, IsUsedAsBefore}
 use Rattle.frame_slots.specs.declared.slots.SlotList.{SlotList}
 use Rattle.frame_zones.specs.Openings.{AreAt, HaveHomes}
@@ -30,15 +31,16 @@ pub record LieAt (as_many : ℕ) (places : List Place) (zs : Zones) : Type 0 whe
 abbrev pub Shares : Memory → CoreState → Type 0
 Shares m s = arc_value s.shared ≡ m
 
--- there is room for a slot of each block of so many frames, or for no slot
-abbrev pub HasSlots : Bool → ℕ → SlotList → Type 0
-HasSlots true frames list = HasRoomFor frames list
-HasSlots false frames list = vec_capacity list.list ≡ 0
+-- each block of the memory has a slot, but those with a frame that its opening held back, and there is room
+-- for as many as it has blocks; or there is room for no slot
+abbrev pub HasSlots : Bool → Key → SlotList → Type 0
+HasSlots true key list = HasRoomFor key.frames list × HasSlotsBeside key.frames key.ranges list
+HasSlots false key list = vec_capacity list.list ≡ 0
 
--- the list is one of the zone's slots, with room for all or for none
+-- the list is one of the zone's slots, with all or with none
 pub record IsListIn (has_slots : Bool) (zs : Zones) (z : ℕ) (list : SlotList) : Type 0 where
   pub is_list : (a : Allocator) → IsListOf (zone_at zs z a) list
-  pub room : (a : Allocator) → HasSlots has_slots (memory_of (zone_at zs z a)).frames list
+  pub slots : (a : Allocator) → HasSlots has_slots (memory_of (zone_at zs z a)) list
 
 -- there is such a list for each zone
 pub record AreListsIn (has_slots : Bool) (zs : Zones) (lists : List SlotList) : Type 0 where
@@ -69,11 +71,16 @@ pub record MayBeOpened (as_many : ℕ) (spans : List Span) : Type 0 where
   pub numbers : All HasNumbers spans
   pub lawful : All HoldsLawful spans
 
+-- the zones hold back what the spans say
+pub record HoldBack (spans : List Span) (zs : Zones) : Type 0 where
+  pub count : zone_count zs ≡ length spans
+  pub each : (z : ℕ) (s : Span) (a : Allocator) → z < zone_count zs
+      → (memory_of (zone_at zs z a)).ranges ≡ (slice_index_or spans z s).ranges.items
+
 -- why an opening was refused: zones may not be opened like this; or there is not enough memory
 abbrev pub IsNoOpening : ℕ → List Span → Fault → Type 0
 IsNoOpening cores spans fault =
-    ((fault ≡ BadRange) × ¬ MayBeOpened cores spans)
-    ⊎ ((fault ≡ NoMemory) × MayBeZones cores (map place_of_span spans) × All HasNumbers spans)
+    ((fault ≡ BadRange) × ¬ MayBeOpened cores spans) ⊎ ((fault ≡ NoMemory) × MayBeOpened cores spans)
 
 -- the cores belong to these zones, and none was used yet
 pub record AreUnusedIn (zs : Zones) (cs : List ZoneCore) : Type 0 where

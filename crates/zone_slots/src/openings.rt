@@ -9,7 +9,7 @@ ghost use Rattle.frame_zones.specs.Zones.{zone_count, AreCoresOf};
 ghost use Rattle.zone_slots.specs.Memories.{HaveNumbers};
 ghost use Rattle.zone_slots.specs.Openings.{LieAt, Shares, IsListIn, AreListsIn, IsUsedAlike, IsUnusedCore, IsUnusedState};
 ghost use Rattle.zone_slots.specs.Openings.{HasNumbers, MayBeOpened, IsNoOpening, AreUnusedIn, AreAllCoresOf};
-ghost use Rattle.zone_slots.specs.Openings.{parts_from_last, HaveSameHomes};
+ghost use Rattle.zone_slots.specs.Openings.{parts_from_last, HaveSameHomes, HoldBack};
 
 use crate::core_state::CoreState;
 use crate::frame_list::FrameList;
@@ -57,7 +57,7 @@ pub(crate) fn open_memory(
     ensures refused { IfErr result (IsNoOpening cores spans.now) }
 {
     let (zones, mut parts) = open_zones(alloc, cores, spans)?;
-    let slots = lists_through(alloc, &zones, &mut parts)?;
+    let slots = lists_through(alloc, &zones, spans, &mut parts)?;
     let memory = Memory::of(alloc, zones, slots);
     Ok((memory, parts))
 }
@@ -69,6 +69,7 @@ pub(crate) fn open_zones(
 ) -> Result<(Zones, Vec<ZoneCore>), Fault>
     ensures zones { IfOk result (λ r. LieAt cores (map place_of_span spans.now) r.0) }
     ensures numbered { IfOk result (λ r. HaveNumbers r.0) }
+    ensures held_back { IfOk result (λ r. HoldBack spans.now r.0) }
     ensures cores { IfOk result (λ r. AreUnusedIn r.0 r.1.items) }
     ensures homes { IfOk result (λ r. HaveHomes cores (zone_count r.0) r.1.items) }
     ensures count { IfOk result (λ r. vec_len r.1 ≡ cores) }
@@ -105,9 +106,11 @@ fn has_numbers(span: &Span) -> bool
 fn lists_through(
     alloc: Global,
     zones: &Zones,
+    spans: &[Span],
     parts: &mut Vec<ZoneCore>,
 ) -> Result<Vec<SlotList>, Fault>
-    requires { AreUnusedIn zones.now parts.old.items }
+    requires cores { AreUnusedIn zones.now parts.old.items }
+    requires held_back { HoldBack spans.now zones.now }
     ensures lists { IfOk result (λ lists. AreListsIn true zones.now lists.items) }
     ensures cores { IfOk result (λ _. AreUnusedIn zones.now parts.new.items) }
     ensures homes { IfOk result (λ _. HaveSameHomes parts.old.items parts.new.items) }
@@ -117,15 +120,21 @@ fn lists_through(
     let Some(mut part) = parts.pop() else {
         return Err(Fault::NoMemory);
     };
-    let lists = lists_of(alloc, zones, &mut part)?;
+    let lists = lists_of(alloc, zones, spans, &mut part)?;
     let Ok(()) = parts.push(part) else {
         return Err(Fault::NoMemory);
     };
     Ok(lists)
 }
 
-fn lists_of(alloc: Global, zones: &Zones, core: &mut ZoneCore) -> Result<Vec<SlotList>, Fault>
-    requires { AreCoresOf zones.now core.old }
+fn lists_of(
+    alloc: Global,
+    zones: &Zones,
+    spans: &[Span],
+    core: &mut ZoneCore,
+) -> Result<Vec<SlotList>, Fault>
+    requires core { AreCoresOf zones.now core.old }
+    requires held_back { HoldBack spans.now zones.now }
     ensures core { AreCoresOf zones.now core.new }
     ensures home { core.new.home ≡ core.old.home }
     ensures used { IfOk result (λ _. IsUsedAlike zones.now core.old core.new) }
@@ -136,7 +145,7 @@ fn lists_of(alloc: Global, zones: &Zones, core: &mut ZoneCore) -> Result<Vec<Slo
         return Err(Fault::NoMemory);
     };
     for zone in 0..zones.count() {
-        let list = list_in(alloc, zones, core, zone)?;
+        let list = list_in(alloc, zones, spans, core, zone)?;
         lists.push_reserved(list);
     }
     Ok(lists)
@@ -146,10 +155,12 @@ fn lists_of(alloc: Global, zones: &Zones, core: &mut ZoneCore) -> Result<Vec<Slo
 fn list_in(
     alloc: Global,
     zones: &Zones,
+    spans: &[Span],
     core: &mut ZoneCore,
     zone: usize,
 ) -> Result<SlotList, Fault>
     requires core { AreCoresOf zones.now core.old }
+    requires held_back { HoldBack spans.now zones.now }
     requires zone { zone < zone_count zones.now }
     ensures core { AreCoresOf zones.now core.new }
     ensures home { core.new.home ≡ core.old.home }
@@ -162,6 +173,7 @@ fn list_in(
         &zones.zones[zone],
         &mut core.cores[zone],
         zones.frames[zone],
+        &spans[zone].ranges,
     )
 }
 

@@ -7,14 +7,25 @@ use crate::core_state::CoreState;
 use frame_words::Fault;
 use frame_zones::ZoneImage;
 use std::alloc::Global;
+use std::fmt::{self, Debug, Formatter, Write};
 use std::sync::Arc;
+use thiserror::Error;
 
 /// A memory that was not stopped. The core is as it was.
-#[derive(Drop)]
+#[derive(Drop, Error)]
+#[error("the memory was not stopped: {fault}")]
 pub struct StopFault {
     /// `MissingCores` where other cores are open, or `NoMemory`.
     pub fault: Fault,
     pub core: CoreState,
+}
+
+impl Debug for StopFault {
+    fn fmt<W: Write>(&self, f: &mut Formatter<W>) -> fmt::Result {
+        f.debug_struct("StopFault")
+            .field("fault", &self.fault)
+            .finish_non_exhaustive()
+    }
 }
 
 impl CoreState {

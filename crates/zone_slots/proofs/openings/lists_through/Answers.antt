@@ -9,8 +9,8 @@ use Rattle.zone_slots.proofs.openings.lists_through.Goals as goal
 pub returns-clause-cores : goal.returns-clause-cores
 returns-clause-cores c =
     let zs = c.args.zones.now in
-    let are = All-pop (AreCoresOf zs) c.args.parts.now.items c.pop.new.self.items c.pop.result c.pop.ensures.items c.requires.are_cores in
-    let unused = All-pop IsUnusedCore c.args.parts.now.items c.pop.new.self.items c.pop.result c.pop.ensures.items c.requires.unused in
+    let are = All-pop (AreCoresOf zs) c.args.parts.now.items c.pop.new.self.items c.pop.result c.pop.ensures.items c.requires.cores.are_cores in
+    let unused = All-pop IsUnusedCore c.args.parts.now.items c.pop.new.self.items c.pop.result c.pop.ensures.items c.requires.cores.unused in
     let was : AreCoresOf zs c.in-Some.part = subst (λ (r : Option ZoneCore). IfSome r (AreCoresOf zs)) c.in-Some.is are.1 in
     let none : IsUnusedCore c.in-Some.part = subst (λ (r : Option ZoneCore). IfSome r IsUnusedCore) c.in-Some.is unused.1 in
     subst (λ (l : List ZoneCore). AreUnusedIn zs l) (sym c.in-Ok.ensures.items)
