@@ -205,6 +205,22 @@ static void every_frame_once(void)
     llfree_close(&h[1]);
 }
 
+/* A memory that ends anywhere in a child opens, its last frame held back or not, and gives each other frame out. */
+static void sizes(void)
+{
+    for (uint32_t frames = 1; frames < 1100; frames += frames < 40 || frames % 512 < 5 || frames % 512 > 506 ? 1 : 37)
+        for (size_t count = 0; count <= (frames > 1); count++) {
+            llfree_core h = LLFREE_CLOSED;
+            llfree_range last = { frames - 1, 1 };
+            uint32_t f = 0, taken = 0;
+            CHECK(llfree_open(&h, 1, frames, &last, count) == LLFREE_OK);
+            while (llfree_take(&h, 0, &f) == LLFREE_OK && f < frames - count)
+                taken++;
+            CHECK(taken == frames - count);
+            llfree_close(&h);
+        }
+}
+
 /* A huge frame is split by two cores down to single frames, and joined by giving them. */
 static void splits(void)
 {
@@ -424,6 +440,7 @@ int main(void)
     holes();
     images();
     every_frame_once();
+    sizes();
     splits();
     random_numbers();
     threads();
