@@ -1,3 +1,4 @@
+mod Missing
 mod NothingHeld
 mod Surviving
 mod TwoNodes

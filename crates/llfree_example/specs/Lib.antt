@@ -1,3 +1,4 @@
 pub mod Memory
 pub mod Nodes
 pub mod Knowing
+pub mod Searches

@@ -3,6 +3,7 @@
 //! machine with two nodes and a hole between them.
 #![tactic(auto)]
 
+mod missed;
 mod nodes;
 mod one_core;
 mod survivors;
@@ -19,6 +20,7 @@ use core_frames::{Allocator, Core};
 use frame_image::held_frames;
 use frame_table::Block;
 use frame_words::{Fault, Geometry};
+use missed::nothing_else_is_missed;
 use nodes::two_nodes;
 use one_core::alone;
 use std::alloc::Global;
@@ -130,6 +132,7 @@ fn run<R: Threads + Sync>(rt: &R, alloc: Global) -> Result<u32, Fault>
 }
 
 fn main(rt: HostRuntime) -> io::Result<()> {
+    nothing_else_is_missed();
     match run(&rt, rt.alloc()) {
         Ok(held) => println!(rt; "{held} frames are held")?,
         Err(fault) => println!(rt; "{fault}")?,
