@@ -24,7 +24,7 @@ use Rattle.core_frames.specs.declared.shared.allocator.Allocator.{Allocator}
 use Rattle.core_frames.specs.declared.shared.allocator.Core.{Core}
 use Rattle.frame_slots.specs.Slots.{laid_down}
 use Rattle.frame_slots.specs.Numbers.{IsFreeInImage, AreAllHeld}
-use Rattle.frame_slots.specs.Reopenings.{IsFollowing, KeepsRest, MakeUp, LendsJust, HasLaid, HasHalved, among, waiting_blocks}
+use Rattle.frame_slots.specs.Reopenings.{IsFollowing, KeepsHeldBeside, MakeUp, LendsJust, HasLaid, HasHalved, among, waiting_blocks}
 use Rattle.frame_slots.specs.declared.receipt.Receipt.{Receipt}
 use Rattle.frame_slots.proofs.Overlaps.{covered, uncovered, holders_cons, holders_none}
 
@@ -275,7 +275,7 @@ module _ (frames : ℕ) (numbers : List ℕ) where
   -- where none waits, and just these blocks were laid down, the image was followed
   pub end_following : (ws : List Block) (ls ms : List Receipt) (claimed : List FrameBlock) (c : Core) → length ws ≡ 0
       → IsFollowing frames numbers ws ls c → IsPermutation ls ms → map laid_down ms ≡ claimed
-      → KeepsRest frames numbers claimed c
+      → KeepsHeldBeside frames numbers claimed c
   end_following [] ls ms claimed c none so p laid =
       let same : (x : ℕ) → holders x claimed ≡ holders x (map laid_down ls) = λ x.
       sym (ap (holders x) laid) ∙ holders_still laid_down x ls ms p in

@@ -16,7 +16,7 @@ use Rattle.frame_slots.specs.declared.receipt.Receipt.{Receipt}
 
 -- the core keeps just those of so many frames that the image holds and none of the blocks has, and
 -- lends one block for each of these
-pub record KeepsRest (frames : ℕ) (numbers : List ℕ) (blocks : List FrameBlock) (c : Core) : Type 0 where
+pub record KeepsHeldBeside (frames : ℕ) (numbers : List ℕ) (blocks : List FrameBlock) (c : Core) : Type 0 where
   pub all : (x : ℕ) → x < frames → IsHeldBy numbers x → IsFree blocks x → IsHeld (kept_by c) x
   pub only : (x : ℕ) → IsHeld (kept_by c) x → IsHeldBy numbers x × IsFree blocks x
   pub lent : lent_by c ≡ pos (length blocks)

@@ -6,7 +6,7 @@ ghost use Rattle.std.specs.List.{All};
 ghost use Rattle.core_frames.specs.Cores.{memory_of, IsCoreOf, IsOutOf};
 ghost use Rattle.frame_model.specs.Block.{block as block_at};
 ghost use Rattle.frame_slots.specs.Numbers.{IsFreeInImage, AreAllHeld};
-ghost use Rattle.frame_slots.specs.Reopenings.{IsNoReplay, IsFollowing, KeepsRest, MakeUp};
+ghost use Rattle.frame_slots.specs.Reopenings.{IsNoReplay, IsFollowing, KeepsHeldBeside, MakeUp};
 ghost use Rattle.frame_slots.specs.SlotLists.{HasListAndCore, IsListOf};
 ghost use Rattle.frame_slots.specs.Slots.{IsUnused, IsUnusedCoreOf, laid_down};
 ghost use Rattle.frame_slots.specs.Reopenings.{HasFoundNone, HasHalved, HasLaid, LendsJust, waiting_blocks};
@@ -52,7 +52,7 @@ impl SlotList {
         requires core { IsUnusedCoreOf allocator.now core.old }
         ensures core { IsCoreOf allocator.now core.new }
         ensures laid { IfOk result (λ receipts. map laid_down receipts.items ≡ claimed.now) }
-        ensures rest { IfOk result (λ _. KeepsRest (memory_of allocator.now).frames numbers.now claimed.now core.new) }
+        ensures rest { IfOk result (λ _. KeepsHeldBeside (memory_of allocator.now).frames numbers.now claimed.now core.new) }
         ensures err { IfErr result IsNoReplay }
     {
         let mut pending = take_all(alloc, allocator, core, frames)?;

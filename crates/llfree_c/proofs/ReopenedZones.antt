@@ -14,7 +14,7 @@ use Rattle.core_frames.specs.Cores.{memory_of}
 use Rattle.core_frames.specs.declared.shared.allocator.Allocator.{Allocator}
 use Rattle.core_frames.specs.declared.shared.allocator.Core.{Core}
 use Rattle.frame_slots.specs.Numbers.{child_count_of}
-use Rattle.frame_slots.specs.Reopenings.{KeepsRest}
+use Rattle.frame_slots.specs.Reopenings.{KeepsHeldBeside}
 use Rattle.frame_zones.specs.Openings.{HaveHomes}
 use Rattle.frame_zones.specs.Spans.{Place, place_of_span}
 use Rattle.frame_zones.specs.Zones.{zone_count, zone_at, core_at}
@@ -146,11 +146,11 @@ share_reopened cores zones numbers blocks spans lists states used are count each
             let a : Allocator = some_of m.zones.zones.items (omega (arith, inside z within)) in
             let part : Core = core_at at.keeper.keeper.core z x in
             let own : List FrameBlock = blocks_within (stretch_at zones z) blocks in
-            let kept : KeepsRest (memory_of (zone_at m.zones z a)).frames (numbers_from m.zones numbers z) (claims_in lists z v) part =
+            let kept : KeepsHeldBeside (memory_of (zone_at m.zones z a)).frames (numbers_from m.zones numbers z) (claims_in lists z v) part =
             at.keeper.keeps z (inside z within) a x v in
-            subst (λ (n : ℕ). KeepsRest n (numbers_of_zone zones numbers z) own part) (frames_are cores zones [] m has z a within)
-            (subst (λ (l : List ℕ). KeepsRest (memory_of (zone_at m.zones z a)).frames l own part) (numbers_are cores zones [] m has numbers z within)
-            (subst (λ (bs : List FrameBlock). KeepsRest (memory_of (zone_at m.zones z a)).frames (numbers_from m.zones numbers z) bs part) (each z v within) kept));
+            subst (λ (n : ℕ). KeepsHeldBeside n (numbers_of_zone zones numbers z) own part) (frames_are cores zones [] m has z a within)
+            (subst (λ (l : List ℕ). KeepsHeldBeside (memory_of (zone_at m.zones z a)).frames l own part) (numbers_are cores zones [] m has numbers z within)
+            (subst (λ (bs : List FrameBlock). KeepsHeldBeside (memory_of (zone_at m.zones z a)).frames (numbers_from m.zones numbers z) bs part) (each z v within) kept));
       };
     }
 

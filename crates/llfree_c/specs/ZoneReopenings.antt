@@ -7,7 +7,7 @@ use Rattle.std.specs.declared.vec.Vec.{Vec}
 use Rattle.frame_model.specs.declared.block.FrameBlock.{FrameBlock}
 use Rattle.core_frames.specs.declared.shared.allocator.Core.{Core}
 use Rattle.frame_slots.specs.Slots.{laid_down}
-use Rattle.frame_slots.specs.Reopenings.{KeepsRest}
+use Rattle.frame_slots.specs.Reopenings.{KeepsHeldBeside}
 use Rattle.frame_slots.specs.declared.receipt.Receipt.{Receipt}
 use Rattle.frame_zones.specs.Openings.{HaveHomes}
 use Rattle.frame_zones.specs.Zones.{core_at}
@@ -34,7 +34,7 @@ LaysClaimsDown zones blocks m = (z : ℕ) (r : Vec Receipt Global) → z < lengt
 -- for each of those that begin there
 abbrev pub KeepsUnclaimed : List Stretch → List ℕ → List FrameBlock → ZoneCore → Type 0
 KeepsUnclaimed zones numbers blocks c = (z : ℕ) (x : Core) → z < length zones
-    → KeepsRest (stretch_at zones z).1 (numbers_of_zone zones numbers z) (blocks_within (stretch_at zones z) blocks)
+    → KeepsHeldBeside (stretch_at zones z).1 (numbers_of_zone zones numbers z) (blocks_within (stretch_at zones z) blocks)
     (core_at c z x)
 
 -- the last core keeps the rest, and the others were not used yet

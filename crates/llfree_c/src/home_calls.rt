@@ -1,7 +1,7 @@
 //! What C calls of the zones of a memory: how many there are, and where takes through a core begin.
 
 ghost use Rattle.std.specs.Prelude.{◌≡◌, ◌⊎◌, false};
-ghost use Rattle.zone_slots.specs.Homes.{BeginsIn};
+ghost use Rattle.zone_slots.specs.Homes.{MovesHomeTo};
 ghost use Rattle.llfree_c.specs.Homes.{zones_behind, home_behind, HasNoZoneBehind};
 ghost use Rattle.llfree_c.specs.SeenCores.{OnCores};
 ghost use Rattle.llfree_c.specs.Status.{ok, closed, bad_range};
@@ -42,7 +42,7 @@ pub extern "C" fn llfree_home(handle: &mut CoreHandle, heap: Global) -> u32
 #[unsafe(no_mangle)]
 pub extern "C" fn llfree_set_home(handle: &mut CoreHandle, heap: Global, zone: u32) -> u32
     ensures set { result ≡ ok
-        → OnCores (BeginsIn zone) handle.old.state.value handle.new.state.value }
+        → OnCores (MovesHomeTo zone) handle.old.state.value handle.new.state.value }
     ensures refused { result ≡ bad_range
         → HasNoZoneBehind zone handle.old.state.value handle.new.state.value }
     ensures closed { result ≡ closed → (handle.old.live ≡ false) × (handle.new ≡ handle.old) }

@@ -12,7 +12,7 @@ use Rattle.frame_table.specs.Ties.{table_sizes}
 use Rattle.core_frames.specs.declared.shared.allocator.Allocator.{Allocator}
 use Rattle.core_frames.specs.declared.shared.allocator.Core.{Core}
 use Rattle.core_frames.specs.Cores.{memory_of}
-use Rattle.frame_slots.specs.Reopenings.{KeepsRest}
+use Rattle.frame_slots.specs.Reopenings.{KeepsHeldBeside}
 use Rattle.frame_slots.specs.Slots.{IsUnused, laid_down}
 use Rattle.frame_slots.specs.declared.receipt.Receipt.{Receipt}
 use Rattle.frame_zones.specs.Uses.{OthersStay}
@@ -32,19 +32,19 @@ All-remove_first {X} P xs ys x is at some all =
 -- what the written core keeps, at each default
 pub rest_here : (zs : Zones) (c d : ZoneCore) (z : ℕ) (b : Allocator) (w y : Core) (numbers : List ℕ) (blocks : List FrameBlock)
     → AreCoresOf zs c → z < zone_count zs → b ≡ zone_at zs z b → w ≡ core_at c z w → d.cores.items ≡ slice_set c.cores.items z y
-    → KeepsRest (memory_of b).frames numbers blocks y
-    → (a : Allocator) (x : Core) → KeepsRest (memory_of (zone_at zs z a)).frames numbers blocks (core_at d z x)
+    → KeepsHeldBeside (memory_of b).frames numbers blocks y
+    → (a : Allocator) (x : Core) → KeepsHeldBeside (memory_of (zone_at zs z a)).frames numbers blocks (core_at d z x)
 rest_here zs c d z b w y numbers blocks are within b-is w-is is keeps a x =
-    at_any_zone (λ e _ v. KeepsRest (memory_of e).frames numbers blocks v) zs c d z b a w y x within are.parts.count b-is w-is is keeps
+    at_any_zone (λ e _ v. KeepsHeldBeside (memory_of e).frames numbers blocks v) zs c d z b a w y x within are.parts.count b-is w-is is keeps
 
 -- one zone more has what the image holds there
 pub rest_more : (numbers : List ℕ) (claimed : List (Vec FrameBlock Global)) (zs : Zones) (c d : ZoneCore) (i : ℕ)
     → i < zone_count zs → ((z : ℕ) → z < i → KeepsRestIn numbers claimed zs c z) → OthersStay zs i c d
     → KeepsRestIn numbers claimed zs d i → (z : ℕ) → z < i + 1 → KeepsRestIn numbers claimed zs d z
 rest_more numbers claimed zs c d i within before others here z below a x v =
-    elim (cases_lt z i) as (λ _. KeepsRest (memory_of (zone_at zs z a)).frames (numbers_from zs numbers z) (claims_in claimed z v) (core_at d z x)) [
+    elim (cases_lt z i) as (λ _. KeepsHeldBeside (memory_of (zone_at zs z a)).frames (numbers_from zs numbers z) (claims_in claimed z v) (core_at d z x)) [
       | inl less ↦
-          subst (λ (y : Core). KeepsRest (memory_of (zone_at zs z a)).frames (numbers_from zs numbers z) (claims_in claimed z v) y)
+          subst (λ (y : Core). KeepsHeldBeside (memory_of (zone_at zs z a)).frames (numbers_from zs numbers z) (claims_in claimed z v) y)
           (sym (others z x (omega (arith, less, within)) (λ same. omega (arith, same, less)))) (before z less a x v)
       | inr past ↦
           let at : i ≡ z = omega (arith, past, below) in

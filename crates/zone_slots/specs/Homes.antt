@@ -19,7 +19,7 @@ home_by s = s.core.home
 
 -- the home of the core is this zone, and no order stays in another one; its part in each zone, what it remembers, what
 -- it has counted and what rests with it are as before
-pub record BeginsIn (z : ℕ) (s t : CoreState) : Type 0 where
+pub record MovesHomeTo (z : ℕ) (s t : CoreState) : Type 0 where
   pub home : MovesHome z s.core t.core
   pub lays : LaysNone s t
   pub given : last_given t ≡ last_given s

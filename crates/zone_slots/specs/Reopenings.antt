@@ -8,7 +8,7 @@ use Rattle.frame_model.specs.declared.block.FrameBlock.{FrameBlock}
 use Rattle.core_frames.specs.declared.shared.allocator.Allocator.{Allocator}
 use Rattle.core_frames.specs.declared.shared.allocator.Core.{Core}
 use Rattle.core_frames.specs.Cores.{memory_of}
-use Rattle.frame_slots.specs.Reopenings.{KeepsRest, IsNoReplay}
+use Rattle.frame_slots.specs.Reopenings.{KeepsHeldBeside, IsNoReplay}
 use Rattle.frame_slots.specs.Slots.{laid_down}
 use Rattle.frame_slots.specs.declared.receipt.Receipt.{Receipt}
 use Rattle.frame_zones.specs.Openings.{HaveHomes}
@@ -35,7 +35,7 @@ claims_in claimed z other = (slice_index_or claimed z other).items
 -- in this zone the core keeps just what the image holds there and none of its claimed blocks has
 abbrev pub KeepsRestIn : List ℕ → List (Vec FrameBlock Global) → Zones → ZoneCore → ℕ → Type 0
 KeepsRestIn numbers claimed zs c z = (a : Allocator) (x : Core) (v : Vec FrameBlock Global)
-    → KeepsRest (memory_of (zone_at zs z a)).frames (numbers_from zs numbers z) (claims_in claimed z v) (core_at c z x)
+    → KeepsHeldBeside (memory_of (zone_at zs z a)).frames (numbers_from zs numbers z) (claims_in claimed z v) (core_at c z x)
 
 -- it is so in each zone
 abbrev pub KeepsRests : List ℕ → List (Vec FrameBlock Global) → Zones → ZoneCore → Type 0

@@ -1,7 +1,7 @@
 //! How many zones there are, and where takes through a core begin.
 
 ghost use Rattle.std.specs.Prelude.{◌≡◌, ◌<◌, IfOk, IfErr};
-ghost use Rattle.zone_slots.specs.Homes.{zones_by, home_by, BeginsIn, HasNoZone};
+ghost use Rattle.zone_slots.specs.Homes.{zones_by, home_by, MovesHomeTo, HasNoZone};
 
 use crate::core_state::CoreState;
 use frame_words::Fault;
@@ -25,7 +25,7 @@ impl CoreState {
     /// Takes of every order begin in the zone of this number from now on. Refused as `BadRange` where
     /// there is no such zone.
     pub fn set_home(&mut self, zone: u32) -> Result<(), Fault>
-        ensures set { IfOk result (λ _. BeginsIn zone self.old self.new) }
+        ensures set { IfOk result (λ _. MovesHomeTo zone self.old self.new) }
         ensures refused { IfErr result (HasNoZone zone self.old self.new) }
     {
         if zone >= self.zones() {

@@ -4,7 +4,7 @@ ghost use Rattle.std.specs.Prelude.{◌≡◌, ℕ, ◌+◌, ◌<◌, ◌∷◌,
 ghost use Rattle.core_frames.specs.declared.shared.allocator.Allocator.{Allocator};
 ghost use Rattle.core_frames.specs.declared.shared.allocator.Core.{Core};
 ghost use Rattle.core_frames.specs.Cores.{memory_of};
-ghost use Rattle.frame_slots.specs.Reopenings.{KeepsRest, IsNoReplay};
+ghost use Rattle.frame_slots.specs.Reopenings.{KeepsHeldBeside, IsNoReplay};
 ghost use Rattle.frame_slots.specs.Slots.{IsUnused, laid_down};
 ghost use Rattle.frame_zones.specs.Openings.{HaveHomes};
 ghost use Rattle.frame_zones.specs.Spans.{place_of_span};
@@ -126,7 +126,7 @@ impl Memory {
         ensures core { ChangesIn self.now.zones zone core.old core.new }
         ensures home { core.new.home ≡ core.old.home }
         ensures rest { IfOk result (λ _. (a : Allocator) (x : Core)
-            → KeepsRest (memory_of (zone_at self.now.zones zone a)).frames numbers.now claimed.now
+            → KeepsHeldBeside (memory_of (zone_at self.now.zones zone a)).frames numbers.now claimed.now
             (core_at core.new zone x)) }
         ensures laid { IfOk result (λ row. map laid_down row.items ≡ claimed.now) }
         ensures err { IfErr result IsNoReplay }

@@ -6,7 +6,7 @@ use Rattle.frame_model.specs.declared.block.FrameBlock.{FrameBlock}
 use Rattle.frame_table.specs.Ties.{table_sizes}
 use Rattle.core_frames.specs.declared.shared.allocator.Allocator.{Allocator}
 use Rattle.core_frames.specs.Cores.{memory_of}
-use Rattle.frame_slots.specs.Reopenings.{KeepsRest}
+use Rattle.frame_slots.specs.Reopenings.{KeepsHeldBeside}
 use Rattle.frame_slots.specs.declared.receipt.Receipt.{Receipt}
 use Rattle.frame_zones.specs.Zones.{zone_count, zone_at, core_at}
 use Rattle.frame_zones.specs.declared.zones.Zones.{Zones}
@@ -33,8 +33,8 @@ loop-zone-preserved c =
     ∙ get_or_default claimed i c.index-claimed-zone.result v (omega (arith, within, c.requires.claimed))) in
     let from : c.behind.result.now ≡ numbers_from zs numbers i = c.behind.ensures ∙ ap (λ n. drop n numbers) inv.from in
     let here : KeepsRestIn numbers claimed zs d i =
-    λ b x v. subst (λ (l : List ℕ). KeepsRest (memory_of (zone_at zs i b)).frames l (claims_in claimed i v) (core_at d i x)) from
-    (subst (λ (bs : List FrameBlock). KeepsRest (memory_of (zone_at zs i b)).frames c.behind.result.now bs (core_at d i x)) (blocks v)
+    λ b x v. subst (λ (l : List ℕ). KeepsHeldBeside (memory_of (zone_at zs i b)).frames l (claims_in claimed i v) (core_at d i x)) from
+    (subst (λ (bs : List FrameBlock). KeepsHeldBeside (memory_of (zone_at zs i b)).frames c.behind.result.now bs (core_at d i x)) (blocks v)
     (c.in_ok-row.ensures.rest b x)) in
     let frames : c.index.result.now ≡ (memory_of (zone_at zs i a)).frames =
     c.index.ensures ∙ get_or_default zs.frames.items i c.index.result.now 0 (omega (arith, within, zs.sized.count))
