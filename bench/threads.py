@@ -4,7 +4,8 @@
 Each core takes and gives blocks in its own round, on a tree of its own. All runs are made in turn, some
 times over. Printed are the cores, the least wall time, the same for records that are refused without a
 step (what text and threads cost), how many times the records a second of one core that makes, and the
-greatest memory of a run for each record. It needs a built build/llfree.
+greatest memory of a run for each record. It needs a built build/llfree. UNDER stands before the program, as
+in 'chrt -f 10'; OTHER is another build of it, which is measured in turn with it.
 """
 import os
 import subprocess
@@ -16,7 +17,10 @@ RECORDS = 1_000_000
 CHILDREN = int(os.environ.get('CHILDREN', '1024'))
 RUNS = int(os.environ.get('RUNS', '5'))
 HERE = os.path.dirname(os.path.abspath(__file__))
-PROGRAM = os.path.join(HERE, '../build/llfree')
+PROGRAMS = {'build/llfree': os.path.join(HERE, '../build/llfree')}
+if os.environ.get('OTHER'):
+    PROGRAMS['the other'] = os.environ['OTHER']
+UNDER = os.environ.get('UNDER', '').split()
 
 
 def trace(cores, kind):
@@ -31,11 +35,11 @@ def trace(cores, kind):
     return ''.join(rows)
 
 
-def run(cores, name):
+def run(program, cores, name):
     """Wall seconds, and the greatest memory in bytes."""
     with open(name, 'rb') as text:
         start = time.perf_counter()
-        child = subprocess.Popen([PROGRAM, 'run', str(CHILDREN), str(cores)], stdin=text,
+        child = subprocess.Popen([*UNDER, PROGRAMS[program], 'run', str(CHILDREN), str(cores)], stdin=text,
                                  stdout=subprocess.DEVNULL)
         _, status, usage = os.wait4(child.pid, 0)
         spent = time.perf_counter() - start
@@ -51,26 +55,28 @@ def shows(text):
 
 
 def main():
-    cases = [(cores, kind) for cores in (1, 2, 4) for kind in ('pairs', 'refused')]
+    cases = [(program, cores, kind) for cores in (1, 2, 4) for kind in ('pairs', 'refused') for program in PROGRAMS]
     least, most = {}, {}
     with tempfile.TemporaryDirectory() as folder:
         names = {}
-        for cores, kind in cases:
+        for _, cores, kind in cases:
             names[cores, kind] = os.path.join(folder, f'{kind}-{cores}')
             with open(names[cores, kind], 'w', encoding='ascii') as out:
                 out.write(trace(cores, kind))
         for turn in range(1, RUNS + 1):
             shows(f'run {turn} of {RUNS}')
             for case in cases:
-                spent, memory = run(case[0], names[case])
+                spent, memory = run(*case[:2], names[case[1:]])
                 least[case] = min(spent, least.get(case, spent))
                 most[case] = max(memory, most.get(case, memory))
     shows('')
-    print(f'{"cores":>5} {"pairs s":>9} {"times":>6} {"no step s":>10} {"bytes a record":>15}')
-    for cores in (1, 2, 4):
-        pairs, none = least[cores, 'pairs'], least[cores, 'refused']
-        times = least[1, 'pairs'] / pairs
-        print(f'{cores:>5} {pairs:>9.3f} {times:>6.2f} {none:>10.3f} {most[cores, "pairs"] / RECORDS:>15.0f}')
+    print(f'{"program":<12} {"cores":>5} {"pairs s":>9} {"times":>6} {"no step s":>10} {"bytes a record":>15}')
+    for program in PROGRAMS:
+        for cores in (1, 2, 4):
+            pairs, none = least[program, cores, 'pairs'], least[program, cores, 'refused']
+            times = least[program, 1, 'pairs'] / pairs
+            print(f'{program:<12} {cores:>5} {pairs:>9.3f} {times:>6.2f} {none:>10.3f} '
+                  f'{most[program, cores, "pairs"] / RECORDS:>15.0f}')
 
 
 if __name__ == '__main__':

@@ -449,6 +449,28 @@ machine() {
     expects 'a program that may not be run' 126 '' ''
 }
 
+# on_a_terminal: of a run of some seconds a terminal is told how long it lasts; 5,000 takes are refused though half of
+# the memory is free. Who types the trace there is told nothing
+on_a_terminal() {
+    python3 - "$program" >"$work/output" 2>"$work/errors" <<'END'
+import os, pty, subprocess, sys, time
+rows = ['0,take,a,7'] * 16_384 + [f'0,giveat,{frame},7' for frame in range(0, 2**21, 256)] + ['0,take,a,8'] * 5_000
+terminal, errors = pty.openpty()
+subprocess.run([sys.argv[1], 'run', '4096', '2'], input='\n'.join(rows).encode(), stdout=subprocess.DEVNULL,
+               stderr=errors, timeout=60, check=True)
+os.write(errors, b'end\n')
+print(os.read(terminal, 4096).decode().splitlines()[0])
+typed = subprocess.Popen([sys.argv[1], 'run', '1', '1'], stdin=errors, stdout=subprocess.DEVNULL, stderr=errors)
+time.sleep(1.5)
+os.write(terminal, b'\4')
+typed.wait(timeout=60)
+os.write(errors, b'end\n')
+print('typed:', 'running' in os.read(terminal, 4096).decode())
+END
+    status=$?
+    expects 'a run on a terminal' 0 $'llfree: running for 1 s\ntyped: False' ''
+}
+
 all() {
     answered
     images
@@ -460,6 +482,7 @@ all() {
     refused
     limits
     machine
+    on_a_terminal
 
     runs run 1 1 <.
     expects 'a reader that fails' 3 '' 'llfree: read failed'
