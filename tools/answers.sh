@@ -449,12 +449,12 @@ machine() {
     expects 'a program that may not be run' 126 '' ''
 }
 
-# on_a_terminal: of a run of some seconds a terminal is told how long it lasts; 5,000 takes are refused though half of
+# on_a_terminal: of a run of some seconds a terminal is told how long it lasts; 10,000 takes are refused though half of
 # the memory is free. Who types the trace there is told nothing
 on_a_terminal() {
     python3 - "$program" >"$work/output" 2>"$work/errors" <<'END'
 import os, pty, subprocess, sys, time
-rows = ['0,take,a,7'] * 16_384 + [f'0,giveat,{frame},7' for frame in range(0, 2**21, 256)] + ['0,take,a,8'] * 5_000
+rows = ['0,take,a,7'] * 16_384 + [f'0,giveat,{frame},7' for frame in range(0, 2**21, 256)] + ['0,take,a,8'] * 10_000
 terminal, errors = pty.openpty()
 subprocess.run([sys.argv[1], 'run', '4096', '2'], input='\n'.join(rows).encode(), stdout=subprocess.DEVNULL,
                stderr=errors, timeout=60, check=True)
