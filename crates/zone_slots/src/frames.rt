@@ -1,6 +1,6 @@
 //! Takes and gives of single frames, of which some rest with a core.
 
-ghost use Rattle.std.specs.Prelude.{◌≡◌, ◌<◌, ◌≤◌, ◌∷◌, ◌++◌, [], drop, length, IfOk, IfErr};
+ghost use Rattle.std.specs.Prelude.{◌≡◌, ◌-◌, ◌<◌, ◌≤◌, ◌∷◌, ◌++◌, [], drop, length, IfOk, IfErr};
 ghost use Rattle.zone_slots.specs.Calls.{zones_of, SharesOne, CountsNone, RemembersLast};
 ghost use Rattle.zone_slots.specs.Resting.{most_resting, half_resting, BringsNone};
 ghost use Rattle.zone_slots.specs.FrameCalls.{resting_in, IsSingleFor, LendsOneLess, LendsAsMany};
@@ -20,6 +20,7 @@ impl CoreState {
         ensures taken { IfOk result (TakesSingle self.old self.new) }
         ensures refused { IfErr result (RefusesSingle self.old self.new) }
         ensures hits { 0 < length (resting_in self.old) → TakesLast result self.old self.new }
+        ensures few { resting_in self.old ≡ [] → length (resting_in self.new) < half_resting }
         ensures counted { CountsNone self.old self.new }
         ensures last { RemembersLast self.old self.new }
     {
@@ -37,6 +38,7 @@ impl CoreState {
         ensures shared { SharesOne self.old self.new }
         ensures taken { IfOk result (TakesSingle self.old self.new) }
         ensures refused { IfErr result (RefusesSingle self.old self.new) }
+        ensures few { length (resting_in self.new) < half_resting }
         ensures counted { CountsNone self.old self.new }
         ensures last { RemembersLast self.old self.new }
     {
@@ -56,6 +58,7 @@ impl CoreState {
         ensures lent { LendsAsMany self.old self.new }
         ensures none { resting_in self.new ≡ []
             → BringsNone (zones_of self.old) most self.old.core self.new.core }
+        ensures few { length (resting_in self.new) ≤ most }
         ensures counted { CountsNone self.old self.new }
         ensures last { RemembersLast self.old self.new }
     {
@@ -69,6 +72,7 @@ impl CoreState {
         ensures shared { SharesOne self.old self.new }
         ensures taken { IfOk result (TakesSingle self.old self.new) }
         ensures refused { IfErr result (RefusesOne self.old self.new) }
+        ensures rests { length (resting_in self.new) ≡ length (resting_in self.old) - 1 }
         ensures counted { CountsNone self.old self.new }
         ensures last { RemembersLast self.old self.new }
     {

@@ -64,6 +64,7 @@ impl Memory {
         requires few { most ≤ 64 }
         ensures lent { LendAsManyBesides self.now.zones core.old rest.old.list.items core.new rest.new.list.items }
         ensures none { rest.new.list.items ≡ [] → BringsNone self.now.zones most core.old core.new }
+        ensures few { length rest.new.list.items ≤ most }
     {
         let (zone, _count) = self.zones.take_more(core, most, &mut rest.batch);
         self.lay_all(known, zone, &mut rest.batch, &mut rest.list);
