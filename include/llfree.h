@@ -362,6 +362,19 @@ enum llfree_status llfree_take_frame(llfree_core *handle, llfree_block *block);
  * waits. */
 enum llfree_status llfree_give_frame(llfree_core *handle, llfree_block *block);
 
+/* Takes a single frame into each of count empty structs, from the first one on, as llfree_take_frame called again and
+ * again does, and writes how many came. They are fewer only if the last of these calls found none; the structs behind
+ * them stay empty. Fewer than 64 frames rest then, if not all came from those that rested. On failure the structs and
+ * *taken are unchanged and nothing more is held: NO_BLOCK and CONTENDED as that call, only if count is not 0 and no frame
+ * came; CLOSED_HANDLE; OPEN_HANDLE if a struct holds a block. */
+LLFREE_NODISCARD
+enum llfree_status llfree_take_frames(llfree_core *handle, llfree_block *blocks, size_t count, size_t *taken);
+
+/* Gives the single frame of each of count structs, from the first one on, as llfree_give_frame does, and empties the
+ * structs. On NOT_HELD (a struct is empty), BAD_ORDER (one holds a larger block) and CLOSED_HANDLE nothing changes: none
+ * is given. It never locks or waits. */
+enum llfree_status llfree_give_frames(llfree_core *handle, llfree_block *blocks, size_t count);
+
 /* Gives back all frames that rest with this core. It never locks or waits. If the handle is closed it does
  * nothing. */
 void llfree_drain(llfree_core *handle);

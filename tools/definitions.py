@@ -71,6 +71,7 @@ PAGES = [
             "llfree_take_block", "llfree_give_block", "llfree_split_block"]),
         ("several threads: single frames that rest with a core", [
             "llfree_take_frame", "llfree_give_frame", "llfree_drain"]),
+        ("several threads: several single frames at once", ["llfree_take_frames", "llfree_give_frames"]),
         ("several threads: openings", [
             "llfree_open", "llfree_open_zones", "llfree_open_unchecked", "llfree_open_zones_unchecked"]),
         ("several threads: openings at an image", ["llfree_reopen", "llfree_reopen_zones"]),

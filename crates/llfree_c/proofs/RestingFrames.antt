@@ -1,10 +1,13 @@
--- Single frames that were taken, and why none was.
-use Rattle.std.proofs.Common.{◌∙◌, inl, inr, refl, sym, arith}
+-- Single frames that were taken or given, and why none was.
+use Rattle.std.proofs.Common.{◌≡◌, ◌∙◌, ℕ, ◌<◌, [], ◌∷◌, ◌++◌, drop, length, length-drop, inl, inr, refl, sym, ap, arith}
+use Rattle.std.proofs.lemmas.List.{length_push}
 use Rattle.frame_words.specs.declared.fault.TakeFault.TheVariants.{BadOrder, NoBlock, Contended}
 use Rattle.zone_slots.specs.Calls.{zones_of}
-use Rattle.zone_slots.specs.FrameCalls.{RefusesSingle}
+use Rattle.zone_slots.specs.FrameCalls.{resting_in, RefusesSingle, LendsOneLess, RestsLast}
+use Rattle.zone_slots.specs.Resting.{most_resting, half_resting}
 use Rattle.zone_slots.specs.declared.core_state.CoreState.{CoreState}
-use Rattle.llfree_c.specs.Frames.{RefusesFrameAs}
+use Rattle.zone_slots.specs.declared.single_frame.SingleFrame.{SingleFrame}
+use Rattle.llfree_c.specs.Frames.{GivesFrame, RefusesFrameAs}
 use Rattle.llfree_c.specs.Status.{no_block, bad_order, contended}
 use Rattle.llfree_c.specs.declared.block_handle.BlockHandle.{BlockHandle}
 use Rattle.llfree_c.proofs.CarriedBlocks.{found_nothing}
@@ -44,3 +47,21 @@ one_lost h s t refused = (
 -- there are single frames
 pub has_order : (h : BlockHandle) (s t : CoreState) → RefusesSingle s t BadOrder → RefusesFrameAs h bad_order s t
 has_order h s t refused = absurd (omega (arith, refused.why.0.0))
+
+-- a single frame was given: it rests, or half of those that rested went back before
+pub frame_given : (n : ℕ) (f : SingleFrame) (s t : CoreState) → LendsOneLess n s t
+    → (length (resting_in s) < most_resting → RestsLast f s t)
+    → (length (resting_in s) ≡ most_resting → resting_in t ≡ drop half_resting (resting_in s) ++ f ∷ []) → GivesFrame n s t
+frame_given n f s t lent rests full = record {
+  lent = lent;
+  rests = λ room.
+      let last = rests room in
+      record { one = omega (arith, ap length last.last, length_push (resting_in s) f); core = last.core };
+  full = λ all. omega (
+    arith,
+    all,
+    ap length (full all),
+    length_push (drop half_resting (resting_in s)) f,
+    length-drop half_resting (resting_in s),
+  );
+}

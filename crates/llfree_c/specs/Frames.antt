@@ -20,19 +20,22 @@ pub record ComesToRest (s t : CoreState) : Type 0 where
   pub one : length (resting_in t) ≡ length (resting_in s) + 1
   pub core : KeepsCore s t
 
--- a single frame was taken through the core, and is carried; where one rested, no step was made
+-- a single frame was taken through the core, and is carried; where one rested, no step was made, and where none did,
+-- fewer than 64 rest then
 pub record TakesFrame (h : BlockHandle) (s t : CoreState) : Type 0 where
   pub live : h.live ≡ true
   pub order : h.order ≡ 0
   pub out : IsOutOfOne s h
   pub lent : LendsOneMore h.frame s t
   pub rested : 0 < length (resting_in s) → LeavesRest s t
+  pub few : resting_in s ≡ [] → length (resting_in t) < half_resting
 
 -- the single frame of this number was given through the core; where there was room for it to rest, no step was
--- made
+-- made, and where there was none, half of those that rested went back
 pub record GivesFrame (frame : ℕ) (s t : CoreState) : Type 0 where
   pub lent : LendsOneLess frame s t
   pub rests : length (resting_in s) < most_resting → ComesToRest s t
+  pub full : length (resting_in s) ≡ most_resting → length (resting_in t) ≡ half_resting + 1
 
 -- behind a batch that brought none the core found no single frame in any zone, and lost no exchange
 pub record FindsNoFrame (s t : CoreState) : Type 0 where

@@ -50,21 +50,18 @@ impl BlockHandle {
         }
     }
 
-    /// The single frame, whose number is over all zones.
+    /// From then on it carries the single frame, whose number is over all zones.
     #[inline(always)]
-    pub(crate) fn of_frame(held: SingleFrame) -> BlockHandle
+    pub(crate) fn fill(&mut self, held: SingleFrame)
         requires right { IsRightTo 0 (held.seat.me.0 ∷ []) }
         requires bare { held.seat.me.1 ≡ [] }
-        ensures { Carries result held.frame 0 held.seat }
+        ensures { Carries self.new held.frame 0 held.seat }
     {
         let SingleFrame { frame, seat } = held;
-        let badge = seat.into_badge();
-        BlockHandle {
-            live: true,
-            frame,
-            order: 0,
-            right: BlockRight::of(badge),
-        }
+        self.live = true;
+        self.frame = frame;
+        self.order = 0;
+        self.right = BlockRight::of(seat.into_badge());
     }
 
     /// The number, the order and the right of the block that was carried; none is from then on.

@@ -54,11 +54,11 @@ pub extern "C" fn llfree_take(
     ensures stays { result ≢ ok → frame.new ≡ frame.old }
     ensures known { (result ≤ bad_order) ⊎ (result ≡ closed) ⊎ (result ≡ contended) }
 {
-    let Some(mut state) = handle.take_out(heap) else {
+    let Some(mut state) = handle.lift_out(heap) else {
         return CLOSED;
     };
     let status = take(&mut state, order, frame);
-    *handle = CoreHandle::of(state);
+    handle.put_back(state);
     status
 }
 
@@ -74,11 +74,11 @@ pub extern "C" fn llfree_give(handle: &mut CoreHandle, heap: Global, frame: u32,
     ensures closed { result ≡ closed → (handle.old.live ≡ false) × (handle.new ≡ handle.old) }
     ensures known { (result ≡ ok) ⊎ (result ≡ not_held) ⊎ (result ≡ closed) }
 {
-    let Some(mut state) = handle.take_out(heap) else {
+    let Some(mut state) = handle.lift_out(heap) else {
         return CLOSED;
     };
     let status = give(&mut state, frame, order);
-    *handle = CoreHandle::of(state);
+    handle.put_back(state);
     status
 }
 
@@ -95,11 +95,11 @@ pub extern "C" fn llfree_split(handle: &mut CoreHandle, heap: Global, frame: u32
     ensures known { (result ≡ ok) ⊎ (result ≡ bad_order) ⊎ (result ≡ not_held)
         ⊎ (result ≡ closed) ⊎ (result ≡ contended) }
 {
-    let Some(mut state) = handle.take_out(heap) else {
+    let Some(mut state) = handle.lift_out(heap) else {
         return CLOSED;
     };
     let status = split(&mut state, frame, order);
-    *handle = CoreHandle::of(state);
+    handle.put_back(state);
     status
 }
 

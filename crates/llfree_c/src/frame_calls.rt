@@ -34,11 +34,11 @@ pub extern "C" fn llfree_take_frame(
     ensures known { (result ≤ bad_order) ⊎ (result ≡ closed) ⊎ (result ≡ not_closed)
         ⊎ (result ≡ contended) }
 {
-    let Some(mut state) = handle.take_out(heap) else {
+    let Some(mut state) = handle.lift_out(heap) else {
         return CLOSED;
     };
     let status = take_frame(&mut state, held);
-    *handle = CoreHandle::of(state);
+    handle.put_back(state);
     may_cross(held);
     status
 }
@@ -63,11 +63,11 @@ pub extern "C" fn llfree_give_frame(
     ensures stays { result ≢ ok → held.new ≡ held.old }
     ensures known { (result ≡ ok) ⊎ (result ≡ bad_order) ⊎ (result ≡ not_held) ⊎ (result ≡ closed) }
 {
-    let Some(mut state) = handle.take_out(heap) else {
+    let Some(mut state) = handle.lift_out(heap) else {
         return CLOSED;
     };
     let status = give_frame(&mut state, held);
-    *handle = CoreHandle::of(state);
+    handle.put_back(state);
     status
 }
 
@@ -78,11 +78,11 @@ pub extern "C" fn llfree_drain(handle: &mut CoreHandle, heap: Global)
         → OnCores Drains handle.old.state.value handle.new.state.value }
     ensures closed { handle.old.live ≡ false → handle.new ≡ handle.old }
 {
-    let Some(mut state) = handle.take_out(heap) else {
+    let Some(mut state) = handle.lift_out(heap) else {
         return;
     };
     state.drain();
-    *handle = CoreHandle::of(state);
+    handle.put_back(state);
 }
 
 /// How many frames rest with the core, at most 128; 0 where nothing is behind the handle.
@@ -91,10 +91,10 @@ pub extern "C" fn llfree_resting(handle: &mut CoreHandle, heap: Global) -> u32
     ensures resting { result ≡ resting_behind handle.old.state.value }
     ensures same { handle.new.state.value ≡ handle.old.state.value }
 {
-    let Some(state) = handle.take_out(heap) else {
+    let Some(state) = handle.lift_out(heap) else {
         return 0;
     };
     let resting = state.resting();
-    *handle = CoreHandle::of(state);
+    handle.put_back(state);
     resting
 }

@@ -26,7 +26,7 @@ pub(crate) fn take_frame(state: &mut CoreState, held: &mut BlockHandle) -> u32
     }
     match state.take_frame() {
         Ok(frame) => {
-            *held = BlockHandle::of_frame(frame);
+            held.fill(frame);
             OK
         }
         Err(TakeFault::BadOrder) => BAD_ORDER,

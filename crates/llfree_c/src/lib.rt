@@ -1,6 +1,8 @@
 //! LLFree for C: an allocator for one thread and one for several, behind handles that C carries.
 #![tactic(auto)]
 
+mod batch_calls;
+mod batch_steps;
 mod block_calls;
 mod block_handle;
 mod block_right;

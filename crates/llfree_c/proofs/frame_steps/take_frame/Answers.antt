@@ -7,12 +7,12 @@ use Rattle.llfree_c.proofs.CarriedBlocks.{single_out, single_right}
 use Rattle.llfree_c.proofs.RestingFrames.{has_order, none_found, one_lost}
 use Rattle.llfree_c.proofs.frame_steps.take_frame.Goals as goal
 
-pub of_frame-requires-clause-right : goal.of_frame-requires-clause-right
-of_frame-requires-clause-right c =
+pub fill-requires-clause-right : goal.fill-requires-clause-right
+fill-requires-clause-right c =
     let right = c.in-Ok.ensures.taken.is_single in single_right c.in-Ok.frame.seat.me right.local right.holds.owns
 
-pub of_frame-requires-clause-bare : goal.of_frame-requires-clause-bare
-of_frame-requires-clause-bare c =
+pub fill-requires-clause-bare : goal.fill-requires-clause-bare
+fill-requires-clause-bare c =
     ap (λ (m : Me (Unit {0}) Watch). m.1) c.in-Ok.ensures.taken.is_single.holds.owns
 
 pub returns-in-Ok-clause-taken : goal.returns-in-Ok-clause-taken
@@ -22,13 +22,14 @@ returns-in-Ok-clause-taken c =
       record {
         live = search rules;
         order = search rules;
-        out = single_out c.args.state.now c.in-Ok.frame c.of_frame.result c.in-Ok.ensures.taken.is_single c.of_frame.ensures;
+        out = single_out c.args.state.now c.in-Ok.frame c.fill.new.self c.in-Ok.ensures.taken.is_single c.fill.ensures;
         lent = search rules;
         rested = λ some.
             let hit = c.take_frame.ensures.hits some in record {
               one = omega (arith, ap length hit.last, length_push (resting_in c.take_frame.new.self) hit.frame);
               core = hit.core;
             };
+        few = c.take_frame.ensures.few;
       },
     )
 
