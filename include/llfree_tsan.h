@@ -159,6 +159,28 @@ static inline enum llfree_status llfree_give_frame_told(llfree_core *handle, voi
     return llfree_give_frame(handle, block);
 }
 
+/* llfree_take_frames. */
+LLFREE_NODISCARD
+static inline enum llfree_status llfree_take_frames_told(llfree_core *handle, void *address, llfree_block *blocks,
+                                                         size_t count, size_t *taken)
+{
+    enum llfree_status status = llfree_take_frames(handle, blocks, count, taken);
+
+    for (size_t i = 0; status == LLFREE_OK && i < *taken; i++)
+        llfree_tell(address, blocks[i].frame, 0, true);
+    return status;
+}
+
+/* llfree_give_frames. */
+static inline enum llfree_status llfree_give_frames_told(llfree_core *handle, void *address, llfree_block *blocks,
+                                                         size_t count)
+{
+    for (size_t i = 0; i < count; i++)
+        if (blocks[i].live && blocks[i].order == 0)
+            llfree_tell(address, blocks[i].frame, 0, false);
+    return llfree_give_frames(handle, blocks, count);
+}
+
 #ifdef __cplusplus
 }
 #endif

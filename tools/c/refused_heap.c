@@ -246,6 +246,9 @@ static void no_calls(void)
             CHECK(llfree_take_frame(&cores[i % 2], &rested[i]) == LLFREE_OK);
         for (int i = 0; i < 200; i++)
             CHECK(llfree_give_frame(&cores[2], &rested[i]) == LLFREE_OK);
+        size_t taken = 0;
+        CHECK(llfree_take_frames(&cores[1], rested, 200, &taken) == LLFREE_OK && taken == 200);
+        CHECK(llfree_give_frames(&cores[2], rested, 200) == LLFREE_OK);
         CHECK(llfree_resting(&cores[2]) > 0);
         for (int i = 0; i < 3; i++)
             llfree_drain(&cores[i]);

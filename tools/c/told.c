@@ -82,6 +82,13 @@ static void others(void)
     CHECK(llfree_take_frame_told(&cores[1], memory, &block) == LLFREE_OK);
     *number_in(block.frame) = 0;
     CHECK(llfree_give_frame_told(&cores[0], memory, &block) == LLFREE_OK);
+    llfree_block blocks[3] = { LLFREE_EMPTY };
+    size_t taken = 0;
+    CHECK(llfree_take_frames_told(&cores[1], memory, blocks, 3, &taken) == LLFREE_OK && taken == 3);
+    for (size_t i = 0; i < taken; i++)
+        *number_in(blocks[i].frame) = 0;
+    CHECK(llfree_give_frames_told(&cores[0], memory, blocks, taken) == LLFREE_OK);
+    CHECK(llfree_give_frames_told(&cores[0], memory, blocks, taken) == LLFREE_NOT_HELD);
     CHECK(llfree_give_told(&cores[0], memory, UINT32_MAX, 0) == LLFREE_NOT_HELD);
     CHECK(llfree_give_told(&cores[0], memory, 0, 255) == LLFREE_NOT_HELD);
     CHECK(llfree_give_told(&cores[0], memory, FRAMES - 1, 1) == LLFREE_NOT_HELD);
