@@ -73,7 +73,9 @@ for _name, _answer, *_arguments in (
         ('reopen', _u32, _to(Handle), _size, _u32, _to(_u64), _size, _to(Claim), _size),
         ('take', _u32, _to(Handle), _u8, _to(_u32)), ('give', _u32, _to(Handle), _u32, _u8),
         ('split', _u32, _to(Handle), _u32, _u8), ('take_frame', _u32, _to(Handle), _to(Block)),
-        ('give_frame', _u32, _to(Handle), _to(Block)), ('drain', None, _to(Handle)), ('resting', _u32, _to(Handle)),
+        ('give_frame', _u32, _to(Handle), _to(Block)),
+        ('take_frames', _u32, _to(Handle), _to(Block), _size, _to(_size)),
+        ('give_frames', _u32, _to(Handle), _to(Block), _size), ('drain', None, _to(Handle)), ('resting', _u32, _to(Handle)),
         ('frames', _u32, _to(Handle)), ('free_frames', _u32, _to(Handle)), ('free_huge', _u32, _to(Handle)),
         ('zones', _u32, _to(Handle)), ('home', _u32, _to(Handle)), ('set_home', _u32, _to(Handle), _u32),
         ('free_frames_of', _u32, _to(Handle), _u32), ('free_huge_of', _u32, _to(Handle), _u32),
@@ -147,6 +149,22 @@ class Core:
         status = self._call('give_frame', block)
         if block.live:
             self._singles[frame] = block
+        _checked(status)
+
+    def take_frames(self, count):
+        """Up to this many single frames, the last one that came to rest first. Refused where there is none."""
+        blocks, taken = (Block * count)(), _size()
+        _checked(self._call('take_frames', blocks, count, taken))
+        frames = [block.frame for block in blocks[:taken.value]]
+        self._singles.update(zip(frames, blocks))
+        return frames
+
+    def give_frames(self, frames):
+        """Frames as give_frame gives them; where one is refused, none is given."""
+        blocks = [self._singles.pop(frame, Block()) for frame in frames]
+        row = (Block * len(blocks))(*blocks)
+        status = self._call('give_frames', row, len(row))
+        self._singles.update((block.frame, block) for block in row if block.live)
         _checked(status)
 
     def drain(self):

@@ -88,6 +88,23 @@ class Calls(unittest.TestCase):
         second.give_frame(frame)
         self.assertEqual(second.close_image()[::9], [512] * 8)
 
+    def test_single_frames_come_at_once(self):
+        first, second = llfree.open(512, cores=2)
+        status = llfree.Status
+        self.assertEqual(first.take_frames(0), [])
+        taken = first.take_frames(200) + first.take_frames(400)
+        self.assertEqual((len(taken), sorted(taken)), (512, list(range(512))))
+        self.refused(status.NO_BLOCK, second.take_frames, 1)
+        for wrong in (taken[:2] + [512], taken[:2] + taken[1:2]):
+            self.refused(status.NOT_HELD, second.give_frames, wrong)
+        second.give_frames(taken[:100])
+        self.assertEqual((second.resting(), second.take_frames(3)), (100, taken[99:96:-1]))
+        second.give_frames(taken[99:96:-1] + taken[100:])
+        self.refused(status.NOT_HELD, first.give_frame, taken[0])
+        self.assertLess(64, second.resting())
+        second.drain()
+        self.assertEqual(first.free_huge(), 1)
+
     def test_ranges_zones_and_what_is_left(self):
         def free(*zones):
             return [(core.free_frames_of(zone), core.free_huge_of(zone)) for zone in zones]

@@ -1,5 +1,5 @@
 //! A memory's cores, and the blocks that they take and give.
-use crate::form::{Checked, Form, Unchecked};
+use crate::form::{Checked, Form, Unchecked, EMPTY};
 use crate::sys::{self, Handle};
 use crate::{Claim, Range, Refused, FRAME_BYTES};
 use core::fmt;
@@ -198,6 +198,34 @@ impl Core<Unchecked> {
         let Block { right, memory } = self.own(block)?;
         Unchecked::give_frame(&mut self.handle, right)
             .map_err(|(status, right)| comes_back(status, Block { right, memory }))
+    }
+
+    /// Takes up to `N` single frames, as [`Core::take_frame`] again and again, and hands each to `taken`. Their number is
+    /// below `N` only if no frame more was found. Refused if none was found at all.
+    pub fn take_frames<const N: usize>(&mut self, taken: impl FnMut(Block<Unchecked>)) -> Result<usize, Refused> {
+        let (mut rights, memory) = ([EMPTY; N], self.memory);
+        match Unchecked::take_frames(&mut self.handle, &mut rights) {
+            Ok(count) => {
+                rights.into_iter().take(count).map(|right| Block { right, memory }).for_each(taken);
+                Ok(count)
+            }
+            Err(status) => refused(status),
+        }
+    }
+
+    /// Gives these single frames, as [`Core::give_frame`]. If one is refused, all come back.
+    pub fn give_frames<const N: usize>(
+        &mut self, blocks: [Block<Unchecked>; N],
+    ) -> Result<(), (Refused, [Block<Unchecked>; N])> {
+        let memory = self.memory;
+        if blocks.iter().any(|block| block.memory != memory) {
+            return Err((Refused::OtherMemory, blocks));
+        }
+        let mut rights = blocks.map(|block| block.right);
+        Unchecked::give_frames(&mut self.handle, &mut rights).map_err(|status| {
+            let refused = Refused::of(status).err().unwrap_or(Refused::Unknown);
+            (refused, rights.map(|right| Block { right, memory }))
+        })
     }
 
     /// Gives back all frames that rest with this core.

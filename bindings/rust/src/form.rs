@@ -83,7 +83,7 @@ impl Form for Checked {
     }
 }
 
-const EMPTY: Struct = Struct { live: false, frame: 0, order: 0 };
+pub(crate) const EMPTY: Struct = Struct { live: false, frame: 0, order: 0 };
 
 /// What [`Form::take`] and [`Form::give`] are for blocks, for single frames that rest with their core.
 impl Unchecked {
@@ -101,6 +101,24 @@ impl Unchecked {
         match unsafe { sys::llfree_give_frame(handle, &mut right) } {
             0 => Ok(()),
             status => Err((status, right)),
+        }
+    }
+
+    /// How many of these empty structs hold a frame then: the first ones.
+    pub(crate) fn take_frames(handle: &mut Handle, rights: &mut [Struct]) -> Result<usize, u32> {
+        let mut taken = 0;
+        // SAFETY: as above; the structs of a slice, which are empty, and a local.
+        match unsafe { sys::llfree_take_frames(handle, rights.as_mut_ptr(), rights.len(), &mut taken) } {
+            0 => Ok(taken),
+            status => Err(status),
+        }
+    }
+
+    pub(crate) fn give_frames(handle: &mut Handle, rights: &mut [Struct]) -> Result<(), u32> {
+        // SAFETY: as above; the structs of a slice were taken from this memory, which the caller has looked at.
+        match unsafe { sys::llfree_give_frames(handle, rights.as_mut_ptr(), rights.len()) } {
+            0 => Ok(()),
+            status => Err(status),
         }
     }
 }

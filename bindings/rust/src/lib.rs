@@ -17,7 +17,8 @@
 //! stays: no call through a core that is in a call, from a handler that interrupts it or in a child of a fork, and one
 //! heap behind `rattle_alloc` (in the installed library that is `malloc`).
 //!
-//! In the [`Unchecked`] form single frames that are soon taken again may rest with a core ([`Core::take_frame`]).
+//! In the [`Unchecked`] form single frames that are soon taken again may rest with a core ([`Core::take_frame`]),
+//! and several come and go at once ([`Core::take_frames`]).
 //!
 //! The crate has no `std`, no dependency, and allocates nothing but what an opening does. The functions that it calls
 //! are proved; the crate itself is not: it is tested.

@@ -52,6 +52,8 @@ extern "C" {
     pub fn llfree_split_block(handle: *mut Handle, block: *mut Struct, upper: *mut Struct) -> u32;
     pub fn llfree_take_frame(handle: *mut Handle, block: *mut Struct) -> u32;
     pub fn llfree_give_frame(handle: *mut Handle, block: *mut Struct) -> u32;
+    pub fn llfree_take_frames(handle: *mut Handle, blocks: *mut Struct, count: usize, taken: *mut usize) -> u32;
+    pub fn llfree_give_frames(handle: *mut Handle, blocks: *mut Struct, count: usize) -> u32;
     pub fn llfree_drain(handle: *mut Handle);
     pub fn llfree_resting(handle: *mut Handle) -> u32;
 

@@ -233,6 +233,32 @@ fn what_is_refused_of_frames_that_rest() {
     assert_eq!((a.free_frames(), b.resting()), (512, 0));
 }
 
+/// Several at once come as one after another do, and all are refused where one is.
+#[test]
+fn frames_come_and_go_at_once() {
+    let [mut a, mut b]: [Core<Unchecked>; 2] = Core::open(512, &[]).expect("a memory");
+    let [mut other]: [Core<Unchecked>; 1] = Core::open(512, &[]).expect("another memory");
+    let mut blocks = Vec::new();
+    assert_eq!(a.take_frames::<0>(|_| unreachable!()), Ok(0));
+    assert_eq!(a.take_frames::<100>(|block| blocks.push(block)), Ok(100));
+    assert_eq!(a.take_frames::<500>(|block| blocks.push(block)), Ok(412));
+    assert_eq!(a.take_frames::<1>(|_| unreachable!()), Err(Refused::NoBlock));
+    assert_eq!(blocks.iter().map(Block::frame).collect::<std::collections::HashSet<_>>().len(), 512);
+    let twelve: [Block<Unchecked>; 12] = blocks.drain(..12).collect::<Vec<_>>().try_into().expect("twelve");
+    let numbers: Vec<_> = twelve.iter().map(Block::frame).collect();
+    let (refused, twelve) = other.give_frames(twelve).expect_err("of another memory");
+    assert_eq!((refused, other.resting()), (Refused::OtherMemory, 0));
+    b.give_frames(twelve).map_err(|(refused, _)| refused).expect("they rest");
+    assert_eq!((a.resting(), b.resting(), b.free_frames()), (0, 12, 0));
+    let mut again = Vec::new();
+    assert_eq!(b.take_frames::<20>(|block| again.push(block)), Ok(12));
+    assert!(again.iter().map(Block::frame).eq(numbers.iter().rev().copied()), "the last one comes first");
+    blocks.into_iter().chain(again).for_each(|block| a.give(block).expect("a frame is given as a block"));
+    let (pair, single) = (a.take(1).expect("a pair"), a.take(0).expect("a frame"));
+    let (refused, back) = a.give_frames([single, pair]).expect_err("one is too large");
+    assert_eq!((refused, back[0].order(), back[1].order(), a.resting()), (Refused::BadOrder, 0, 1, 0));
+}
+
 /// A core that is dropped gives back what rests with it, and so does one that leaves an image; a refused one keeps it.
 #[test]
 fn a_closing_gives_back_what_rests() {
