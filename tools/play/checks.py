@@ -495,26 +495,6 @@ USERS = '''model.memories.every(m => {
 })'''
 
 
-# of each tile of a film that is less than four points wide: it has one colour, between that of what is free and that of
-# the user with most, as far as frames of it are held
-FADED = '''model.memories.every(m => {
-  const colours = palette().processor.map(packed), free = packed(css('--free')), part = (colour, at) => colour >>> at & 255;
-  if (m.wide >= 4) return false;
-  for (let child = 0; child < m.children; child++) {
-    const users = Array.from({ length: m.colours }, (_, l) => m.layer[(l * m.children + child) * SAID.pictures + model.at]);
-    const held = users.reduce((sum, n) => sum + n), most = colours[users.indexOf(Math.max(...users))];
-    for (let y = 0; y < m.high; y++) for (let x = 0; x < m.wide; x++) {
-      const seen = m.points[m.corner(child) + y * m.canvas.width + x];
-      for (const at of [0, 8, 16]) {
-        const way = held ? (part(most, at) - part(free, at)) * (0.3 + 0.7 * held / 256) : 0;
-        if (Math.abs(part(seen, at) - part(free, at) - way) > 1) return false;
-      }
-    }
-  }
-  return true;
-})'''
-
-
 # of each tile of a film whose points are fewer than twice its colours: it is filled as far as frames of it are held, by
 # its users alone, and where one point has them all, by the one with most
 FILLED = '''model.memories.every(m => {
@@ -617,8 +597,6 @@ def plays(page, name, folder, width, is_dark, pictures):
     else:
         page.value("model.memories.forEach(m => m.fit(3 * m.children ** 0.5 * 2, 1)), show()")
         sees('narrow tiles show their users', page.value(FILLED))
-        page.value("model.memories.forEach(m => m.fit(1.3 * m.children ** 0.5 * 2, 1)), show()")
-        sees('tiles of few points have the colour of who has most', page.value(FADED))
         page.value('fit()')
     page.value("seek(SAID.micros * 0.55)")
     sees('the same after all', page.value('model.digest()') == there)
