@@ -1,8 +1,8 @@
 #!/usr/bin/env bash
 # Linux whose page allocator is the library, compiled from nothing in a folder that goes, and booted: as a program (User
-# Mode Linux), and with `qemu` in QEMU too; then what has to fail in boots of its own. What the machine lacks is
-# said and left out. The last line counts what was tried. It is for the night, and no part of the gate: a compilation
-# takes minutes of a processor.
+# Mode Linux), and what has to fail in boots of its own; with `qemu` both in QEMU too. With
+# `short` it is one boot of some parts, as a program. What the machine lacks is said and left out. The last line counts
+# what was tried. `short` is a part of the gate, and takes minutes of two processors; the rest is for the night.
 set -u
 unset CDPATH MAKEFLAGS MFLAGS
 root=$(cd "$(dirname "$0")/.." && pwd)
@@ -27,14 +27,15 @@ lacks() {
     [ -n "$missing" ] && echo "skipped: $machine, for want of ${missing#, }"
 }
 
-# tries GOAL: of its log the counts are added up, one for each boot; a goal that stops on its way has failed. Before the
-# first boot the log has the counts of the archives.
+# tries GOAL [WORD..]: of its log the counts are added up, one for each boot; a goal that stops on its way has failed.
+# Before the first boot the log has the counts of the archives.
 tries() {
     local counts more fewer ended
-    timeout -k 5 3600 make -C "$root/examples/kernel" "$1" linux="$folder/linux" seconds=900 >"$folder/log" 2>&1
+    timeout -k 5 10800 make -C "$root/examples/kernel" linux="$folder/linux" seconds=900 "$@" >"$folder/log" 2>&1
     ended=$?
     counts=$(sed '1,\|^mm/boot.sh |d' "$folder/log" | grep -xE '[0-9]+ passed, [0-9]+ failed')
-    grep -E ': (ok|failed)$|^--- |^Kernel panic .* is not opened|^invalid opcode' "$folder/log" | sed "s/^/$machine: /"
+    grep -E ': (ok|failed)$|^--- |^Kernel panic .* is not opened|^invalid opcode' "$folder/log" |
+        sed "s/^/$machine: /"
     read -r more fewer < <(echo "$counts" | awk '{ passed += $1; failed += $3 } END { print passed + 0, failed + 0 }')
     [ "$ended" = 0 ] || [ "$fewer" != 0 ] || fewer=1
     [ "$fewer" = 0 ] || tail -n 40 "$folder/log" >&2
@@ -43,9 +44,11 @@ tries() {
 
 needs=(/usr/src/linux-source-6.1.tar.xz cc make flex bison bc patch xz busybox cpio)
 machine='Linux on the library, as a program'
-lacks "${needs[@]}" || for goal in um um-trials; do tries "$goal"; done
+goals=(um um-trials)
+[ "${1-}" = short ] && goals=('um RUN=shells,largest,handlers,drain,twice jobs=2')
+lacks "${needs[@]}" || for goal in "${goals[@]}"; do tries $goal; done
 machine='Linux on the library, in QEMU'
-[ "${1-}" != qemu ] || lacks "${needs[@]}" qemu-system-x86_64 /usr/include/libelf.h ||
-    for goal in mm mm-trials; do tries "$goal"; done
+needs+=(qemu-system-x86_64 /usr/include/libelf.h)
+[ "${1-}" != qemu ] || lacks "${needs[@]}" || for goal in mm mm-trials; do tries "$goal"; done
 echo "$passed passed, $failed failed"
 [ "$failed" = 0 ]

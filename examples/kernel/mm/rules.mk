@@ -58,7 +58,7 @@ parts := shells,archives,fill,oom,handlers,drain,order,twice,frame,used
 um_at := $(seconds) $(linux)/um.log $(linux)/um/image mem=512M con0=null,fd:1 con=null quiet initrd=$(linux)/um/initramfs
 
 um: $(linux)/um/image $(linux)/um/initramfs
-	$(if $(RUN)$(WORDS),,mm/boot.sh $(um_at) run=references llfree=bits)
+	$(if $(RUN)$(WORDS),,mm/boot.sh $(um_at) run=references llfree=bits,alone)
 	mm/boot.sh $(um_at) run=$(or $(RUN),$(parts)) $(or $(WORDS),$(checks))
 
 um-trials: $(linux)/um/image $(linux)/um/initramfs

@@ -3,14 +3,15 @@
  * Page frames of Linux by LLFree. Each zone has an allocator of its own, with two cores for each CPU. Tasks call
  * through one of them, with preemption off. Handlers of interrupts, which may come in the middle of such a call, use
  * the other one, with interrupts off. No NMI gets here. Single frames rest with the core of tasks, in place of Linux'
- * lists of the CPUs. None rest with the other one: no task could take them.
+ * lists of the CPUs; those of orders 1 to 3 stand before the library. None rest with the other core: no task could take
+ * them.
  *
  * The command line has llfree=WORD[,WORD..]:
  *   off      Linux' own free lists
  *   structs  all held blocks are structs in a table of Linux; otherwise those of single frames are, and the library has
  *            a list of the others
- *   lists    Linux' lists of the CPUs stand before the library, and nothing rests
- *   larger   these lists stand before it from order 1 on, and single frames rest
+ *   lists    Linux' lists of the CPUs stand before the library for all orders that they have, and nothing rests
+ *   alone    none of these lists stands before the library, and single frames rest
  *   bits     a bit for each frame, apart from the library: a take must find it clear, a give set
  *   small    wrong on purpose: an opening finds half of the memory that it needs
  */
@@ -56,7 +57,7 @@ struct llfree_zone {
 };
 
 bool llfree_on __ro_after_init = true;
-unsigned int llfree_listed __ro_after_init = LLFREE_ORDERS;
+unsigned int llfree_listed __ro_after_init = 1;
 static bool has_structs __ro_after_init, has_bits __ro_after_init;
 static bool is_small __initdata;
 
@@ -71,8 +72,8 @@ static int __init read_words(char *words)
 			has_structs = true;
 		else if (!strcmp(word, "lists"))
 			llfree_listed = 0;
-		else if (!strcmp(word, "larger"))
-			llfree_listed = 1;
+		else if (!strcmp(word, "alone"))
+			llfree_listed = LLFREE_ORDERS;
 		else if (!strcmp(word, "bits"))
 			has_bits = true;
 		else if (!strcmp(word, "small"))
