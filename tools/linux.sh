@@ -1,6 +1,6 @@
 #!/usr/bin/env bash
 # Linux whose page allocator is the library, compiled from nothing in a folder that goes, and booted: as a program (User
-# Mode Linux), and what has to fail in boots of its own; with `qemu` both in QEMU too. With
+# Mode Linux), and what has to fail in boots of its own; with `qemu` both in QEMU too, and programs of others there. With
 # `short` it is one boot of some parts, as a program. What the machine lacks is said and left out. The last line counts
 # what was tried. `short` is a part of the gate, and takes minutes of two processors; the rest is for the night.
 set -u
@@ -17,6 +17,8 @@ lacks() {
         case $it in
             *linux-source-6.1*) package=linux-source-6.1 ;;
             *libelf*) package=libelf-dev ;;
+            *numa.h) package=libnuma-dev ;;
+            *capability.h) package=libcap-dev ;;
             qemu*) package=qemu-system-x86 ;;
             cc) package=gcc ;;
             xz) package=xz-utils ;;
@@ -34,7 +36,7 @@ tries() {
     timeout -k 5 10800 make -C "$root/examples/kernel" linux="$folder/linux" seconds=900 "$@" >"$folder/log" 2>&1
     ended=$?
     counts=$(sed '1,\|^mm/boot.sh |d' "$folder/log" | grep -xE '[0-9]+ passed, [0-9]+ failed')
-    grep -E ': (ok|failed)$|^--- |^Kernel panic .* is not opened|^invalid opcode' "$folder/log" |
+    grep -E ': (ok|failed)$|: left out, |^--- |^Kernel panic .* is not opened|^invalid opcode' "$folder/log" |
         sed "s/^/$machine: /"
     read -r more fewer < <(echo "$counts" | awk '{ passed += $1; failed += $3 } END { print passed + 0, failed + 0 }')
     [ "$ended" = 0 ] || [ "$fewer" != 0 ] || fewer=1
@@ -50,5 +52,8 @@ lacks "${needs[@]}" || for goal in "${goals[@]}"; do tries $goal; done
 machine='Linux on the library, in QEMU'
 needs+=(qemu-system-x86_64 /usr/include/libelf.h)
 [ "${1-}" != qemu ] || lacks "${needs[@]}" || for goal in mm mm-trials; do tries "$goal"; done
+machine='Programs of others in it'
+needs+=(stress-ng /usr/include/numa.h /usr/include/sys/capability.h)
+[ "${1-}" != qemu ] || lacks "${needs[@]}" || tries foreign
 echo "$passed passed, $failed failed"
 [ "$failed" = 0 ]

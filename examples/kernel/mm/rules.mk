@@ -1,7 +1,8 @@
 # Linux 6.1 whose page allocator is the library (docs/KERNEL.md): `make um` runs it as a program (User Mode Linux), and
-# `make mm` in QEMU; `make um-trials` and `make mm-trials` show what has to fail in boots of its own. RUN names parts of
-# mm/init, WORDS are more of the kernel's command line. It needs Debian's packages linux-source-6.1, xz-utils, flex,
-# bison, bc, busybox-static or busybox, and cpio; in QEMU also libelf-dev.
+# `make mm` in QEMU; `make um-trials` and `make mm-trials` show what has to fail in boots of its own. `make foreign` runs
+# programs of others in QEMU. RUN names parts of mm/init or mm/foreign.sh, WORDS are more of the kernel's command line.
+# It needs Debian's packages linux-source-6.1, xz-utils, flex, bison, bc, busybox-static or busybox, and cpio; in QEMU
+# also libelf-dev; programs of others stress-ng, libnuma-dev and libcap-dev.
 sources := /usr/src/linux-source-6.1.tar.xz
 # may lie outside of the checkout: about 50,000 files
 linux ?= $(abspath $(out))/mm
@@ -11,7 +12,9 @@ unneeded := *.rst *.dts *.dtsi */tools/testing/* */tools/perf/* */sound/*.[ch] *
 	$(patsubst %,*/drivers/%/*.[ch],gpu infiniband media net scsi staging usb)
 llfree_files := $(wildcard mm/llfree/*) linux/include $(root)/include/llfree.h $(library)_kernel.a $(library)_c.a
 comma := ,
-kbuild = unset MAKEFLAGS MFLAGS MAKELEVEL; $(MAKE) -s -C $(linux)/source
+# a compilation gives the same bytes each time
+always_same := $(patsubst %,KBUILD_BUILD_%,TIMESTAMP=@0 VERSION=1 USER=llfree HOST=llfree)
+kbuild = unset MAKEFLAGS MFLAGS MAKELEVEL; $(MAKE) -s -C $(linux)/source $(always_same)
 
 $(linux)/source/unpacked: $(sources) mm/page_alloc.patch
 	rm -rf $(@D)
@@ -48,6 +51,14 @@ $(linux)/um/initramfs: mm/init
 	mkdir -p $(@D)
 	$(call pack,$<)
 
+# behind those of mm those of programs of others
+$(linux)/foreign/files: mm/foreign_files.sh mm/foreign.sh mm/selftests $(linux)/um/image $(linux)/mm/image
+	mkdir -p $(@D)
+	mm/foreign_files.sh $(sources) $(linux) '$(always_same)' $@
+
+$(linux)/foreign/initramfs: $(linux)/mm/initramfs $(linux)/foreign/files
+	cat $^ >$@
+
 $(linux)/mm/initramfs: mm/init $(linux)/mm/image
 	$(call pack,$< $(addprefix $(@D)/,mm/zsmalloc.ko drivers/block/zram/zram.ko))
 
@@ -71,8 +82,9 @@ mm_words := console=ttyS0 quiet panic=-1 no_timer_check
 mm_parts := huge,cpus,swap,$(parts)
 # 6 GiB are two zones, and here three nodes, one of which has both
 of_nodes := numa=fake=3 run=shells,huge,cpus,zones llfree=bits $(without_references)
-# $(call in_qemu,MEMORY,IMAGE), and the words behind it
-in_qemu = $(seconds) $(linux)/mm.log $(qemu) -m $(1) -initrd $(linux)/mm/initramfs -kernel $(linux)/mm/$(2) -append
+# $(call in_qemu,MEMORY,IMAGE[,FILES]), and the words behind it
+in_qemu = $(seconds) $(linux)/$(or $(3),mm).log $(qemu) -m $(1) -initrd $(linux)/$(or $(3),mm)/initramfs \
+	-kernel $(linux)/mm/$(2) -append
 
 mm: $(linux)/mm/image $(linux)/mm/initramfs
 	$(if $(RUN)$(WORDS),,mm/boot.sh $(call in_qemu,6G,image) '$(mm_words) $(of_nodes)')
@@ -85,4 +97,13 @@ mm-trials: $(linux)/mm/image $(linux)/mm/ordinary $(linux)/mm/initramfs
 	mm/boot.sh -l 'llfree: zone .* is not opened: no memory' $(call in_qemu,1G,image) \
 		'$(mm_words) earlyprintk=ttyS0 llfree=small'
 
-.PHONY: um mm um-trials mm-trials
+# an emulator takes its time for what others wrote
+foreign: override seconds := 10800
+foreign: cpus = $(SMP),sockets=$(SMP),cores=1
+foreign_parts := references,selftests,vmalloc,stress,compile
+foreign_words = numa=fake=2 secretmem.enable=y run=$(or $(RUN),$(foreign_parts)) llfree=bits page_poison=1 $(WORDS)
+
+foreign: $(linux)/mm/image $(linux)/foreign/initramfs
+	mm/boot.sh $(call in_qemu,3G,image,foreign) '$(mm_words) $(foreign_words)'
+
+.PHONY: um mm um-trials mm-trials foreign
