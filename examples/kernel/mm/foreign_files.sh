@@ -1,6 +1,6 @@
 #!/usr/bin/env bash
-# Packs what foreign.sh runs: foreign_files.sh SOURCES LINUX SAME OUT. SOURCES is Debian's package of Linux' sources, LINUX
-# the folder where Linux for a program was compiled from them by make with the words SAME, OUT an archive of cpio.
+# Packs what foreign.sh runs: foreign_files.sh SOURCES LINUX SAME OUT. SOURCES is Debian's package of Linux' sources,
+# LINUX the folder where Linux for a program was compiled from them by make with the words SAME, OUT an archive of cpio.
 set -euo pipefail
 here=$(cd "$(dirname "$0")" && pwd)
 sources=$1 linux=$2 same=$3 out=$4

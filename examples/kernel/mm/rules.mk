@@ -1,6 +1,6 @@
 # Linux 6.1 whose page allocator is the library (docs/KERNEL.md): `make um` runs it as a program (User Mode Linux), and
-# `make mm` in QEMU; `make um-trials` and `make mm-trials` show what has to fail in boots of its own. `make foreign` runs
-# programs of others in QEMU. RUN names parts of mm/init or mm/foreign.sh, WORDS are more of the kernel's command line.
+# `make mm` in QEMU; `make um-trials` and `make mm-trials` show what has to fail in boots of its own. `make foreign`
+# runs programs of others in QEMU. RUN names parts of mm/init or mm/foreign.sh, WORDS are more of the kernel's command line.
 # It needs Debian's packages linux-source-6.1, xz-utils, flex, bison, bc, busybox-static or busybox, and cpio; in QEMU
 # also libelf-dev; programs of others stress-ng, libnuma-dev and libcap-dev.
 sources := /usr/src/linux-source-6.1.tar.xz
