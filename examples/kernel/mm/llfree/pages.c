@@ -146,13 +146,16 @@ static llfree_block move_out(struct llfree_zone *zone, u32 frame)
 	return block;
 }
 
-/* Of the frames that rest, if there are any, one is taken; and one more rests after a give, where there is room. */
+/* Of the frames that rest, if there are any, one is taken; if there are none, some may come to rest. One more rests
+ * after a give, where there is room. */
 static __always_inline enum llfree_status take_frame(struct llfree_caller *by, llfree_block *block)
 {
 	enum llfree_status status = llfree_take_frame(&by->core, block);
 
-	if (status == LLFREE_OK && by->resting)
+	if (likely(status == LLFREE_OK && by->resting))
 		by->resting--;
+	else
+		by->resting = llfree_resting(&by->core);
 	return status;
 }
 
