@@ -65,7 +65,7 @@ $(linux)/mm/initramfs: mm/init $(linux)/mm/image
 # the test of references runs at every boot that does not forbid it, and takes minutes with poisoned pages
 without_references := initcall_blacklist=m_in
 checks := llfree=bits page_poison=1 $(without_references)
-parts := shells,archives,fill,oom,handlers,drain,order,twice,frame,used
+parts := shells,largest,archives,fill,oom,handlers,drain,order,twice,frame,used
 um_at := $(seconds) $(linux)/um.log $(linux)/um/image mem=512M con0=null,fd:1 con=null quiet initrd=$(linux)/um/initramfs
 
 um: $(linux)/um/image $(linux)/um/initramfs
