@@ -1,8 +1,7 @@
 #!/usr/bin/env bash
 # Tries the library for kernels, which it builds where it has to: an archive that a kernel may link, one that Linux
-# may, and that others are refused; the programs in C over it; the kernels of examples/kernel in QEMU, and what has to
-# fail in them; then Linux with it as its page allocator, as a program. What the machine lacks is said and left out. The
-# last line counts what was tried.
+# may, and that others are refused; the programs in C over it; then the kernels of examples/kernel in QEMU, and what
+# has to fail in them. What the machine lacks is said and left out. The last line counts what was tried.
 set -u
 unset CDPATH MAKEFLAGS MFLAGS
 root=$(cd "$(dirname "$0")/.." && pwd)
@@ -81,10 +80,4 @@ lacks 'the kernels' "${CC:-cc}" make qemu-system-x86_64 || {
         fi
     }
 }
-
-# Linux whose page allocator is the library
-"$root/tools/linux.sh" short >"$folder/log" || fails 'Linux on the library'
-sed '$d' "$folder/log"
-read -r more _ < <(tail -n 1 "$folder/log")
-passed=$((passed + more))
 echo "$passed passed, 0 failed"

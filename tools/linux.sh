@@ -1,8 +1,8 @@
 #!/usr/bin/env bash
 # Linux whose page allocator is the library, compiled from nothing in a folder that goes, and booted: as a program (User
 # Mode Linux), and what has to fail in boots of its own; with `qemu` both in QEMU too, and programs of others there.
-# With `short` it is one boot of some parts, as a program. What the machine lacks is said and left out. The last line counts
-# what was tried. `short` is a part of the gate, and takes minutes of two processors; the rest is for the night.
+# With `short` it is one boot of some parts, as a program. What the machine lacks is said and left out. The last line
+# counts what was tried. It is for the night, and no part of the gate: a compilation takes minutes of a processor.
 set -u
 unset CDPATH MAKEFLAGS MFLAGS
 root=$(cd "$(dirname "$0")/.." && pwd)
