@@ -6,7 +6,7 @@ use Rattle.frame_model.specs.declared.key.Key.{Key}
 use Rattle.frame_model.specs.declared.view.View.{View}
 use Rattle.frame_model.specs.Key.{IsKey, tree_of}
 use Rattle.frame_table.specs.Mover.{HasAllShares}
-use Rattle.frame_table.specs.Seats.{key_at, view_of, known_of, IsIdleSeat, IsOut}
+use Rattle.frame_table.specs.Seats.{key_at, view_of, words_known_by, IsIdleSeat, IsOut}
 use Rattle.frame_table.specs.declared.block.Block.{Block}
 use Rattle.frame_table.specs.declared.seats.CoreSeat.{CoreSeat}
 use Rattle.core_frames.specs.Habits.{RecordsGive}
@@ -47,7 +47,7 @@ losses_by c = (view_in c).lost
 
 -- all words of the memory, where the core knows them
 abbrev pub known_by : Core → Option (List ℕ)
-known_by c = known_of c.seat
+known_by c = words_known_by c.seat
 
 -- the core has all shares of the memory, so nobody else steps
 abbrev pub StepsAlone : Allocator → Core → Type 0

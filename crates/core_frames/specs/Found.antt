@@ -35,7 +35,7 @@ pub record FindsThrough (a : Allocator) (n : ℕ) (answer : Result Found ℕ) (c
   pub lent : IfErr answer (λ _. lent_by d ≡ lent_by c)
 
 -- such a search by a core, which stays the allocator's, in the moves that a take may make
-pub record Finds (a : Allocator) (n : ℕ) (answer : Result Found ℕ) (c d : Core) : Type 0 where
+pub record FindsAsCore (a : Allocator) (n : ℕ) (answer : Result Found ℕ) (c d : Core) : Type 0 where
   pub stays : StaysCoreOf a c d
   pub finds : FindsThrough a n answer c d
   pub few : moves_by d ≤ moves_by c + most_moves (memory_of a)

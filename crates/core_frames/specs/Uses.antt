@@ -80,7 +80,7 @@ pub record HasGiven (c d : Core) : Type 0 where
 
 -- such a give by a core, which stays the allocator's, in the moves that one may make; where nobody else
 -- steps it is sure of the words then
-pub record Gives (a : Allocator) (c d : Core) : Type 0 where
+pub record GivesAsCore (a : Allocator) (c d : Core) : Type 0 where
   pub stays : StaysCoreOf a c d
   pub gives : HasGiven c d
   pub sure : StepsAlone a c → IsSureOf a d

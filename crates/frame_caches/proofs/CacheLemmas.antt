@@ -11,7 +11,7 @@ use Rattle.core_frames.specs.Cores.{number_of, lent_by, IsCoreOf}
 use Rattle.core_frames.specs.Uses.{IsRefusedFor}
 use Rattle.core_frames.specs.declared.shared.allocator.Allocator.{Allocator}
 use Rattle.core_frames.specs.declared.shared.allocator.Core.{Core}
-use Rattle.frame_caches.specs.Caches.{core_in, resting_in, lent_out}
+use Rattle.frame_caches.specs.Caches.{core_in, cached_in, lent_out}
 use Rattle.frame_caches.specs.Uses.{IsRefusedBehind}
 use Rattle.frame_caches.specs.declared.cached_core.CachedCore.{CachedCore}
 
@@ -36,8 +36,8 @@ newer n xs turned left le e l =
 
 -- a last take by the core as it was in m was refused
 pub refused_behind : (a : Allocator) (n : ℕ) (r : Result Block TakeFault) (c m d : CachedCore) → IsCoreOf a (core_in m)
-    → number_of (core_in m) ≡ number_of (core_in c) → lent_out m ≡ lent_out c → resting_in d ≡ resting_in m
-    → (n ≤ huge_order → resting_in m ≡ []) → (huge_order < n → resting_in m ≡ resting_in c)
+    → number_of (core_in m) ≡ number_of (core_in c) → lent_out m ≡ lent_out c → cached_in d ≡ cached_in m
+    → (n ≤ huge_order → cached_in m ≡ []) → (huge_order < n → cached_in m ≡ cached_in c)
     → IfErr r (λ fault. IsRefusedFor a n (core_in m) (core_in d) fault × (lent_by (core_in d) ≡ lent_by (core_in m)))
     → IfErr r (λ fault. IsRefusedBehind a n fault c d)
 refused_behind a n r c m d is number lent rest empty same =
@@ -53,7 +53,7 @@ refused_behind a n r c m d is number lent rest empty same =
 
 -- the same, seen from where nothing but the list's end was looked at
 pub refused_from : (a : Allocator) (n : ℕ) (r : Result Block TakeFault) (c m d : CachedCore) → n ≡ 0
-    → number_of (core_in m) ≡ number_of (core_in c) → lent_out m ≡ lent_out c → resting_in m ≡ resting_in c
+    → number_of (core_in m) ≡ number_of (core_in c) → lent_out m ≡ lent_out c → cached_in m ≡ cached_in c
     → IfErr r (λ fault. IsRefusedBehind a 0 fault m d) → IfErr r (λ fault. IsRefusedBehind a n fault c d)
 refused_from a n r c m d zero number lent rest =
     subst (λ k. IfErr r (λ fault. IsRefusedBehind a 0 fault m d) → IfErr r (λ fault. IsRefusedBehind a k fault c d)) (sym zero)
@@ -69,7 +69,7 @@ refused_from a n r c m d zero number lent rest =
 
 -- there is no such order
 pub refused_order : (a : Allocator) (n : ℕ) (r : Result Block TakeFault) (c d : CachedCore) → r ≡ Err BadOrder
-    → IsCoreOf a (core_in c) → resting_in d ≡ resting_in c
+    → IsCoreOf a (core_in c) → cached_in d ≡ cached_in c
     → IfErr r (λ fault. IsRefusedFor a n (core_in c) (core_in d) fault × (lent_by (core_in d) ≡ lent_by (core_in c)))
     → IsRefusedBehind a n BadOrder c d
 refused_order a n r c d e is rest err =

@@ -21,8 +21,8 @@ abbrev pub core_in : CachedCore → Core
 core_in c = c.core
 
 -- what rests with it, the oldest first
-abbrev pub resting_in : CachedCore → List Block
-resting_in c = c.rest.items
+abbrev pub cached_in : CachedCore → List Block
+cached_in c = c.rest.items
 
 -- how many may rest
 abbrev pub room_in : CachedCore → ℕ
@@ -34,7 +34,7 @@ half_of c = c.size - c.size / 2
 
 -- how many blocks more callers were handed than they handed in: what rests is lent to nobody
 abbrev pub lent_out : CachedCore → ℤ
-lent_out c = lent_by (core_in c) -ℤ pos (length (resting_in c))
+lent_out c = lent_by (core_in c) -ℤ pos (length (cached_in c))
 
 -- a single frame of the allocator that is out
 pub record IsSingleOf (a : Allocator) (b : Block) : Type 0 where
@@ -44,8 +44,8 @@ pub record IsSingleOf (a : Allocator) (b : Block) : Type 0 where
 -- the core is the allocator's, and no more single frames rest than there is room for
 pub record IsCacheOf (a : Allocator) (c : CachedCore) : Type 0 where
   pub is_core : IsCoreOf a (core_in c)
-  pub are_singles : All (IsSingleOf a) (resting_in c)
-  pub fits : length (resting_in c) ≤ room_in c
+  pub are_singles : All (IsSingleOf a) (cached_in c)
+  pub fits : length (cached_in c) ≤ room_in c
   pub room : room_in c ≤ vec_capacity c.rest
   pub few : room_in c ≤ most_cached
 

@@ -9,7 +9,7 @@ use Rattle.core_frames.specs.Cores.{number_of, kept_by, moves_by, IsCoreOf, IsOu
 use Rattle.core_frames.specs.Uses.{IsRefusedFor}
 use Rattle.core_frames.specs.declared.shared.allocator.Allocator.{Allocator}
 use Rattle.core_frames.specs.declared.shared.allocator.Core.{Core}
-use Rattle.frame_caches.specs.Caches.{core_in, resting_in, lent_out, StaysCacheOf}
+use Rattle.frame_caches.specs.Caches.{core_in, cached_in, lent_out, StaysCacheOf}
 use Rattle.frame_caches.specs.declared.cached_core.CachedCore.{CachedCore}
 
 -- a block of the order is out, and callers have one more
@@ -22,7 +22,7 @@ pub record TakesBehind (a : Allocator) (n : ℕ) (b : Block) (c d : CachedCore) 
 pub record TakesLast (answer : Result Block TakeFault) (c d : CachedCore) : Type 0 where
   pub block : Block
   pub is_it : answer ≡ Ok block
-  pub last : resting_in c ≡ resting_in d ++ block ∷ []
+  pub last : cached_in c ≡ cached_in d ++ block ∷ []
   pub same_core : core_in d ≡ core_in c
 
 -- refused as the allocator refuses it, from where the core was when its last take began: nothing rests then;
@@ -33,13 +33,13 @@ pub record IsRefusedBehind (a : Allocator) (n : ℕ) (fault : TakeFault) (c d : 
   pub same_number : number_of core ≡ number_of (core_in c)
   pub why : IsRefusedFor a n core (core_in d) fault
   pub lent : lent_out d ≡ lent_out c
-  pub empty : n ≤ huge_order → resting_in d ≡ []
-  pub same : huge_order < n → resting_in d ≡ resting_in c
+  pub empty : n ≤ huge_order → cached_in d ≡ []
+  pub same : huge_order < n → cached_in d ≡ cached_in c
 
 -- so many of those that rested went back
 pub record GivesRestBack (a : Allocator) (n : ℕ) (c d : CachedCore) : Type 0 where
   pub stays : StaysCacheOf a c d
   pub kept : kept_by (core_in d) ≡ kept_by (core_in c)
-  pub less : length (resting_in d) + n ≡ length (resting_in c)
+  pub less : length (cached_in d) + n ≡ length (cached_in c)
   pub lent : lent_out d ≡ lent_out c
   pub moves : moves_by (core_in d) ≤ moves_by (core_in c) + most_in_give * n

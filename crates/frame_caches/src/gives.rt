@@ -5,7 +5,7 @@ ghost use Rattle.core_frames.specs.Bounds.{most_in_give};
 ghost use Rattle.core_frames.specs.Cores.{moves_by, kept_by, IsOutOf};
 ghost use Rattle.frame_table.specs.Seats.{block_in};
 ghost use Rattle.frame_caches.specs.Bounds.{most_in_cached_give};
-ghost use Rattle.frame_caches.specs.Caches.{core_in, resting_in, room_in, half_of, lent_out, most_refilled, IsCacheOf, StaysCacheOf};
+ghost use Rattle.frame_caches.specs.Caches.{core_in, cached_in, room_in, half_of, lent_out, most_refilled, IsCacheOf, StaysCacheOf};
 ghost use Rattle.frame_caches.specs.Uses.{GivesRestBack};
 
 use crate::cached_core::CachedCore;
@@ -25,8 +25,8 @@ impl CachedCore {
         ensures lent { lent_out self.new ≡ lent_out self.old -ℤ pos 1 }
         ensures moves { moves_by (core_in self.new) ≤ moves_by (core_in self.old)
             + most_in_cached_give }
-        ensures rests { (block_in block).order ≡ 0 → length (resting_in self.old) < room_in self.old
-            → (core_in self.new ≡ core_in self.old) × (resting_in self.new ≡ resting_in self.old ++ block ∷ []) }
+        ensures rests { (block_in block).order ≡ 0 → length (cached_in self.old) < room_in self.old
+            → (core_in self.new ≡ core_in self.old) × (cached_in self.new ≡ cached_in self.old ++ block ∷ []) }
     {
         if block.order() > 0 {
             allocator.give(&mut self.core, block);
@@ -55,9 +55,9 @@ impl CachedCore {
     #[inline(never)]
     pub(crate) fn flush(&mut self, allocator: &Allocator)
         requires cache { IsCacheOf allocator.now self.old }
-        requires full { room_in self.old ≤ length (resting_in self.old) }
+        requires full { room_in self.old ≤ length (cached_in self.old) }
         ensures gives { GivesRestBack allocator.now (half_of self.old) self.old self.new }
-        ensures newer { resting_in self.new ≡ drop (half_of self.old) (resting_in self.old) }
+        ensures newer { cached_in self.new ≡ drop (half_of self.old) (cached_in self.old) }
     {
         let count = self.half();
         self.turn(allocator, count);
@@ -67,10 +67,10 @@ impl CachedCore {
     // The oldest ones come last.
     fn turn(&mut self, allocator: &Allocator, count: usize)
         requires cache { IsCacheOf allocator.now self.old }
-        requires enough { count ≤ length (resting_in self.old) }
+        requires enough { count ≤ length (cached_in self.old) }
         ensures cache { StaysCacheOf allocator.now self.old self.new }
         ensures core { core_in self.new ≡ core_in self.old }
-        ensures turned { resting_in self.new ≡ drop count (resting_in self.old) ++ take count (resting_in self.old) }
+        ensures turned { cached_in self.new ≡ drop count (cached_in self.old) ++ take count (cached_in self.old) }
     {
         let _ = allocator;
         self.rest.as_mut_slice().rotate_left(count);
@@ -79,9 +79,9 @@ impl CachedCore {
     // Gives so many of those that came last back.
     fn give_last(&mut self, allocator: &Allocator, count: usize)
         requires cache { IsCacheOf allocator.now self.old }
-        requires enough { count ≤ length (resting_in self.old) }
+        requires enough { count ≤ length (cached_in self.old) }
         ensures gives { GivesRestBack allocator.now count self.old self.new }
-        ensures first { resting_in self.new ≡ take (length (resting_in self.old) - count) (resting_in self.old) }
+        ensures first { cached_in self.new ≡ take (length (cached_in self.old) - count) (cached_in self.old) }
     {
         for _i in 0..count {
             self.give_one(allocator);
@@ -92,9 +92,9 @@ impl CachedCore {
     #[inline(always)]
     fn give_one(&mut self, allocator: &Allocator)
         requires cache { IsCacheOf allocator.now self.old }
-        requires some { 0 < length (resting_in self.old) }
+        requires some { 0 < length (cached_in self.old) }
         ensures gives { GivesRestBack allocator.now 1 self.old self.new }
-        ensures first { resting_in self.new ≡ take (length (resting_in self.old) - 1) (resting_in self.old) }
+        ensures first { cached_in self.new ≡ take (length (cached_in self.old) - 1) (cached_in self.old) }
     {
         let Some(block) = self.pop(allocator) else {
             unreachable!()
@@ -106,11 +106,11 @@ impl CachedCore {
     pub fn drain(&mut self, allocator: &Allocator)
         requires { IsCacheOf allocator.now self.old }
         ensures cache { StaysCacheOf allocator.now self.old self.new }
-        ensures empty { resting_in self.new ≡ [] }
+        ensures empty { cached_in self.new ≡ [] }
         ensures kept { kept_by (core_in self.new) ≡ kept_by (core_in self.old) }
         ensures lent { lent_out self.new ≡ lent_out self.old }
         ensures moves { moves_by (core_in self.new) ≤ moves_by (core_in self.old)
-            + most_in_give * length (resting_in self.old) }
+            + most_in_give * length (cached_in self.old) }
     {
         let count = self.rest.len();
         self.give_last(allocator, count);

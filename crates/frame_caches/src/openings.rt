@@ -2,7 +2,7 @@
 
 ghost use Rattle.std.specs.Prelude.{◌≡◌, ◌≤◌, [], IfOk, IfErr, length};
 ghost use Rattle.core_frames.specs.Cores.{IsCoreOf, kept_by, lent_by};
-ghost use Rattle.frame_caches.specs.Caches.{core_in, resting_in, room_in, lent_out, most_cached, IsCacheOf};
+ghost use Rattle.frame_caches.specs.Caches.{core_in, cached_in, room_in, lent_out, most_cached, IsCacheOf};
 
 use crate::cached_core::CachedCore;
 use core_frames::{Allocator, Core};
@@ -21,7 +21,7 @@ impl CachedCore {
         requires size { size ≤ most_cached }
         ensures cache { IfOk result (IsCacheOf allocator.now) }
         ensures core { IfOk result (λ c. core_in c ≡ core) }
-        ensures empty { IfOk result (λ c. resting_in c ≡ []) }
+        ensures empty { IfOk result (λ c. cached_in c ≡ []) }
         ensures size { IfOk result (λ c. room_in c ≡ size) }
         ensures back { IfErr result (λ c. c ≡ core) }
     {
@@ -34,7 +34,7 @@ impl CachedCore {
 
     /// How many frames rest with the core.
     pub fn resting(&self) -> usize
-        ensures { result ≡ length (resting_in self.now) }
+        ensures { result ≡ length (cached_in self.now) }
     {
         self.rest.len()
     }

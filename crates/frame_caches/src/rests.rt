@@ -3,7 +3,7 @@
 ghost use Rattle.std.specs.Prelude.{◌≡◌, ◌+◌, ◌<◌, ◌≤◌, ◌∷◌, ◌++◌, [], IfSome, IfNone, length, true, ◌↔◌};
 ghost use Rattle.core_frames.specs.Cores.{IsOutOf};
 ghost use Rattle.frame_table.specs.Seats.{block_in};
-ghost use Rattle.frame_caches.specs.Caches.{core_in, resting_in, room_in, IsCacheOf, StaysCacheOf};
+ghost use Rattle.frame_caches.specs.Caches.{core_in, cached_in, room_in, IsCacheOf, StaysCacheOf};
 
 use crate::cached_core::CachedCore;
 use core_frames::Allocator;
@@ -18,8 +18,8 @@ impl CachedCore {
         ensures core { core_in self.new ≡ core_in self.old }
         ensures out { IfSome result (IsOutOf allocator.now) }
         ensures single { IfSome result (λ b. (block_in b).order ≡ 0) }
-        ensures last { IfSome result (λ b. resting_in self.old ≡ resting_in self.new ++ b ∷ []) }
-        ensures none { IfNone result ((resting_in self.old ≡ []) × (resting_in self.new ≡ [])) }
+        ensures last { IfSome result (λ b. cached_in self.old ≡ cached_in self.new ++ b ∷ []) }
+        ensures none { IfNone result ((cached_in self.old ≡ []) × (cached_in self.new ≡ [])) }
     {
         let _ = allocator;
         self.rest.pop()
@@ -31,10 +31,10 @@ impl CachedCore {
         requires cache { IsCacheOf allocator.now self.old }
         requires out { IsOutOf allocator.now block }
         requires single { (block_in block).order ≡ 0 }
-        requires room { length (resting_in self.old) < room_in self.old }
+        requires room { length (cached_in self.old) < room_in self.old }
         ensures cache { StaysCacheOf allocator.now self.old self.new }
         ensures core { core_in self.new ≡ core_in self.old }
-        ensures last { resting_in self.new ≡ resting_in self.old ++ block ∷ [] }
+        ensures last { cached_in self.new ≡ cached_in self.old ++ block ∷ [] }
     {
         let _ = allocator;
         self.rest.push_reserved(block);
@@ -43,7 +43,7 @@ impl CachedCore {
     /// Whether one more frame may rest.
     #[inline(always)]
     pub(crate) fn has_room(&self) -> bool
-        ensures { result ≡ true ↔ length (resting_in self.now) < room_in self.now }
+        ensures { result ≡ true ↔ length (cached_in self.now) < room_in self.now }
     {
         self.rest.len() < self.size
     }

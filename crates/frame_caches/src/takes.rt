@@ -4,7 +4,7 @@ ghost use Rattle.std.specs.Prelude.{◌≡◌, ◌+◌, ◌<◌, ◌≤◌, [], 
 ghost use Rattle.core_frames.specs.Bounds.{most_in_fill};
 ghost use Rattle.core_frames.specs.Cores.{memory_of, moves_by, kept_by};
 ghost use Rattle.frame_caches.specs.Bounds.{most_in_cached_take};
-ghost use Rattle.frame_caches.specs.Caches.{core_in, resting_in, lent_out, most_refilled, IsCacheOf, StaysCacheOf};
+ghost use Rattle.frame_caches.specs.Caches.{core_in, cached_in, lent_out, most_refilled, IsCacheOf, StaysCacheOf};
 ghost use Rattle.frame_caches.specs.Uses.{IsRefusedBehind, TakesBehind, TakesLast};
 
 use crate::cached_core::CachedCore;
@@ -26,7 +26,7 @@ impl CachedCore {
             IsRefusedBehind allocator.now order fault self.old self.new) }
         ensures moves { moves_by (core_in self.new) ≤ moves_by (core_in self.old)
             + most_in_cached_take (memory_of allocator.now) }
-        ensures hits { order ≡ 0 → 0 < length (resting_in self.old) → TakesLast result self.old self.new }
+        ensures hits { order ≡ 0 → 0 < length (cached_in self.old) → TakesLast result self.old self.new }
     {
         if order > 0 {
             return self.take_larger(allocator, order);
@@ -41,7 +41,7 @@ impl CachedCore {
     #[inline(never)]
     fn take_anew(&mut self, allocator: &Allocator) -> Result<Block, TakeFault>
         requires cache { IsCacheOf allocator.now self.old }
-        requires empty { resting_in self.old ≡ [] }
+        requires empty { cached_in self.old ≡ [] }
         ensures cache { StaysCacheOf allocator.now self.old self.new }
         ensures kept { kept_by (core_in self.new) ≡ kept_by (core_in self.old) }
         ensures taken { IfOk result (λ b. TakesBehind allocator.now 0 b self.old self.new) }
@@ -60,7 +60,7 @@ impl CachedCore {
     // Half of what the list has room for comes to rest, as far as the own tree has it.
     fn refill(&mut self, allocator: &Allocator)
         requires cache { IsCacheOf allocator.now self.old }
-        requires empty { resting_in self.old ≡ [] }
+        requires empty { cached_in self.old ≡ [] }
         ensures cache { StaysCacheOf allocator.now self.old self.new }
         ensures kept { kept_by (core_in self.new) ≡ kept_by (core_in self.old) }
         ensures lent { lent_out self.new ≡ lent_out self.old }

@@ -6,7 +6,7 @@ ghost use Rattle.low_frames.specs.Alone.{FindsOf};
 ghost use Rattle.core_frames.specs.Bounds.{most_in_split, most_in_join};
 ghost use Rattle.core_frames.specs.Cores.{memory_of, moves_by, known_by, StepsAlone, IsOutOf};
 ghost use Rattle.core_frames.specs.Uses.{SplitsThrough, JoinsThrough};
-ghost use Rattle.frame_caches.specs.Caches.{core_in, resting_in, IsCacheOf, StaysCacheOf};
+ghost use Rattle.frame_caches.specs.Caches.{core_in, cached_in, IsCacheOf, StaysCacheOf};
 
 use crate::cached_core::CachedCore;
 use core_frames::Allocator;
@@ -18,7 +18,7 @@ impl CachedCore {
         requires cache { IsCacheOf allocator.now self.old }
         requires block { IsOutOf allocator.now block }
         ensures cache { StaysCacheOf allocator.now self.old self.new }
-        ensures rests { resting_in self.new ≡ resting_in self.old }
+        ensures rests { cached_in self.new ≡ cached_in self.old }
         ensures splits { SplitsThrough allocator.now block result (core_in self.old) (core_in self.new) }
         ensures moves { moves_by (core_in self.new) ≤ moves_by (core_in self.old) + most_in_split }
     {
@@ -35,7 +35,7 @@ impl CachedCore {
         requires cache { IsCacheOf allocator.now self.old }
         requires blocks { IsOutOf allocator.now lower × IsOutOf allocator.now upper }
         ensures cache { StaysCacheOf allocator.now self.old self.new }
-        ensures rests { resting_in self.new ≡ resting_in self.old }
+        ensures rests { cached_in self.new ≡ cached_in self.old }
         ensures joins { JoinsThrough allocator.now lower upper result (core_in self.old) (core_in self.new) }
         ensures moves { moves_by (core_in self.new) ≤ moves_by (core_in self.old) + most_in_join }
     {
@@ -46,7 +46,7 @@ impl CachedCore {
     pub fn free_frames(&mut self, allocator: &Allocator) -> u32
         requires { IsCacheOf allocator.now self.old }
         ensures cache { StaysCacheOf allocator.now self.old self.new }
-        ensures rests { resting_in self.new ≡ resting_in self.old }
+        ensures rests { cached_in self.new ≡ cached_in self.old }
         ensures few { result ≤ (memory_of allocator.now).frames }
         ensures alone { StepsAlone allocator.now (core_in self.old) → FindsOf
             (λ words. result ≡ free_frames (memory_of allocator.now) words)

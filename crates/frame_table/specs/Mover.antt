@@ -1,7 +1,7 @@
 -- What a seat that steps on its table has, as one value.
 use Rattle.std.specs.Prelude.{◌≡◌, ℕ}
 use Rattle.frame_core.specs.Mover.{Mover}
-use Rattle.frame_table.specs.Seats.{key_at, id_of, view_of, reads_of, known_of, IsOut}
+use Rattle.frame_table.specs.Seats.{key_at, id_of, view_of, reads_of, words_known_by, IsOut}
 use Rattle.frame_table.specs.Ties.{Tied}
 use Rattle.frame_table.specs.declared.block.Block.{Block}
 use Rattle.frame_table.specs.declared.seats.CoreSeat.{CoreSeat}
@@ -32,7 +32,7 @@ mover m = record {
   key = key_at m.table.now;
   view = view_of m.seat.now;
   read = λ i. reads_of m.seat.now i;
-  words = known_of m.seat.now;
+  words = words_known_by m.seat.now;
   missed = m.missed;
   is_undisturbed = HasAllShares m.table.now m.seat.now;
   is_alone = HasAllShares m.table.now m.seat.now;

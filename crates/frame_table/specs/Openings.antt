@@ -14,7 +14,7 @@ use Rattle.frame_model.specs.View.{idle}
 use Rattle.frame_model.specs.Seats.{Cut, adopt}
 use Rattle.frame_model.specs.Without.{without, HasFrames}
 use Rattle.frame_core.specs.Image.{Contents, key_in}
-use Rattle.frame_table.specs.Seats.{key_at, id_of, view_of, known_of, KnowsAll, Sits, IsSeat}
+use Rattle.frame_table.specs.Seats.{key_at, id_of, view_of, words_known_by, KnowsAll, Sits, IsSeat}
 use Rattle.frame_table.specs.declared.ground_seat.GroundSeat.{GroundSeat}
 use Rattle.frame_table.specs.declared.seats.CoreSeat.{CoreSeat}
 use Rattle.frame_table.specs.declared.table.FrameTable.{FrameTable}
@@ -33,7 +33,7 @@ pub record IsNew (t : FrameTable) (s : CoreSeat) : Type 0 where
   pub sits : Sits t s
   pub moves : (view_of s).moves ≤ most_cores
   pub view : view_of s ≡ moved (view_of s).moves (idle (key_at t) 1)
-  pub knows : (key_at t).cores ≡ 1 → KnowsAll (known_of s)
+  pub knows : (key_at t).cores ≡ 1 → KnowsAll (words_known_by s)
 
 -- the table is of this memory, and each of its cores has a seat there, in order and as an opening gives it
 pub record IsOpenedAt (key : Key) (t : FrameTable) (seats : List CoreSeat) : Type 0 where

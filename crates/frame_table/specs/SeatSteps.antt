@@ -8,7 +8,7 @@ use Rattle.frame_model.specs.Steps.{Kind, place, turned, May, effect, after_load
 use Rattle.frame_core.specs.Moves.{ReadsBut}
 use Rattle.frame_core.specs.Mover.{IsApart}
 use Rattle.frame_table.specs.Rule.{IsFoundIn, Learns, left_known, right_eye}
-use Rattle.frame_table.specs.Seats.{key_at, id_of, view_of, reads_of, watch_of, known_of, Sits}
+use Rattle.frame_table.specs.Seats.{key_at, id_of, view_of, reads_of, watch_of, words_known_by, Sits}
 use Rattle.frame_table.specs.declared.seats.CoreSeat.{CoreSeat}
 use Rattle.frame_table.specs.declared.table.FrameTable.{FrameTable}
 
@@ -64,7 +64,7 @@ pub record CutsOff (t : FrameTable) (cut : Cut) (part : Seat (Unit {0}) Watch) (
   pub sits : Sits t new
   pub view : view_of new ≡ left_by next cut (view_of old)
   pub reads : reads_of new ≡ reads_of old
-  pub known : known_of new ≡ left_known cut (watch_of old)
+  pub known : words_known_by new ≡ left_known cut (watch_of old)
   pub table : part.table_id ≡ id_of t
   pub is_part : part.me ≡ (right_eye cut old.seat.me.0, [])
 

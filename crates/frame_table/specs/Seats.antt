@@ -43,8 +43,8 @@ abbrev pub watch_of : CoreSeat → Watch
 watch_of s = s.seat.me.0
 
 -- all words, where the seat knows them
-abbrev pub known_of : CoreSeat → Option (List ℕ)
-known_of s = s.seat.me.0.known
+abbrev pub words_known_by : CoreSeat → Option (List ℕ)
+words_known_by s = s.seat.me.0.known
 
 -- the words are known
 abbrev pub KnowsAll : Option (List ℕ) → Type 0

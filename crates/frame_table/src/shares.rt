@@ -4,7 +4,7 @@ ghost use Rattle.std.specs.Prelude.{◌≡◌, ◌<◌, ◌≤◌};
 ghost use Rattle.frame_model.specs.View.{idle};
 ghost use Rattle.frame_model.specs.Steps.{after_load, next};
 ghost use Rattle.frame_model.specs.Seats.{join_idle, joined_by, left_by, part_share};
-ghost use Rattle.frame_table.specs.Seats.{key_at, known_of, view_of, KnowsAll, IsIdleSeat};
+ghost use Rattle.frame_table.specs.Seats.{key_at, words_known_by, view_of, KnowsAll, IsIdleSeat};
 
 use crate::openings::part_share_off;
 use crate::seats::CoreSeat;
@@ -29,7 +29,7 @@ impl CoreSeat {
         requires { IsIdleSeat table.now self.old }
         ensures seat { IsIdleSeat table.now self.new }
         ensures view { view_of self.new ≡ after_load next (view_of self.old) }
-        ensures knows { KnowsAll (known_of self.new) }
+        ensures knows { KnowsAll (words_known_by self.new) }
         ensures share { (view_of self.new).share ≤ (key_at table.now).cores }
     {
         self.load(table, 0);

@@ -12,7 +12,7 @@ use Rattle.held_blocks.specs.LabelChains.{Chained, IsFirstLive, NoneLive, is_liv
 use Rattle.held_blocks.specs.SlotPages.{HasPage, KeepsSlots, slot_at}
 use Rattle.held_blocks.specs.LabelledBlocks.{IsUnder, IsTheBlock, BeginsAt, HasNone}
 use Rattle.held_blocks.specs.Slots.{held, FindsEntries, IsFound, StandsAt, IsFirstAt, HoldsAt}
-use Rattle.held_blocks.specs.Slots.{KnowsAll, CanMove}
+use Rattle.held_blocks.specs.Slots.{KnowsEachLabel, CanMove}
 use Rattle.held_blocks.proofs.LabelLemmas.{same_label}
 use Rattle.held_blocks.proofs.ChainLists.{chained_less}
 use Rattle.held_blocks.proofs.Slots.{held_push, held_less, none_held, all_at, below_from_some}
@@ -162,7 +162,7 @@ module _ {slots : List (Option LabelledBlock)} {chains : LabelChains} {pages : S
 
   -- the entries can move to where their labels are known, and the pages are the same
   pub can_move : {moved : List (Option LabelledBlock)} {chains' : LabelChains} {pages' : SlotPages}
-      → moved ≡ slots → pages' ≡ pages → KnowsAll slots chains' → CanMove moved chains' pages'
+      → moved ≡ slots → pages' ≡ pages → KnowsEachLabel slots chains' → CanMove moved chains' pages'
   can_move same kept knows = record {
     knows = λ i e h. knows i e (rw same at h);
     pages = λ i e h. let p = (fits.each i e (rw same at h)).page in rw kept p;

@@ -46,8 +46,8 @@ pub record FindsEntries (slots : List (Option LabelledBlock)) (chains : LabelCha
   pub count : live ≡ length (held slots)
 
 -- the labels of all entries of these slots have chains
-abbrev pub KnowsAll : List (Option LabelledBlock) → LabelChains → Type 0
-KnowsAll slots chains =
+abbrev pub KnowsEachLabel : List (Option LabelledBlock) → LabelChains → Type 0
+KnowsEachLabel slots chains =
     (i : ℕ) (e : LabelledBlock) → StandsAt slots i e → Knows chains (packed e.label)
 
 -- chains through no place, with room for so many, for this key and the labels of all these entries
@@ -56,12 +56,12 @@ pub record AreChainsFor (slots : List (Option LabelledBlock)) (count key : ℕ)
   pub blank : IsBlank chains
   pub room : ChainsHaveRoom chains count
   pub knows : Knows chains key
-  pub labels : KnowsAll slots chains
+  pub labels : KnowsEachLabel slots chains
 
 -- the entries of these slots can move to where none stands yet
 pub record CanMove (slots : List (Option LabelledBlock)) (chains : LabelChains)
     (table : SlotPages) : Type 0 where
-  pub knows : KnowsAll slots chains
+  pub knows : KnowsEachLabel slots chains
   pub pages : (i : ℕ) (e : LabelledBlock) → StandsAt slots i e → HasPage table e.block.frame
   pub apart :
       (i j : ℕ) (e f : LabelledBlock) → StandsAt slots i e → StandsAt slots j f

@@ -13,8 +13,8 @@ use Rattle.frame_zones.proofs.Rounds.{some_zone}
 use Rattle.frame_zones.specs.Zones.{zone_count, core_at}
 use Rattle.frame_zones.specs.declared.zones.Zones.{Zones}
 use Rattle.zone_slots.specs.Calls.{zones_of, SharesOne}
-use Rattle.zone_slots.specs.FrameCalls.{resting_in, KeepsRest, lent_out}
-use Rattle.zone_slots.specs.Resting.{most_resting, half_resting, one_in, count_in}
+use Rattle.zone_slots.specs.FrameCalls.{resting_in, KeepsRest, lent_out_in}
+use Rattle.zone_slots.specs.Resting.{most_resting, half_resting, one_in, singles_in}
 use Rattle.zone_slots.specs.Uses.{EachLendsSame}
 use Rattle.zone_slots.specs.declared.core_state.CoreState.{CoreState}
 use Rattle.zone_slots.specs.declared.single_frame.SingleFrame.{SingleFrame}
@@ -52,7 +52,7 @@ none_filled hs s =
         within = omega arith;
         each = All-nil (CarriesSingleOf s);
         others = refl;
-        lent = λ z x within. left (lent_out s z x);
+        lent = λ z x within. left (lent_out_in s z x);
       };
       same = λ zero. refl;
       enough = λ few. record { fewer = omega arith; core = refl };
@@ -88,11 +88,11 @@ one_filled n before items h s t u inside long so shared took =
             (record { single = (took.live, took.order); out = out_still s t h so.shared took.out }));
         others = drop-set-lt (n + 1) items n h (omega arith) ∙ behind_one n items before so.taken.others;
         lent = λ z x within.
-            up (lent_out s z x) (lent_out t z x) (lent_out u z x) (carried_in (zones_of s) first z) (one_in (zones_of s) z h.frame)
+            up (lent_out_in s z x) (lent_out_in t z x) (lent_out_in u z x) (carried_in (zones_of s) first z) (one_in (zones_of s) z h.frame)
             (carried_in (zones_of s) (take (n + 1) (set items n h)) z)
             (so.taken.lent z x within)
             (took.lent z x (subst (λ (zs : Zones). z < zone_count zs) (sym zones) within)
-            ∙ ap (λ (zs : Zones). lent_out t z x +ℤ pos (one_in zs z h.frame)) zones)
+            ∙ ap (λ (zs : Zones). lent_out_in t z x +ℤ pos (one_in zs z h.frame)) zones)
             (carried_more (zones_of s) first (take (n + 1) (set items n h)) h z next);
       };
       same = λ zero. absurd (omega (arith, zero));
@@ -127,11 +127,11 @@ all_filled n before items s t done long so =
 
 -- as many are lent out where each zone lends the same and the same rests
 lends_same : (t u : CoreState) → SharesOne t u → KeepsRest t u → EachLendsSame (zones_of t) t.core u.core
-    → (z : ℕ) (x : Core) → z < zone_count (zones_of t) → lent_out u z x ≡ lent_out t z x
+    → (z : ℕ) (x : Core) → z < zone_count (zones_of t) → lent_out_in u z x ≡ lent_out_in t z x
 lends_same t u shared rest same z x within =
     let zones : zones_of u ≡ zones_of t = λ i. (arc_value (shared i)).zones in
-    ap₂ (λ (zs : Zones) (fs : List SingleFrame). lent_by (core_at u.core z x) -ℤ pos (count_in zs fs z)) zones rest
-    ∙ ap (λ (l : ℤ). l -ℤ pos (count_in (zones_of t) (resting_in t) z)) (same z (some_zone (zones_of t) z within) x within)
+    ap₂ (λ (zs : Zones) (fs : List SingleFrame). lent_by (core_at u.core z x) -ℤ pos (singles_in zs fs z)) zones rest
+    ∙ ap (λ (l : ℤ). l -ℤ pos (singles_in (zones_of t) (resting_in t) z)) (same z (some_zone (zones_of t) z within) x within)
 
 -- none was found behind them
 found_none : (h : BlockHandle) (status : ℕ) (t u : CoreState) → CarriesNothing h → RefusesFrameAs h status t u
@@ -232,7 +232,7 @@ none_given hs s =
       shared = refl;
       empty = All-nil CarriesNothing;
       others = refl;
-      lent = λ z x within. left (lent_out s z x);
+      lent = λ z x within. left (lent_out_in s z x);
       room = λ few. record { more = omega arith; core = refl };
       full = λ many. absurd (omega (arith, many, s.rest.few));
     }
@@ -285,11 +285,11 @@ one_given n before items h empty d s t u inside long at nothing so shared gave =
           (All-push CarriesNothing (take n items) empty so.empty nothing);
       others = drop-set-lt (n + 1) items n empty (omega arith) ∙ behind_one n items before so.others;
       lent = λ z x within.
-          down (lent_out s z x) (lent_out t z x) (lent_out u z x) (carried_in (zones_of s) (take n before) z)
+          down (lent_out_in s z x) (lent_out_in t z x) (lent_out_in u z x) (carried_in (zones_of s) (take n before) z)
           (one_in (zones_of s) z h.frame) (carried_in (zones_of s) (take (n + 1) before) z)
           (so.lent z x within)
           (gave.lent z x (subst (λ (zs : Zones). z < zone_count zs) (sym zones) within)
-          ∙ ap (λ (zs : Zones). lent_out t z x -ℤ pos (one_in zs z h.frame)) zones)
+          ∙ ap (λ (zs : Zones). lent_out_in t z x -ℤ pos (one_in zs z h.frame)) zones)
           (carried_more (zones_of s) (take n before) (take (n + 1) before) h z more);
       room = λ few.
           let was = so.room (omega (arith, few)) in

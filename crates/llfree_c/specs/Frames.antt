@@ -2,7 +2,7 @@
 use Rattle.std.specs.Prelude.{◌≡◌, ◌⊎◌, ℕ, ◌+◌, ◌<◌, [], true, false, length, Option, Some, None}
 use Rattle.frame_zones.specs.declared.zones.ZoneCore.{ZoneCore}
 use Rattle.zone_slots.specs.Calls.{zones_of, SharesOne, KeepsCore}
-use Rattle.zone_slots.specs.FrameCalls.{resting_in, KeepsRest, LendsOneMore, LendsOneLess, LendsAsMany}
+use Rattle.zone_slots.specs.FrameCalls.{resting_in, KeepsRest, LendsOneMore, LendsOneLess, LendsAsManyInEach}
 use Rattle.zone_slots.specs.Resting.{most_resting, half_resting, BringsNone}
 use Rattle.zone_slots.specs.Uses.{EachLendsSame, FindsNothingAnywhere, LoseSome}
 use Rattle.zone_slots.specs.declared.core_state.CoreState.{CoreState}
@@ -68,7 +68,7 @@ KeepsFrameAs held status s t = KeepsRest s t × KeepsCore s t
 pub record Drains (s t : CoreState) : Type 0 where
   pub shared : SharesOne s t
   pub none : resting_in t ≡ []
-  pub lent : LendsAsMany s t
+  pub lent : LendsAsManyInEach s t
 
 -- how many frames rest with the core behind the handle, or 0
 abbrev pub resting_behind : Option CoreState → ℕ

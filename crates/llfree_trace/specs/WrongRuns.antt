@@ -38,10 +38,10 @@ IsNeverAnswered alone key old asked r = (number n k : ℕ) (lines : List Line) (
     → ¬ Runs (refusing alone) key number old (asked ∷ lines) (record { line = n; core = k; reply = r } ∷ answers) new
 
 -- the core that a record names first
-abbrev pub core_at : Line → ℕ
-core_at (line.Ask core request) = core
-core_at (line.Move core label to) = core
-core_at _ = 0
+abbrev pub first_core_of : Line → ℕ
+first_core_of (line.Ask core request) = core
+first_core_of (line.Move core label to) = core
+first_core_of _ = 0
 
 -- the reply is of the record's kind: a take is answered a block that was taken, and so on
 abbrev pub IsOfKind : Line → Reply → Type 0
@@ -99,7 +99,7 @@ IsMeant _ e = ⊥
 -- held
 abbrev pub OtherBlockIsGiven : Type 0
 OtherBlockIsGiven = (alone : Bool) (key : Key) (old : List (List LabelledBlock)) (asked : Line) (e : LabelledBlock)
-    (others : List LabelledBlock) → TakesFirst (IsMeant asked) (core_list old (core_at asked)) e others
+    (others : List LabelledBlock) → TakesFirst (IsMeant asked) (core_list old (first_core_of asked)) e others
     → ((frame o : ℕ) → e.block ≢ block frame o → IsNeverAnswered alone key old asked (reply.Given frame o)
     × IsNeverAnswered alone key old asked (reply.Moved frame o))
     × IsNeverAnswered alone key old asked (reply.Refused fault.NotHeld)
@@ -131,15 +131,15 @@ ListOverlaps = (alone : Bool) (key : Key) (old : List (List LabelledBlock)) (cor
 -- Worked runs.
 
 -- the run of these records from empty lists is answered so, with any numbers
-abbrev pub IsRun : Bool → Key → ℕ → List Line → List Answer → Type 0
-IsRun alone key cores lines answers =
+abbrev pub IsWorkedRun : Bool → Key → ℕ → List Line → List Answer → Type 0
+IsWorkedRun alone key cores lines answers =
     (number : ℕ) × (new : List (List LabelledBlock)) × Runs (refusing alone) key number (replicate cores []) lines answers new
 
 -- of two blocks that a core takes under one label, a give under it is answered the one that was taken first
 abbrev pub FirstTakenIsGivenFirst : Type 0
 FirstTakenIsGivenFirst = (alone : Bool) (key : Key) (cores core : ℕ) (label : List ℕ) (p q : ℕ)
     (frame order other o n m k : ℕ) (r : Reply) → core < cores
-    → IsRun alone key cores
+    → IsWorkedRun alone key cores
     (line.Ask core (request.Take label p) ∷ line.Ask core (request.Take label q) ∷ line.Ask core (request.Give label) ∷ [])
     (record { line = n; core = core; reply = reply.Taken frame order }
     ∷ record { line = m; core = core; reply = reply.Taken other o } ∷ record { line = k; core = core; reply = r } ∷ [])
@@ -149,7 +149,7 @@ FirstTakenIsGivenFirst = (alone : Bool) (key : Key) (cores core : ℕ) (label : 
 abbrev pub EachGivesItsOwn : Type 0
 EachGivesItsOwn = (alone : Bool) (key : Key) (cores core giver : ℕ) (label : List ℕ) (p frame order n m : ℕ) (r : Reply)
     → core < cores → giver < cores → core ≢ giver
-    → IsRun alone key cores (line.Ask core (request.Take label p) ∷ line.Ask giver (request.Give label) ∷ [])
+    → IsWorkedRun alone key cores (line.Ask core (request.Take label p) ∷ line.Ask giver (request.Give label) ∷ [])
     (record { line = n; core = core; reply = reply.Taken frame order } ∷ record { line = m; core = giver; reply = r } ∷ [])
     → r ≡ reply.Refused fault.NotHeld
 
@@ -157,7 +157,7 @@ EachGivesItsOwn = (alone : Bool) (key : Key) (cores core giver : ℕ) (label : L
 abbrev pub WhatMovedIsGiven : Type 0
 WhatMovedIsGiven = (alone : Bool) (key : Key) (cores core giver : ℕ) (label : List ℕ) (p frame order n m k : ℕ) (r s : Reply)
     → core < cores → giver < cores → core ≢ giver
-    → IsRun alone key cores
+    → IsWorkedRun alone key cores
     (line.Ask core (request.Take label p) ∷ line.Move core label giver ∷ line.Ask giver (request.Give label) ∷ [])
     (record { line = n; core = core; reply = reply.Taken frame order }
     ∷ record { line = m; core = core; reply = r } ∷ record { line = k; core = giver; reply = s } ∷ [])

@@ -19,7 +19,7 @@ use Rattle.frame_model.proofs.Steps.Shared.{ground_none, none_out}
 use Rattle.frame_model.proofs.Steps.Seats.{ground_no, idle_is}
 use Rattle.plain_moves.specs.declared.plain.party.Party.{Party}
 use Rattle.plain_moves.specs.declared.plain.party.Company.{Company}
-use Rattle.plain_moves.specs.Plain.{IsFresh, IsOutIn, IsOf, AreOf, AreHeld, Agrees}
+use Rattle.plain_moves.specs.Plain.{IsFresh, IsOutIn, IsOf, AreOf, HaveHolders, Agrees}
 use Rattle.plain_moves.proofs.PlainOpening.{zero_at}
 
 module _ (key : Key) (words : List ℕ) (v : View) where
@@ -78,7 +78,7 @@ module _ (key : Key) (words : List ℕ) (v : View) where
     shares : ℕ
     fit : Fit key shares words (v ∷ views)
     of : AreOf key ps views
-    held : AreHeld key bytes views
+    held : HaveHolders key bytes views
 
   fresh_of : (p : Party) → IsFresh p → IsOf key p (idle key p.share)
   fresh_of p f = record {
@@ -94,7 +94,7 @@ module _ (key : Key) (words : List ℕ) (v : View) where
   }
 
   seated : (bytes : List ℕ) (ps : List Party) → All IsFresh ps → (us : List View) (shares : ℕ)
-      → Fit key shares words (v ∷ us) → AreOf key [] us → AreHeld key bytes us → Beside bytes ps
+      → Fit key shares words (v ∷ us) → AreOf key [] us → HaveHolders key bytes us → Beside bytes ps
   unfolding AreOf
   seated bytes [] fresh us shares fit of held = record { views = us; shares = shares; fit = fit; of = of; held = held }
   seated bytes (p ∷ ps) fresh us shares fit of held =

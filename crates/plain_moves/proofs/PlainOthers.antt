@@ -25,7 +25,7 @@ use Rattle.plain_moves.specs.declared.plain.party.Company.{Company}
 use Rattle.plain_moves.specs.declared.plain.PlainMoves.{PlainMoves}
 use Rattle.plain_moves.specs.PlainState.{view_by, IsParked, IsTurned, IsAlike, IsUnmoved}
 use Rattle.plain_moves.specs.Allowed.{own_stand, their_stand}
-use Rattle.plain_moves.specs.Plain.{plain_key, plain_view, IsOf, AreOf, AreHeld, AreNotBoth, Agrees}
+use Rattle.plain_moves.specs.Plain.{plain_key, plain_view, IsOf, AreOf, HaveHolders, AreNotBoth, Agrees}
 use Rattle.plain_moves.proofs.PlainOuts.{other_stays}
 
 lent_over : (a b c : ℤ) → up (a +ℤ b -ℤ c) + up c + down a + down b ≡ up a + up b + down (a +ℤ b -ℤ c) + down c
@@ -109,7 +109,7 @@ parties_set key (r ∷ ps) (w ∷ us) (suc k) p q u of at is = (of.0, parties_se
 
 -- holders have no share, so they stay where a party's view is changed
 holders_stay : (key : Key) (bytes : List ℕ) (us : List View) (k : ℕ) (u w : View) → get_elem? us k ≡ some u → 0 < u.share
-    → AreHeld key bytes us → AreHeld key bytes (set us k w)
+    → HaveHolders key bytes us → HaveHolders key bytes (set us k w)
 holders_stay key bytes us k u w at has held b out =
     let old = held b out in
     let ne : old.0 ≢ k = (λ e.
@@ -196,7 +196,7 @@ module _ (key : Key) (words bytes : List ℕ) (v w : View) (them new : Company) 
           shares = a.shares;
           fit = fits;
           outs = holders_stay key them.outs.items a.others k u parked there has a.their_outs;
-          their_outs = subst (λ (l : List ℕ). AreHeld key l (set a.others k parked)) (sym outs)
+          their_outs = subst (λ (l : List ℕ). HaveHolders key l (set a.others k parked)) (sym outs)
               (holders_stay key bytes a.others k u parked there has a.outs);
           not_both = subst (λ (l : List ℕ). AreNotBoth them.outs.items l) (sym outs)
               (λ x. ⊎_elim (λ z. inr z) (λ z. inl z) (a.not_both x));

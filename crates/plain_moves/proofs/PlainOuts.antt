@@ -27,7 +27,7 @@ use Rattle.frame_model.proofs.Blocks.{smalls_cons, wholes_cons, in_block}
 use Rattle.frame_model.proofs.Steps.Every.{seat_cut_keeps, seat_join_keeps}
 use Rattle.plain_moves.specs.declared.plain.party.Company.{Company}
 use Rattle.plain_moves.specs.declared.plain.party.Party.{Party}
-use Rattle.plain_moves.specs.Plain.{is_out_byte, out_count, HasNoShare, IsOutIn, plain_tick, plain_view, AreOf, AreHeld, AreNotBoth, Agrees}
+use Rattle.plain_moves.specs.Plain.{is_out_byte, out_count, HasNoShare, IsOutIn, plain_tick, plain_view, AreOf, HaveHolders, AreNotBoth, Agrees}
 use Rattle.plain_moves.specs.PlainLaws.{held_block}
 use Rattle.plain_moves.proofs.PlainOwn.{whole_of}
 
@@ -77,7 +77,7 @@ past_end (b ∷ bs) (suc i) h = past_end bs i (omega arith)
 
 -- no block that is out begins where a block in flight does
 free_in_row : {them : Company} (key : Key) (words own_bytes bytes : List ℕ) (v : View) (b : FrameBlock) (rest : Rest)
-    → MayCut key (hand_out b rest) v → (a : Agrees key them words own_bytes v) → AreHeld key bytes a.others
+    → MayCut key (hand_out b rest) v → (a : Agrees key them words own_bytes v) → HaveHolders key bytes a.others
     → get_or bytes b.frame 0 ≡ 0
 free_in_row key words own_bytes bytes v b rest may a held =
     ⊎_elim
@@ -261,7 +261,7 @@ taken_in {them = them} key words bytes v b agrees share child out =
         (cases_eq x b.frame)
 
     theirs : (a : Agrees key them words bytes v) (i : ℕ) → get_elem? a.others i ≡ some (holder (Some key) b)
-        → AreHeld key them.outs.items (set a.others i spent)
+        → HaveHolders key them.outs.items (set a.others i spent)
     theirs a i at d now =
         let old = a.their_outs d now in
         let ne : d.frame ≢ b.frame = (λ e. ⊎_elim (λ z. omega (arith, z, out.1))

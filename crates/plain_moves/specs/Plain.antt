@@ -137,8 +137,8 @@ AreOf key (p ∷ ps) [] = ⊥
 AreOf key (p ∷ ps) (u ∷ us) = IsOf key p u × AreOf key ps us
 
 -- each block that is out by these bytes has its holder among the views
-abbrev pub AreHeld : Key → List ℕ → List View → Type 0
-AreHeld key bytes us = (b : FrameBlock) → IsOutIn bytes b
+abbrev pub HaveHolders : Key → List ℕ → List View → Type 0
+HaveHolders key bytes us = (b : FrameBlock) → IsOutIn bytes b
     → (i : ℕ) × (get_elem? us i ≡ some (holder (Some key) b))
 
 -- no block begins at one frame by both of these bytes
@@ -150,8 +150,8 @@ pub record Agrees (key : Key) (them : Company) (words bytes : List ℕ) (v : Vie
   pub others : List View
   pub shares : ℕ
   pub fit : Fit key shares words (v ∷ others)
-  pub outs : AreHeld key bytes others
-  pub their_outs : AreHeld key them.outs.items others
+  pub outs : HaveHolders key bytes others
+  pub their_outs : HaveHolders key them.outs.items others
   pub not_both : AreNotBoth bytes them.outs.items
   pub parties : AreOf key them.parties.items others
 

@@ -21,7 +21,7 @@ use Rattle.frame_core.specs.Mover.{FitsOthers, Ticks}
 use Rattle.frame_core.specs.Movers.{sizes_of, fills_none}
 use Rattle.plain_moves.specs.declared.plain.party.Party.{Party}
 use Rattle.plain_moves.specs.declared.plain.party.Company.{Company}
-use Rattle.plain_moves.specs.Plain.{plain_key, plain_tick, is_plain_exact, plain_mover, IsIdleParty, HasNoShare, IsOutIn, IsOf, AreOf, AreHeld, Agrees}
+use Rattle.plain_moves.specs.Plain.{plain_key, plain_tick, is_plain_exact, plain_mover, IsIdleParty, HasNoShare, IsOutIn, IsOf, AreOf, HaveHolders, Agrees}
 
 pub plain_ticks : Ticks plain_tick is_plain_exact
 plain_ticks = record {
@@ -37,7 +37,7 @@ All-of P (y ∷ ys) zero x all e = let h : y ≡ x = cc in subst P h (All-head P
 All-of P (y ∷ ys) (suc i) x all e = All-of P ys i x (All-tail P y ys all) e
 
 pub held_block : (key : Key) (us : List View) (bytes : List ℕ) (b : FrameBlock)
-    → All (IsViewOf key) us → AreHeld key bytes us → IsOutIn bytes b → IsBlock key b
+    → All (IsViewOf key) us → HaveHolders key bytes us → IsOutIn bytes b → IsBlock key b
 held_block key us bytes b all held out =
     let at = held b out in
     All-head (IsBlock key) b [] (All-of (IsViewOf key) us at.0 (holder (Some key) b) all at.1).own

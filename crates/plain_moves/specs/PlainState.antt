@@ -35,8 +35,8 @@ abbrev pub mover_by : PlainMoves → Mover Company FrameBlock
 mover_by m = plain_mover (key_by m) m.them (words_by m) m.outs.items (view_by m)
 
 -- how many moves the own view has made
-abbrev pub moves_by : PlainMoves → ℕ
-moves_by m = m.moves
+abbrev pub moves_made : PlainMoves → ℕ
+moves_made m = m.moves
 
 -- those who wait beside the own view
 abbrev pub parties_by : PlainMoves → List Party

@@ -57,7 +57,7 @@ Plays is_exchange Own old new = PlaysOn is_exchange Own old.stage new.stage
 
 -- the script begins over these moves: eight strangers came, each with one share and nothing in flight,
 -- who have handed out no block, and no cue was reached
-pub record Follows (plain : PlainMoves) (cues : List Cue) (m : ScriptMoves) : Type 0 where
+pub record BeginsScript (plain : PlainMoves) (cues : List Cue) (m : ScriptMoves) : Type 0 where
   pub key : key_by (plain_by m) ≡ key_by plain
   pub view : view_by (plain_by m) ≡ view_by plain
   pub words : words_by (plain_by m) ≡ words_by plain

@@ -13,14 +13,14 @@ use Rattle.script_moves.specs.declared.script.cue.What.TheVariants.{Lose, Strang
 use Rattle.plain_moves.specs.declared.plain.PlainMoves.{PlainMoves}
 use Rattle.script_moves.specs.declared.script.stage.Stage.{Stage}
 use Rattle.plain_moves.specs.Plain.{plain_tick, IsIdleParty, IsOutIn}
-use Rattle.plain_moves.specs.PlainState.{key_by, words_by, view_by, moves_by, parties_by, IsStill, IsUnmoved}
+use Rattle.plain_moves.specs.PlainState.{key_by, words_by, view_by, moves_made, parties_by, IsStill, IsUnmoved}
 use Rattle.plain_moves.specs.Acts.{TheyAct}
 use Rattle.plain_moves.specs.Allowed.{TheyMayAct}
 use Rattle.script_moves.specs.Script.{IsPast, NoneAt, LosesAt, ShowsStop}
 
 -- how many moves the caller has made since the script began
 abbrev pub at_by : Stage → ℕ
-at_by m = moves_by m.plain - m.begun
+at_by m = moves_made m.plain - m.begun
 
 -- the words just before the latest stop, once there was one
 abbrev pub stop_in : Stage → Option Contents
@@ -44,9 +44,9 @@ scripted plain cues read begun missed = record {
   read = λ i. slice_get read i;
   words = Some (words_by plain);
   missed = missed;
-  is_undisturbed = NoneAt (moves_by plain - begun) cues;
-  is_alone = IsOver (moves_by plain - begun) cues plain;
-  loses_at_will = LosesAt (moves_by plain - begun) cues;
+  is_undisturbed = NoneAt (moves_made plain - begun) cues;
+  is_alone = IsOver (moves_made plain - begun) cues plain;
+  loses_at_will = LosesAt (moves_made plain - begun) cues;
   remembers = Unit {0};
   is_out = λ b. IsOutIn plain.outs.items b;
 }

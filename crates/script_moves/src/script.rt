@@ -31,7 +31,7 @@ impl ScriptMoves {
       plain_by,
       skipped_by,
       stop_by,
-      Follows,
+      BeginsScript,
       IsStopOf,
       IsUnstopped,
     };
@@ -41,7 +41,7 @@ impl ScriptMoves {
     pub fn new(alloc: Global, plain: PlainMoves, cues: Vec<Cue>) -> Result<ScriptMoves, PlainMoves>
         requires alone { IsByItself plain }
         ensures back { IfErr result (λ p. p ≡ plain) }
-        ensures follows { IfOk result (Follows plain cues.items) }
+        ensures follows { IfOk result (BeginsScript plain cues.items) }
         ensures begins { IfOk result (λ m. (memory : Key) (ws : List ℕ) → cues.items ≡ []
             → Begins memory ws (⟦<PlainMoves as Moves>⟧.at plain)
             → Begins memory ws (⟦<ScriptMoves as Moves>⟧.at m)) }

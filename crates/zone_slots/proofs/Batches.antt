@@ -18,8 +18,8 @@ use Rattle.frame_zones.specs.Zones.{zone_count, zone_at, core_at, first_frame_of
 use Rattle.frame_zones.specs.declared.zones.Zones.{Zones}
 use Rattle.frame_zones.specs.declared.zones.ZoneCore.{ZoneCore}
 use Rattle.zone_slots.specs.Calls.{zones_of, SharesOne}
-use Rattle.zone_slots.specs.FrameCalls.{resting_in, LendsAsMany, TakesSingle, RefusesOne, RefusesSingle}
-use Rattle.zone_slots.specs.Resting.{IsSingleIn, AreSingles, one_in, count_in, lent_besides, LendAsManyBesides, IsSingleOut, ComeToRest, BringsNone}
+use Rattle.zone_slots.specs.FrameCalls.{resting_in, LendsAsManyInEach, TakesSingle, RefusesOne, RefusesSingle}
+use Rattle.zone_slots.specs.Resting.{IsSingleIn, AreSingles, one_in, singles_in, lent_besides, LendAsManyBesides, IsSingleOfZone, ComeToRest, BringsNone}
 use Rattle.zone_slots.specs.Rights.{IsRightIn}
 use Rattle.zone_slots.specs.Uses.{EachLendsSame, IsRefusedBlock}
 use Rattle.zone_slots.specs.declared.core_state.CoreState.{CoreState}
@@ -35,7 +35,7 @@ batch zs z k n blocks c d a x takes =
 
 -- each is a single frame that is out in the zone
 pub batch_out : (zs : Zones) (z k n : ℕ) (blocks : List Block) (c d : ZoneCore) → AreCoresOf zs c
-    → TakesMoreIn zs z k n [] blocks c d → All (IsSingleOut zs z) blocks
+    → TakesMoreIn zs z k n [] blocks c d → All (IsSingleOfZone zs z) blocks
 batch_out zs z k n blocks c d are takes i e less =
     let x : Core = some_core c z (subst (λ m. z < m) (sym are.parts.count) takes.zone) in record {
       is_out = λ a. (batch zs z k n blocks c d a x takes i e less).is_out;
@@ -61,7 +61,7 @@ none_came zs z frames all = record {
 
 -- one more did
 pub one_came : (zs : Zones) (z n m : ℕ) (b : Block) (f : SingleFrame) (start before after : List SingleFrame)
-    → z < zone_count zs → IsSingleOut zs z b → IsSingleIn zs f → f.frame ≡ first_frame_of zs z + b.frame
+    → z < zone_count zs → IsSingleOfZone zs z b → IsSingleIn zs f → f.frame ≡ first_frame_of zs z + b.frame
     → after ≡ before ++ f ∷ [] → m ≡ n + 1 → ComeToRest zs z n start before → ComeToRest zs z m start after
 one_came zs z n m b f start before after within out single number is next came =
     let a : Allocator = some_zone zs z within in
@@ -96,8 +96,8 @@ batch_rests zs z k n blocks c d before after were are takes came =
       lent = λ i x within.
           elim (cases_eq i z) as (λ _. lent_besides zs d after i x ≡ lent_besides zs c before i x) [
             | inl same ↦ subst (λ j. lent_besides zs d after j x ≡ lent_besides zs c before j x) (sym same)
-                (ap (λ l. l -ℤ pos (count_in zs after z)) (takes.here (some_zone zs z takes.zone) x).lent
-                ∙ up (lent_by (core_at c z x)) k (count_in zs before z) (count_in zs after z) (came.here ∙ ap (λ m. count_in zs before z + m) all))
+                (ap (λ l. l -ℤ pos (singles_in zs after z)) (takes.here (some_zone zs z takes.zone) x).lent
+                ∙ up (lent_by (core_at c z x)) k (singles_in zs before z) (singles_in zs after z) (came.here ∙ ap (λ m. singles_in zs before z + m) all))
             | inr other ↦
                 ap₂ (λ (y : Core) m. lent_by y -ℤ pos m) (takes.others i x within other) (came.others i within other)
           ];
@@ -132,7 +132,7 @@ lends_none zs n c d brings i a x within =
     left l = omega (arith, ints)
 
 -- a single frame was taken where as many were lent in between as before
-pub then_taken : (f : SingleFrame) (s m t : CoreState) → SharesOne s m → LendsAsMany s m → TakesSingle m t f
+pub then_taken : (f : SingleFrame) (s m t : CoreState) → SharesOne s m → LendsAsManyInEach s m → TakesSingle m t f
     → TakesSingle s t f
 then_taken f s m t same as_many taken =
     let zones : zones_of m ≡ zones_of s = λ i. (arc_value (same i)).zones in record {
@@ -143,7 +143,7 @@ then_taken f s m t same as_many taken =
     }
 
 -- and as many are lent from then on
-pub taken_then : (f : SingleFrame) (s m t : CoreState) → SharesOne s m → TakesSingle s m f → LendsAsMany m t
+pub taken_then : (f : SingleFrame) (s m t : CoreState) → SharesOne s m → TakesSingle s m f → LendsAsManyInEach m t
     → TakesSingle s t f
 taken_then f s m t same taken as_many =
     let zones : zones_of m ≡ zones_of s = λ i. (arc_value (same i)).zones in record {

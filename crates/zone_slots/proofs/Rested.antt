@@ -25,9 +25,9 @@ use Rattle.frame_zones.specs.declared.zones.Zones.{Zones}
 use Rattle.frame_zones.specs.declared.zones.ZoneCore.{ZoneCore}
 use Rattle.std.specs.Arc.{arc_value}
 use Rattle.zone_slots.specs.Calls.{zones_of, SharesOne}
-use Rattle.zone_slots.specs.FrameCalls.{resting_in, LendsOneLess, LendsAsMany, TakesSingle, RefusesOne, StopsWithout}
+use Rattle.zone_slots.specs.FrameCalls.{resting_in, LendsOneLess, LendsAsManyInEach, TakesSingle, RefusesOne, StopsWithout}
 use Rattle.zone_slots.specs.Layouts.{end_of_children}
-use Rattle.zone_slots.specs.Resting.{IsSingleIn, AreSingles, stretch_of, one_in, count_in, lent_besides, LendAsManyBesides, HasTakenSingle}
+use Rattle.zone_slots.specs.Resting.{IsSingleIn, AreSingles, stretch_of, one_in, singles_in, lent_besides, LendAsManyBesides, HasTakenSingle}
 use Rattle.zone_slots.specs.Rights.{IsRightFrom}
 use Rattle.zone_slots.specs.Uses.{TakesByNumber, GivesByNumber, IsRefusedBlock}
 use Rattle.zone_slots.specs.declared.core_state.CoreState.{CoreState}
@@ -129,9 +129,9 @@ takes_one zs n c d taken k x before =
 
 -- one frame more rests in the zone of its number
 pub count_more : (zs : Zones) (before after : List SingleFrame) (f : SingleFrame) (z : ℕ) → after ≡ before ++ f ∷ []
-    → count_in zs after z ≡ count_in zs before z + one_in zs z f.frame
+    → singles_in zs after z ≡ singles_in zs before z + one_in zs z f.frame
 count_more zs before after f z is =
-    ap (λ (fs : List SingleFrame). count_in zs fs z) is ∙ sum_by_push (λ (g : SingleFrame). one_in zs z g.frame) before f
+    ap (λ (fs : List SingleFrame). singles_in zs fs z) is ∙ sum_by_push (λ (g : SingleFrame). one_in zs z g.frame) before f
 
 -- what left the list is lent besides
 pub left_list : (l : ℤ) (a b n : ℕ) → a ≡ b + n → l -ℤ pos b ≡ (l -ℤ pos a) +ℤ pos n
@@ -167,8 +167,8 @@ gives_last zs c d before after f are all is given = record {
   are_cores = are;
   are_singles = (popped_all zs before after f is all).0;
   lent = λ z x within.
-      ap (λ l. l -ℤ pos (count_in zs after z)) (gives_one zs f.frame c d given z x within)
-      ∙ down (lent_by (core_at c z x)) (count_in zs before z) (count_in zs after z) (one_in zs z f.frame)
+      ap (λ l. l -ℤ pos (singles_in zs after z)) (gives_one zs f.frame c d given z x within)
+      ∙ down (lent_by (core_at c z x)) (singles_in zs before z) (singles_in zs after z) (one_in zs z f.frame)
       (count_more zs after before f z is);
 }
   where
@@ -185,7 +185,7 @@ turned_all zs n xs ys is all = record {
 
 -- as many of each zone
 pub turned_count : (zs : Zones) (n z : ℕ) (xs ys : List SingleFrame) → ys ≡ drop n xs ++ take n xs
-    → count_in zs ys z ≡ count_in zs xs z
+    → singles_in zs ys z ≡ singles_in zs xs z
 turned_count zs n z xs ys is =
     let f : SingleFrame → ℕ = λ g. one_in zs z g.frame in
     omega (
@@ -212,21 +212,21 @@ newer n xs turned left le e l =
 pub left_rest : (zs : Zones) (c : ZoneCore) (before after : List SingleFrame) (f : SingleFrame) → before ≡ after ++ f ∷ []
     → (z : ℕ) (x : Core) → lent_besides zs c after z x ≡ lent_besides zs c before z x +ℤ pos (one_in zs z f.frame)
 left_rest zs c before after f is z x =
-    left_list (lent_by (core_at c z x)) (count_in zs before z) (count_in zs after z) (one_in zs z f.frame) (count_more zs after before f z is)
+    left_list (lent_by (core_at c z x)) (singles_in zs before z) (singles_in zs after z) (one_in zs z f.frame) (count_more zs after before f z is)
 
 -- a frame came to rest: it is lent no more
 pub came_to_rest : (zs : Zones) (c : ZoneCore) (before after : List SingleFrame) (f : SingleFrame) → after ≡ before ++ f ∷ []
     → (z : ℕ) (x : Core) → lent_besides zs c after z x ≡ lent_besides zs c before z x -ℤ pos (one_in zs z f.frame)
 came_to_rest zs c before after f is z x =
-    into_list (lent_by (core_at c z x)) (count_in zs after z) (count_in zs before z) (one_in zs z f.frame) (count_more zs before after f z is)
+    into_list (lent_by (core_at c z x)) (singles_in zs after z) (singles_in zs before z) (one_in zs z f.frame) (count_more zs before after f z is)
 
 -- a frame was taken, whatever rests
 pub taken_besides : (zs : Zones) (c d : ZoneCore) (frames : List SingleFrame) (n : ℕ) → TakesByNumber zs 0 n c d
     → (z : ℕ) (x : Core) → z < zone_count zs
     → lent_besides zs d frames z x ≡ lent_besides zs c frames z x +ℤ pos (one_in zs z n)
 taken_besides zs c d frames n taken z x within =
-    ap (λ l. l -ℤ pos (count_in zs frames z)) (takes_one zs n c d taken z x within)
-    ∙ turned (lent_by (core_at c z x)) (count_in zs frames z) (one_in zs z n)
+    ap (λ l. l -ℤ pos (singles_in zs frames z)) (takes_one zs n c d taken z x within)
+    ∙ turned (lent_by (core_at c z x)) (singles_in zs frames z) (one_in zs z n)
   where
     turned : (l : ℤ) (a b : ℕ) → (l +ℤ pos b) -ℤ pos a ≡ (l -ℤ pos a) +ℤ pos b
     turned l a b = omega (arith, ints)
@@ -239,7 +239,7 @@ all_given zs c d before after none gives z x within =
     left (lent_by (core_at d z x)) ∙ ap (λ (fs : List SingleFrame). lent_besides zs d fs z x) (sym none) ∙ gives.lent z x within
 
 -- one less is lent out than before, where as many were in between
-pub then_one_less : (s m t : CoreState) (n : ℕ) → SharesOne s m → LendsAsMany s m → LendsOneLess n m t → LendsOneLess n s t
+pub then_one_less : (s m t : CoreState) (n : ℕ) → SharesOne s m → LendsAsManyInEach s m → LendsOneLess n m t → LendsOneLess n s t
 then_one_less s m t n same as_many less z x within =
     let zones : zones_of m ≡ zones_of s = λ i. (arc_value (same i)).zones in
     less z x (subst (λ (zs : Zones). z < zone_count zs) (sym zones) within)

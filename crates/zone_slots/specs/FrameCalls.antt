@@ -27,22 +27,22 @@ abbrev pub IsSingleFor : CoreState → SingleFrame → Type 0
 IsSingleFor s f = IsRightThrough s f.frame 0 f.seat.table_id f.seat.me
 
 -- how many blocks of a zone more the core handed out than came in, without those that rest with it
-abbrev pub lent_out : CoreState → ℕ → Core → ℤ
-lent_out s z x = lent_besides (zones_of s) s.core (resting_in s) z x
+abbrev pub lent_out_in : CoreState → ℕ → Core → ℤ
+lent_out_in s z x = lent_besides (zones_of s) s.core (resting_in s) z x
 
 -- one block more is lent out in the zone of the frame of this number, and as many as before in each other
 abbrev pub LendsOneMore : ℕ → CoreState → CoreState → Type 0
 LendsOneMore n s t = (z : ℕ) (x : Core) → z < zone_count (zones_of s)
-    → lent_out t z x ≡ lent_out s z x +ℤ pos (one_in (zones_of s) z n)
+    → lent_out_in t z x ≡ lent_out_in s z x +ℤ pos (one_in (zones_of s) z n)
 
 -- one block less is lent out in the zone of the frame of this number, and as many as before in each other
 abbrev pub LendsOneLess : ℕ → CoreState → CoreState → Type 0
 LendsOneLess n s t = (z : ℕ) (x : Core) → z < zone_count (zones_of s)
-    → lent_out t z x ≡ lent_out s z x -ℤ pos (one_in (zones_of s) z n)
+    → lent_out_in t z x ≡ lent_out_in s z x -ℤ pos (one_in (zones_of s) z n)
 
 -- as many are lent out in each zone as before
-abbrev pub LendsAsMany : CoreState → CoreState → Type 0
-LendsAsMany s t = (z : ℕ) (x : Core) → z < zone_count (zones_of s) → lent_out t z x ≡ lent_out s z x
+abbrev pub LendsAsManyInEach : CoreState → CoreState → Type 0
+LendsAsManyInEach s t = (z : ℕ) (x : Core) → z < zone_count (zones_of s) → lent_out_in t z x ≡ lent_out_in s z x
 
 -- the right to a single frame left the core
 pub record TakesSingle (s t : CoreState) (f : SingleFrame) : Type 0 where
@@ -50,7 +50,7 @@ pub record TakesSingle (s t : CoreState) (f : SingleFrame) : Type 0 where
   pub lent : LendsOneMore f.frame s t
 
 -- the answer is the frame that came last, which rests no more; the core is as it was in each zone
-pub record TakesLast (answer : Result SingleFrame TakeFault) (s t : CoreState) : Type 0 where
+pub record TakesLastFrame (answer : Result SingleFrame TakeFault) (s t : CoreState) : Type 0 where
   pub frame : SingleFrame
   pub is_it : answer ≡ Ok frame
   pub last : resting_in s ≡ resting_in t ++ frame ∷ []
@@ -80,7 +80,7 @@ pub record RefusesSingle (s t : CoreState) (fault : TakeFault) : Type 0 where
 -- all that rested went back through the core
 pub record HasGivenRest (s : CoreState) (d : ZoneCore) : Type 0 where
   pub are_cores : AreCoresOf (zones_of s) d
-  pub lent : (z : ℕ) (x : Core) → z < zone_count (zones_of s) → lent_by (core_at d z x) ≡ lent_out s z x
+  pub lent : (z : ℕ) (x : Core) → z < zone_count (zones_of s) → lent_by (core_at d z x) ≡ lent_out_in s z x
 
 -- these are the images of all zones, once all that rested has gone back
 pub record StopsWithout (s : CoreState) (images : List ZoneImage) : Type 0 where

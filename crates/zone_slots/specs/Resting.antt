@@ -43,12 +43,12 @@ abbrev pub one_in : Zones → (zone number : ℕ) → ℕ
 one_in zs z n = if lies_in zs z n then 1 else 0
 
 -- how many of these frames lie in the zone
-abbrev pub count_in : Zones → List SingleFrame → ℕ → ℕ
-count_in zs frames z = sum_by (λ f. one_in zs z f.frame) frames
+abbrev pub singles_in : Zones → List SingleFrame → ℕ → ℕ
+singles_in zs frames z = sum_by (λ f. one_in zs z f.frame) frames
 
 -- how many blocks of a zone more were handed out than came in, where these frames rest: they are lent to nobody
 abbrev pub lent_besides : Zones → ZoneCore → List SingleFrame → ℕ → Core → ℤ
-lent_besides zs c frames z x = lent_by (core_at c z x) -ℤ pos (count_in zs frames z)
+lent_besides zs c frames z x = lent_by (core_at c z x) -ℤ pos (singles_in zs frames z)
 
 -- the cores are of these zones, all that rests are rights to single frames of them, and each zone lends as many
 -- blocks besides as before
@@ -64,7 +64,7 @@ pub record HasTakenSingle (zs : Zones) (c d : ZoneCore) (f : SingleFrame) : Type
   pub taken : TakesByNumber zs 0 f.frame c d
 
 -- a single frame is out in the zone
-pub record IsSingleOut (zs : Zones) (z : ℕ) (b : Block) : Type 0 where
+pub record IsSingleOfZone (zs : Zones) (z : ℕ) (b : Block) : Type 0 where
   pub is_out : IsOutOfZone zs z b
   pub single : b.order ≡ 0
 
@@ -72,8 +72,8 @@ pub record IsSingleOut (zs : Zones) (z : ℕ) (b : Block) : Type 0 where
 pub record ComeToRest (zs : Zones) (z n : ℕ) (before after : List SingleFrame) : Type 0 where
   pub are_singles : AreSingles zs after
   pub count : length after ≡ length before + n
-  pub here : count_in zs after z ≡ count_in zs before z + n
-  pub others : (k : ℕ) → k < zone_count zs → ¬ (k ≡ z) → count_in zs after k ≡ count_in zs before k
+  pub here : singles_in zs after z ≡ singles_in zs before z + n
+  pub others : (k : ℕ) → k < zone_count zs → ¬ (k ≡ z) → singles_in zs after k ≡ singles_in zs before k
 
 -- a batch through the core brought none: of up to so many single frames of a zone none was taken, and the core of
 -- every other zone is as before

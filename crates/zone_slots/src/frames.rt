@@ -3,8 +3,8 @@
 ghost use Rattle.std.specs.Prelude.{◌≡◌, ◌-◌, ◌<◌, ◌≤◌, ◌∷◌, ◌++◌, [], drop, length, IfOk, IfErr};
 ghost use Rattle.zone_slots.specs.Calls.{zones_of, SharesOne, CountsNone, RemembersLast};
 ghost use Rattle.zone_slots.specs.Resting.{most_resting, half_resting, BringsNone};
-ghost use Rattle.zone_slots.specs.FrameCalls.{resting_in, IsSingleFor, LendsOneLess, LendsAsMany};
-ghost use Rattle.zone_slots.specs.FrameCalls.{TakesSingle, TakesLast, RestsLast, RefusesOne, RefusesSingle};
+ghost use Rattle.zone_slots.specs.FrameCalls.{resting_in, IsSingleFor, LendsOneLess, LendsAsManyInEach};
+ghost use Rattle.zone_slots.specs.FrameCalls.{TakesSingle, TakesLastFrame, RestsLast, RefusesOne, RefusesSingle};
 
 use crate::core_state::CoreState;
 use crate::frame_list::{HALF, MOST_RESTING};
@@ -19,7 +19,7 @@ impl CoreState {
         ensures shared { SharesOne self.old self.new }
         ensures taken { IfOk result (TakesSingle self.old self.new) }
         ensures refused { IfErr result (RefusesSingle self.old self.new) }
-        ensures hits { 0 < length (resting_in self.old) → TakesLast result self.old self.new }
+        ensures hits { 0 < length (resting_in self.old) → TakesLastFrame result self.old self.new }
         ensures few { resting_in self.old ≡ [] → length (resting_in self.new) < half_resting }
         ensures counted { CountsNone self.old self.new }
         ensures last { RemembersLast self.old self.new }
@@ -55,7 +55,7 @@ impl CoreState {
         requires empty { resting_in self.old ≡ [] }
         requires few { most ≤ half_resting }
         ensures shared { SharesOne self.old self.new }
-        ensures lent { LendsAsMany self.old self.new }
+        ensures lent { LendsAsManyInEach self.old self.new }
         ensures none { resting_in self.new ≡ []
             → BringsNone (zones_of self.old) most self.old.core self.new.core }
         ensures few { length (resting_in self.new) ≤ most }
@@ -135,7 +135,7 @@ impl CoreState {
     fn flush(&mut self)
         requires { length (resting_in self.old) ≡ most_resting }
         ensures shared { SharesOne self.old self.new }
-        ensures lent { LendsAsMany self.old self.new }
+        ensures lent { LendsAsManyInEach self.old self.new }
         ensures rest { resting_in self.new ≡ drop half_resting (resting_in self.old) }
         ensures less { length (resting_in self.new) ≡ half_resting }
         ensures counted { CountsNone self.old self.new }
@@ -150,7 +150,7 @@ impl CoreState {
     pub fn drain(&mut self)
         ensures shared { SharesOne self.old self.new }
         ensures empty { resting_in self.new ≡ [] }
-        ensures lent { LendsAsMany self.old self.new }
+        ensures lent { LendsAsManyInEach self.old self.new }
         ensures counted { CountsNone self.old self.new }
         ensures last { RemembersLast self.old self.new }
     {

@@ -5,7 +5,7 @@ ghost use Rattle.std.specs.List.{All};
 ghost use Rattle.frame_zones.specs.Zones.{zone_count, first_frame_in, AreCoresOf, IsOutOfItsZone};
 ghost use Rattle.zone_slots.specs.Memories.{IsFirstOf};
 ghost use Rattle.zone_slots.specs.Resting.{IsSingleIn, AreSingles, HasTakenSingle, LendAsManyBesides};
-ghost use Rattle.zone_slots.specs.Resting.{IsSingleOut, ComeToRest, BringsNone};
+ghost use Rattle.zone_slots.specs.Resting.{IsSingleOfZone, ComeToRest, BringsNone};
 ghost use Rattle.zone_slots.specs.Uses.{GivesByNumber, IsRefusedBlock};
 
 use crate::first_zone::FirstZone;
@@ -81,7 +81,7 @@ impl Memory {
     )
         requires known { IsFirstOf self.now.zones known }
         requires zone { zone < zone_count self.now.zones }
-        requires out { All (IsSingleOut self.now.zones zone) blocks.old.items }
+        requires out { All (IsSingleOfZone self.now.zones zone) blocks.old.items }
         requires rest { AreSingles self.now.zones rest.old.items }
         requires room { vec_len rest.old + vec_len blocks.old ≤ vec_capacity rest.old }
         ensures rest { ComeToRest self.now.zones zone (length blocks.old.items) rest.old.items rest.new.items }

@@ -7,7 +7,7 @@ ghost use Rattle.frame_table.specs.Seats.{block_in};
 ghost use Rattle.core_frames.specs.Cores.{memory_of, moves_by, StepsAlone, IsSureOf, IsOutOf};
 ghost use Rattle.core_frames.specs.Cores.{IsCoreOf, StaysCoreOf, RecordsGiveAt};
 ghost use Rattle.core_frames.specs.Found.{IsOutAs};
-ghost use Rattle.core_frames.specs.Uses.{TakesThrough, HasGiven, Gives};
+ghost use Rattle.core_frames.specs.Uses.{TakesThrough, HasGiven, GivesAsCore};
 
 use crate::gives::give_by;
 use crate::shared::allocator::{Allocator, Core};
@@ -62,7 +62,7 @@ impl Allocator {
     fn give_huge(&self, core: &mut Core, found: Found)
         requires core { IsCoreOf self.now core.old }
         requires found { IsOutAs self.now huge_order found }
-        ensures gives { Gives self.now core.old core.new }
+        ensures gives { GivesAsCore self.now core.old core.new }
         ensures record { RecordsGiveAt found.frame core.old core.new }
     {
         self.give_of(core, found.with_order(HUGE_ORDER));
@@ -72,7 +72,7 @@ impl Allocator {
     fn give_any(&self, core: &mut Core, found: Found, order: u8)
         requires core { IsCoreOf self.now core.old }
         requires found { IsOutAs self.now order found }
-        ensures gives { Gives self.now core.old core.new }
+        ensures gives { GivesAsCore self.now core.old core.new }
         ensures record { RecordsGiveAt found.frame core.old core.new }
     {
         self.give_of(core, found.with_order(order));
@@ -82,7 +82,7 @@ impl Allocator {
     fn give_of(&self, core: &mut Core, block: Block)
         requires core { IsCoreOf self.now core.old }
         requires block { IsOutOf self.now block }
-        ensures gives { Gives self.now core.old core.new }
+        ensures gives { GivesAsCore self.now core.old core.new }
         ensures record { RecordsGiveAt (block_in block).frame core.old core.new }
     {
         let mut m = SharedMoves::new(&self.table, &mut core.seat);

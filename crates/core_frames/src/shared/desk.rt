@@ -13,7 +13,7 @@ ghost use Rattle.low_frames.specs.Outcomes.{HasNoBootFrame};
 ghost use Rattle.core_frames.specs.Bounds.{most_moves, most_in_give};
 ghost use Rattle.core_frames.specs.Cores.{memory_of, view_in, kept_by, lent_by, moves_by};
 ghost use Rattle.core_frames.specs.Cores.{IsOutOf, IsCoreOf, StaysCoreOf};
-ghost use Rattle.core_frames.specs.Uses.{Gives, IsRefusedAtDesk, LendsAsMany};
+ghost use Rattle.core_frames.specs.Uses.{GivesAsCore, IsRefusedAtDesk, LendsAsMany};
 ghost use Rattle.core_frames.specs.Desks.{list_of, core_of, IsEntryAt, IsDeskOf, StaysDeskOf, IsLeftAlone};
 
 use crate::shared::allocator::{Allocator, Core};
@@ -227,7 +227,7 @@ fn recall(allocator: &Allocator, core: &mut Core, entry: LabelledBlock) -> Block
 fn give_back(allocator: &Allocator, core: &mut Core, block: Block) -> (u32, u8)
     requires core { IsCoreOf allocator.now core.old }
     requires block { IsOutOf allocator.now block }
-    ensures gives { Gives allocator.now core.old core.new }
+    ensures gives { GivesAsCore allocator.now core.old core.new }
     ensures answer { block_at result.0 result.1 ≡ block_in block }
 {
     let answer = (block.frame(), block.order());

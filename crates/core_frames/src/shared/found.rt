@@ -7,7 +7,7 @@ ghost use Rattle.frame_model.specs.View.{holder};
 ghost use Rattle.frame_table.specs.Rule.{watch};
 ghost use Rattle.core_frames.specs.Bounds.{most_in_own_tree, most_elsewhere};
 ghost use Rattle.core_frames.specs.Cores.{memory_of, losses_by, IsCoreOf, StaysCoreOf};
-ghost use Rattle.core_frames.specs.Found.{Finds, HasFound, HasLooked, StaysSureOf, FindsNoneOwn, FindsNoneAtAll};
+ghost use Rattle.core_frames.specs.Found.{FindsAsCore, HasFound, HasLooked, StaysSureOf, FindsNoneOwn, FindsNoneAtAll};
 ghost use Rattle.core_frames.specs.Uses.{HasTaken};
 
 use crate::search::own_tree::take_own;
@@ -58,7 +58,7 @@ impl Allocator {
     pub(crate) fn find(&self, core: &mut Core, order: u8) -> Result<Found, u32>
         requires core { IsCoreOf self.now core.old }
         requires order { order ≤ huge_order }
-        ensures { Finds self.now order result core.old core.new }
+        ensures { FindsAsCore self.now order result core.old core.new }
     {
         match order {
             0 => self.find_base(core),
@@ -70,7 +70,7 @@ impl Allocator {
     #[inline(never)]
     fn find_base(&self, core: &mut Core) -> Result<Found, u32>
         requires { IsCoreOf self.now core.old }
-        ensures { Finds self.now 0 result core.old core.new }
+        ensures { FindsAsCore self.now 0 result core.old core.new }
     {
         self.find_of(core, 0)
     }
@@ -78,7 +78,7 @@ impl Allocator {
     #[inline(never)]
     fn find_huge(&self, core: &mut Core) -> Result<Found, u32>
         requires { IsCoreOf self.now core.old }
-        ensures { Finds self.now huge_order result core.old core.new }
+        ensures { FindsAsCore self.now huge_order result core.old core.new }
     {
         self.find_of(core, HUGE_ORDER)
     }
@@ -87,7 +87,7 @@ impl Allocator {
     fn find_any(&self, core: &mut Core, order: u8) -> Result<Found, u32>
         requires core { IsCoreOf self.now core.old }
         requires order { order ≤ huge_order }
-        ensures { Finds self.now order result core.old core.new }
+        ensures { FindsAsCore self.now order result core.old core.new }
     {
         self.find_of(core, order)
     }
@@ -97,7 +97,7 @@ impl Allocator {
     fn find_of(&self, core: &mut Core, order: u8) -> Result<Found, u32>
         requires core { IsCoreOf self.now core.old }
         requires order { order ≤ huge_order }
-        ensures { Finds self.now order result core.old core.new }
+        ensures { FindsAsCore self.now order result core.old core.new }
     {
         let (own, lost) = self.take_own(core, order);
         match own {

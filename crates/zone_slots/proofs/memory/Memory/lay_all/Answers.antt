@@ -2,7 +2,7 @@ use Rattle.std.proofs.Common.{rules, ◌≡◌, ℕ, ◌+◌, ◌-◌, List, len
 use Rattle.std.proofs.lemmas.List.Elements.{All-pop}
 use Rattle.std.proofs.lemmas.List.{length_push}
 use Rattle.frame_table.specs.declared.block.Block.{Block}
-use Rattle.zone_slots.specs.Resting.{IsSingleOut}
+use Rattle.zone_slots.specs.Resting.{IsSingleOfZone}
 use Rattle.zone_slots.proofs.Batches.{one_came}
 use Rattle.zone_slots.proofs.memory.Memory.lay_all.Goals as goal
 
@@ -15,7 +15,7 @@ loop-block-preserved c =
     let all : ℕ = length c.args.blocks.now.items in
     let b = c.in-Some.block in
     let one : length before ≡ length after + 1 = ap length c.in-Some.ensures.items ∙ length_push after b in
-    let out = All-pop (IsSingleOut zs c.args.zone) before after (Some b) c.in-Some.ensures.items inv.out in
+    let out = All-pop (IsSingleOfZone zs c.args.zone) before after (Some b) c.in-Some.ensures.items inv.out in
     record {
       came = one_came zs c.args.zone (all - length before) (all - length after) b c.single_of-frame.result c.args.rest.now.items
           c.loop-block.rest.items c.push_reserved.new.self.items c.requires.zone out.1 c.single_of-frame.ensures.single
