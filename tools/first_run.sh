@@ -120,7 +120,7 @@ no make|cp "$kit/stand/rt" "$kit/toolchain/bin/clang"; words=(env PATH="$kit/bin
 no rt|words=(env PATH="$work/bin:$(dirname "$(command -v make)")" ./llfree run 1 1)|!rt of the Rattle kit is not on the PATH
 no find, sort or cmp|rm "$work"/bin/{find,sort,cmp}; ln -sf "$(command -v make)" "$(python3 -c 'import sys; print(sys.executable)')" "$work/bin"; words=(env PATH="$kit/bin:$work/bin" ./llfree run 1 1)|low mid llfree
 another kit|words=(./llfree run 1 1); echo 'another logic 2' >"$kit/KIT-ID"|!is none of those that README.md names
-a kit with another rt|echo 'stand-in logic 1' >"$kit/KIT-ID"; cp "$kit/bin/rt" "$work"; sed -i 's/ci_over/ci_above/' "$kit/bin/rt"|!rt has no known step
+a kit with another rt|echo 'stand-in logic 1' >"$kit/KIT-ID"; cp "$kit/bin/rt" "$work"; sed -i 's/ci_over/ci_above/; s/ci_from_nothing/ci_above/' "$kit/bin/rt"|!rt has no known step
 a clone that cannot be written to|cp "$work/rt" "$kit/bin"; chmod -R a-w "$tree"; words=($([ "$(id -u)" = 0 ] && echo setpriv --reuid=65534 --regid=65534 --clear-groups) ./llfree run 1 1)|!this clone cannot be written to
 MAKEFLAGS, CDPATH and POSIXLY_CORRECT|chmod -R u+w "$tree"; edits low/src/lib.rt flags; words=(env MAKEFLAGS=-n CDPATH=/usr POSIXLY_CORRECT=1 ./llfree run 1 1)|low mid llfree
 little room|words=(bash -c 'ulimit -v 60000; exec ./llfree run 1 1')|
