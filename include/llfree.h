@@ -75,9 +75,8 @@ enum llfree_status LLFREE_STATUS_TYPE {
     LLFREE_OPEN_HANDLE = 7,   /* the handle is open already, or the struct holds a block */
     LLFREE_CONTENDED = 8,     /* lost a race with other cores; or (never seen) the library's list had no
                                  place for the block; retry */
-    LLFREE_BAD_RANGE = 9,     /* more than 1024 ranges, or one is empty, overlaps or precedes the one before
-                                 it, or has a frame in a hole or past the end of memory; or there is no such
-                                 zone */
+    LLFREE_BAD_RANGE = 9,     /* more than 1024 ranges; or one is empty, begins before the end of the one
+                                 before it, or has a frame in a hole or past the end; or no such zone */
     LLFREE_NO_ROOM = 10,      /* the buffer is too small for the image */
     LLFREE_CORES_OPEN = 11,   /* other cores of the allocator are open */
     LLFREE_BAD_IMAGE = 12     /* the numbers are no image of a memory of this size */
@@ -121,7 +120,7 @@ typedef struct llfree_range {
 
 /* The length of an image of this many frames: nine numbers for each child, the last of which may be cut off; 0
  * if no memory has this many frames. An image of the zones of llfree_open_zones has the numbers of each zone,
- * one zone after another. The numbers of child c, counted within its zone, are words[9 * c] to words[9 * c + 8]:
+ * one zone after another. Child c, counted within its zone, has words[9 * c] to words[9 * c + 8]:
  *  - words[9 * c]: the number of its free frames, or 32768 if the child is held as one block of order 9.
  *  - words[9 * c + 1 + w], w from 0 to 7: bit b stands for frame 512 * c + 64 * w + b. It is set if the frame is
  *    held by a smaller block, lies in a range that is never given out, or lies past the end of memory. */
@@ -174,8 +173,8 @@ typedef struct llfree_claim {
  * of the zones that llfree_open would make. The counts of free frames are not used, but none may be above 512.
  * On failure the handles are unchanged:
  *  - OPEN_HANDLE (any handle), BAD_GEOMETRY, BAD_ORDER, NO_MEMORY.
- *  - BAD_IMAGE: count is not llfree_image_words(frames), a number is no image's, the last child is cut off and
- *    one block of order 9, or a bit past the end is clear.
+ *  - BAD_IMAGE: count is not llfree_image_words(frames); a number is no image's; the last child is cut off and
+ *    one block of order 9; or a bit past the end is clear.
  *  - NOT_HELD: the image does not hold a claimed block (one of order 9 as such), or two share a frame.
  *  - CONTENDED: a claimed block or a free one was not reached (tested: never seen). */
 LLFREE_NODISCARD
@@ -195,8 +194,8 @@ enum llfree_status llfree_reopen_zones(llfree_core *handles, size_t cores, const
  * held. A take never locks or waits.
  *  - NO_BLOCK: after at least one step in each zone for each of its trees (4096 frames), and without losing an
  *    exchange to another core.
- *  - CONTENDED: after as many steps, and an exchange was lost; or the library's list had no place for the block,
- *    which is free again (never seen with cores of llfree_open).
+ *  - CONTENDED: after as many steps, and an exchange was lost. Or (never seen with cores of llfree_open) the
+ *    library's list had no place for the block, which is free again.
  *  - BAD_ORDER, CLOSED_HANDLE.
  *
  * Neither NO_BLOCK nor CONTENDED says that no block of the order is free. While a core searches a tree, it has
@@ -207,8 +206,8 @@ enum llfree_status llfree_reopen_zones(llfree_core *handles, size_t cores, const
 LLFREE_NODISCARD
 enum llfree_status llfree_take(llfree_core *handle, uint8_t order, uint32_t *frame);
 
-/* Calls llfree_take up to this many times while it answers NO_BLOCK or CONTENDED, and at least once. The last
- * answer. */
+/* Calls llfree_take up to this many times while it answers NO_BLOCK or CONTENDED, and at least once. Answers what
+ * the last call did. */
 LLFREE_NODISCARD
 static inline enum llfree_status llfree_take_retry(llfree_core *handle, uint8_t order, uint32_t *frame,
                                                    uint32_t tries)
@@ -265,8 +264,8 @@ uint32_t llfree_free_frames_of(llfree_core *handle, uint32_t zone);
 uint32_t llfree_free_huge_of(llfree_core *handle, uint32_t zone);
 
 /* Closes the handle of a core, if it is open, and gives back what rests with it (see llfree_take_frame). The last
- * handle of an allocator frees it, together with all blocks that are still held (that all its memory is freed, and
- * what rested, is tested, not proved). */
+ * handle of an allocator frees it, together with all blocks that are still held. (That all its memory is freed, and
+ * what rested, is tested, not proved.) */
 void llfree_close(llfree_core *handle);
 
 /* Writes the memory's image, zone after zone (see llfree_image_words), and then closes the last handle of an
@@ -348,9 +347,9 @@ enum llfree_status llfree_split_block(llfree_core *handle, llfree_block *block, 
  *    kernel an interrupt asks each CPU), above all before it stops for long.
  *  - A closing, with an image or without, first gives back what rests with its core. */
 
-/* Takes a single frame into an empty struct: the one that came to rest with this core last; if none rests, even
- * after up to 64 of the core's tree could, as llfree_take_block takes one of order 0. On failure the struct is
- * unchanged and nothing more is held: NO_BLOCK and CONTENDED as that call, and only if no frame rests with this core;
+/* Takes a single frame into an empty struct: the one that came to rest with this core last. If none rests, and none
+ * of the core's tree can, it takes one as llfree_take_block does at order 0. On failure the struct is unchanged and
+ * nothing more is held: NO_BLOCK and CONTENDED as that call, and only if no frame rests with this core;
  * CLOSED_HANDLE; OPEN_HANDLE if the struct holds a block. It works with cores of llfree_open too; such a frame is not
  * on their list. */
 LLFREE_NODISCARD
@@ -362,17 +361,17 @@ enum llfree_status llfree_take_frame(llfree_core *handle, llfree_block *block);
  * waits. */
 enum llfree_status llfree_give_frame(llfree_core *handle, llfree_block *block);
 
-/* Takes a single frame into each of count empty structs, from the first one on, as llfree_take_frame called again and
- * again does, and writes how many came. They are fewer only if the last of these calls found none; the structs behind
- * them stay empty. Fewer than 64 frames rest then, if not all came from those that rested. On failure the structs and
- * *taken are unchanged and nothing more is held: NO_BLOCK and CONTENDED as that call, only if count is not 0 and no frame
- * came; CLOSED_HANDLE; OPEN_HANDLE if a struct holds a block. */
+/* Takes a single frame into each of count empty structs, from the first one on, as repeated calls of llfree_take_frame
+ * do, and writes how many came. They are fewer only if the last of these calls found none; the structs after them stay
+ * empty. Fewer than 64 frames rest then, if not all came from those that rested. On failure the structs and *taken are
+ * unchanged and nothing more is held: NO_BLOCK and CONTENDED as that call, only if count is not 0 and no frame came;
+ * CLOSED_HANDLE; OPEN_HANDLE if a struct holds a block. */
 LLFREE_NODISCARD
 enum llfree_status llfree_take_frames(llfree_core *handle, llfree_block *blocks, size_t count, size_t *taken);
 
 /* Gives the single frame of each of count structs, from the first one on, as llfree_give_frame does, and empties the
- * structs. On NOT_HELD (a struct is empty), BAD_ORDER (one holds a larger block) and CLOSED_HANDLE nothing changes: none
- * is given. It never locks or waits. */
+ * structs. On NOT_HELD (a struct is empty), BAD_ORDER (one holds a larger block) and CLOSED_HANDLE nothing changes:
+ * none is given. It never locks or waits. */
 enum llfree_status llfree_give_frames(llfree_core *handle, llfree_block *blocks, size_t count);
 
 /* Gives back all frames that rest with this core. It never locks or waits. If the handle is closed it does

@@ -1,6 +1,6 @@
 // LLFree for C++17: a memory that any thread takes from, blocks that give themselves back, and a memory resource for
 // std::pmr. It is inline over llfree_pool.h, for GCC and clang: a call waits only while all cores are taken, and what
-// that header says of forks holds. What the caller keeps is that a memory outlives its blocks and resources.
+// that header says of forks holds. The caller lets a memory outlive its blocks and resources.
 #ifndef LLFREE_HPP
 #define LLFREE_HPP
 

@@ -2,7 +2,7 @@
  * llfree_frames, llfree_cores and llfree_metadata_size. An answer is one number, `val`, negative where a call is
  * refused. What is not declared here cannot be had; docs/C.md lists it.
  *
- * The duties of llfree.h hold. For a caller that is one call at a time for each core, whoever makes it.
+ * The duties of llfree.h hold: one call at a time for each core, whichever thread makes it.
  *
  * llfree_frames is a call of both libraries: of an llfree_t it is theirs, of an llfree_core ours. In C that is told
  * by a macro with _Generic (C11), in C++ by two functions of one name. */
@@ -40,7 +40,7 @@ typedef struct llfree_result {
 
 typedef struct llflags {
     uint8_t order;
-    bool movable; /* is not looked at */
+    bool movable; /* ignored */
 } llflags_t;
 
 typedef struct llfree_meta_size {
@@ -51,7 +51,7 @@ typedef struct llfree_meta {
     uint8_t *local, *trees, *lower;
 } llfree_meta_t;
 
-/* A handle for each core, a cache line apart. Nobody reads or writes it but the calls below, nor moves it. */
+/* A handle for each core, a cache line apart. Only the calls below read or write it, and it is never moved. */
 typedef struct llfree {
     uint32_t frames;
     size_t cores;

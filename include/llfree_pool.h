@@ -1,6 +1,6 @@
 /* Cores for any number of threads, which come and go. Each core stands at a desk. A call sits down at the desk of its
- * processor, or at the next one that is not taken. So a handle has one call at a time, whoever calls. A call waits
- * only while all desks are taken. For GCC and clang.
+ * processor, or at the next one that is not taken. So a handle has one call at a time. A call waits only while all
+ * desks are taken. For GCC and clang.
  *
  *     static llfree_desk desks[8];
  *     llfree_core cores[8] = { LLFREE_CLOSED, .. };
@@ -47,7 +47,7 @@ static inline void llfree_seat_all(llfree_desk *desks, llfree_core *handles, siz
     }
 }
 
-/* Sits down at a desk, whose core nobody else calls through until llfree_leave. There is at least one desk. */
+/* Sits down at a desk: no other thread calls through its core until llfree_leave. There is at least one desk. */
 static inline llfree_desk *llfree_sit(llfree_desk *desks, size_t count)
 {
     for (size_t at = llfree_pool_here();; at++) {

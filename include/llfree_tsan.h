@@ -8,8 +8,8 @@
  *    that takes it does, frame by frame and no more. A use after the give is still a race.
  *  - memcheck: memory that is given may not be touched until it is taken, and is undefined then. Before its first
  *    give it is what the program made of it.
- * A give is told before it is made, since afterwards the next one may have the frames; so what a give that is
- * refused was told stays told. A split needs no telling, nor does llfree_plain, whose calls are in an order.
+ * A give is told before it is made, since afterwards another thread may have the frames. If it is refused, what was
+ * told stays told. A split needs no telling, nor does llfree_plain, whose calls are in an order.
  *
  * A give of numbers is told only where they may be a block of the memory. Of a memory with holes no call says which
  * frames it has: there llfree_give_told_in is handed the zones that the opening was handed. */

@@ -12,10 +12,10 @@
 //! ```
 //!
 //! A [`Core`] takes and gives; each thread has one, or a [`Pool`] shares them. A [`Block`] is the right to its frames:
-//! it is never copied, and only a core of its own memory takes it back. So of the duties that the C header leaves to
-//! the caller those on pointers, handles and structs are kept by the compiler, in the [`Unchecked`] form too. What
-//! stays: no call through a core that is in a call, from a handler that interrupts it or in a child of a fork, and one
-//! heap behind `rattle_alloc` (in the installed library that is `malloc`).
+//! it is never copied, and only a core of its own memory takes it back. So the compiler keeps the C header's duties on
+//! pointers, handles and structs, in the [`Unchecked`] form too. Two are left to the caller. No handler, and no child
+//! of a fork, calls through a core that is in a call. One heap stands behind `rattle_alloc` (in the installed library
+//! that is `malloc`).
 //!
 //! In the [`Unchecked`] form single frames that are soon taken again may rest with a core ([`Core::take_frame`]),
 //! and several come and go at once ([`Core::take_frames`]).
@@ -39,7 +39,7 @@ pub use refused::Refused;
 /// The bytes of a frame.
 pub const FRAME_BYTES: usize = 4096;
 
-/// So many frames from the first on.
+/// A range: its first frame, and how many frames it has.
 #[repr(C)]
 #[derive(Clone, Copy, Debug, PartialEq, Eq)]
 pub struct Range {
