@@ -101,8 +101,8 @@ static inline llfree_core *llfree_handle_of(llfree_t *self, size_t core)
     return &self->core[self->cores ? core % self->cores : 0].handle;
 }
 
-/* The library takes its memory itself: one cache line each, which nobody reads, so that a program that asks for
- * buffers of these sizes gets some. */
+/* The library allocates its memory itself. Each size is one cache line, which nothing reads, so that a program may
+ * allocate buffers of these sizes. */
 static inline llfree_meta_size_t llfree_metadata_size(size_t cores, size_t frames)
 {
     llfree_meta_size_t size = { LLFREE_ALIGN, LLFREE_ALIGN, LLFREE_ALIGN };
@@ -143,7 +143,7 @@ static inline enum llfree_status llfree_open_held(llfree_core *handles, size_t c
     return status;
 }
 
-/* Opens `self`, whatever its bytes are; one that is open is lost by that: llfree_end comes first. */
+/* Opens `self`, whatever its bytes are. An open one would be lost: call llfree_end first. */
 static inline llfree_result_t llfree_init(llfree_t *self, size_t cores, size_t frames, uint8_t init,
                                           llfree_meta_t meta)
 {

@@ -1,4 +1,4 @@
-"""LLFree from Python, for tools: the shared library by ctypes. It is that which LLFREE_SO names, or the installed one.
+"""LLFree from Python, for tools: the shared library by ctypes, which LLFREE_SO names or which is installed.
 
     import llfree
 
@@ -7,7 +7,7 @@
     second.give(frame, 3)
 
 Any thread may call through any core: one call at a time goes through each, and the others wait. A core closes when it
-is closed or nobody has it any more; the last one of a memory frees it. A process forks while no other thread is in a
+is closed or no longer referred to; the last one of a memory frees it. Fork only while no other thread is in a
 call.
 """
 import ctypes
@@ -144,7 +144,7 @@ class Core:
         return block.frame
 
     def give_frame(self, frame):
-        """What take_frame of any core of the memory took comes to rest with this one."""
+        """A frame that take_frame of any core of the memory took comes to rest with this one."""
         block = self._singles.pop(frame, Block())
         status = self._call('give_frame', block)
         if block.live:
@@ -168,7 +168,7 @@ class Core:
         _checked(status)
 
     def drain(self):
-        """Gives back what rests with this core."""
+        """Gives back all frames that rest with this core."""
         self._call('drain')
 
     def resting(self):

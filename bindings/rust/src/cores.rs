@@ -71,7 +71,7 @@ impl<F: Form> fmt::Debug for Core<F> {
 }
 
 impl<F: Form> Core<F> {
-    /// Opens a memory of so many frames with `N` cores, 1 to 64. All frames are free but those of `kept`, which ascend
+    /// Opens a memory of this many frames with `N` cores, 1 to 64. All frames are free but those of `kept`, which ascend
     /// and are never given out.
     pub fn open<const N: usize>(frames: u32, kept: &[Range]) -> Result<[Core<F>; N], Refused> {
         // SAFETY: N closed handles, and the ranges of a slice.
@@ -95,7 +95,7 @@ impl<F: Form> Core<F> {
         }
     }
 
-    /// As [`Core::take`], up to so many times while it is refused for other cores.
+    /// As [`Core::take`], up to this many times while it is refused for other cores.
     pub fn take_retry(&mut self, order: u8, tries: u32) -> Result<Block<F>, Refused> {
         let mut last = self.take(order);
         for _ in 1..tries {
@@ -242,7 +242,7 @@ impl Core<Unchecked> {
 }
 
 impl Core<Checked> {
-    /// Opens a memory of so many frames at the numbers of an image, and hands each claimed block to `claimed`, in
+    /// Opens a memory of this many frames at the numbers of an image, and hands each claimed block to `claimed`, in
     /// order. What the image holds besides is held for good.
     pub fn reopen<const N: usize>(
         frames: u32, words: &[u64], claims: &[Claim], claimed: impl FnMut(Block),
@@ -278,7 +278,7 @@ impl<F: Form> Core<F> {
     }
 }
 
-/// How many numbers the image of so many frames has; 0 where no memory has so many.
+/// How many numbers the image of this many frames has; 0 where no memory has this many.
 pub fn image_words(frames: u32) -> usize {
     // SAFETY: any number is safe.
     unsafe { sys::llfree_image_words(frames) }

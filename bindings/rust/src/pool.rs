@@ -68,7 +68,7 @@ impl<P: Processor, const N: usize, F: Form> Pool<P, N, F> {
     }
 }
 
-/// Whoever drops it leaves the desk, on a panic too.
+/// Its drop leaves the desk, on a panic too.
 struct Seat<'d>(&'d AtomicBool);
 
 impl Drop for Seat<'_> {

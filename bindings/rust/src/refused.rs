@@ -16,7 +16,7 @@ pub enum Refused {
     ClosedHandle = 4,
     /// The heap had no memory for the allocator itself.
     NoMemory = 5,
-    /// No memory has so many frames or cores, or zones may not lie so.
+    /// No memory has this many frames or cores, or zones may not lie so.
     BadGeometry = 6,
     /// Something is behind the handle already.
     OpenHandle = 7,
@@ -28,7 +28,7 @@ pub enum Refused {
     NoRoom = 10,
     /// Other cores of the memory are open.
     CoresOpen = 11,
-    /// The numbers are those of no image of so many frames.
+    /// The numbers are those of no image of this many frames.
     BadImage = 12,
     /// The block is of another memory than the core. The binding says so itself.
     OtherMemory = 100,
