@@ -7,8 +7,7 @@
     second.give(frame, 3)
 
 Any thread may call through any core: one call at a time goes through each, and the others wait. A core closes when it
-is closed or no longer referred to; the last one of a memory frees it. Fork only while no other thread is in a
-call.
+is closed or no longer referred to; the last one of a memory frees it. Fork only while no other thread is in a call.
 """
 import ctypes
 import enum

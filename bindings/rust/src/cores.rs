@@ -71,8 +71,8 @@ impl<F: Form> fmt::Debug for Core<F> {
 }
 
 impl<F: Form> Core<F> {
-    /// Opens a memory of this many frames with `N` cores, 1 to 64. All frames are free but those of `kept`, which ascend
-    /// and are never given out.
+    /// Opens a memory of this many frames with `N` cores, 1 to 64. All frames are free but those of `kept`, which
+    /// ascend and are never given out.
     pub fn open<const N: usize>(frames: u32, kept: &[Range]) -> Result<[Core<F>; N], Refused> {
         // SAFETY: N closed handles, and the ranges of a slice.
         opened(|handles| unsafe { F::OPEN(handles, N, frames, kept.as_ptr(), kept.len()) })
