@@ -42,9 +42,13 @@ def write_csv(lines):
 
 
 def write_table(lines, names, measures):
-    rows = [row for row in csv.DictReader(it for it in lines if not it.startswith('#'))
+    table = csv.DictReader(it for it in lines if not it.startswith('#'))
+    if not set(CASE) <= set(table.fieldnames or ()):
+        raise ValueError('it is no result of bench/paper.sh')
+    rows = [row for row in table
             if (not names or row['benchmark'] in names) and (not measures or row['measure'] in measures)]
-    measured = [it for it in ALLOCATORS if any(row[it] for row in rows)]
+    # an earlier result has no column for what was not measured then
+    measured = [it for it in ALLOCATORS if any(row.get(it) for row in rows)]
     print('| ' + ' | '.join([*CASE[1:], *(ALLOCATORS[it] for it in measured)]) + ' |')
     print('|---' * (len(CASE) - 1 + len(measured)) + '|')
     for row in rows:
