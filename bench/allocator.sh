@@ -16,7 +16,7 @@ rounds=${ROUNDS:-10}
 runs=${RUNS:-5}
 . "$here/two_programs.sh"
 rustc --edition 2021 -O -o "$folder/reference" "$here/reference/allocator/main.rs"
-"$folder/reference" check
+"$folder/reference" check >&2
 
 for run in $(seq "$runs"); do
     shows "run $run of $runs"
