@@ -312,7 +312,7 @@ same_state g h rs bytes e = ap (λ (x : Geometry). state_of x rs bytes) e
 
 -- Words that were known and are known.
 
-both_known : (R : List ℕ → List ℕ → Type 0) (old new : Option (List ℕ)) (ws us : List ℕ) → old ≡ Some ws → new ≡ Some us
+pub both_known : (R : List ℕ → List ℕ → Type 0) (old new : Option (List ℕ)) (ws us : List ℕ) → old ≡ Some ws → new ≡ Some us
     → Turns R old new → R ws us
 both_known R old new ws us e f turn =
     let at : (xs : List ℕ) × ((new ≡ Some xs) × R ws xs) = subst (λ (o : Option (List ℕ)). Turns R o new) e turn in
@@ -476,13 +476,13 @@ module _ (key : Key) (m n : Mover Company FrameBlock) (ws us bytes : List ℕ) (
   -- A give.
 
   module _ (b : FrameBlock) (has : Contains (out_of bytes) b) (exact : ℕ → Type 0) (most : ℕ)
-      (gave : GivesBy (λ (x : FrameBlock). x) exact most HasTakenOne b m n) (so : m.remembers) where
+      (gave : GivesBy (λ (x : FrameBlock). x) exact most HasTakenOne b m n) where
     abbrev given_bytes : List ℕ
     given_bytes = set bytes b.frame 0
 
     less : HoldsMore key us ws b
     less = more_over key us ws b (subst (λ (k : Key). HoldsMore k us ws b) agree.same_key
-        (both_known (λ xs ys. HoldsMore m.key ys xs b) m.words n.words ws us agree.known known (gave.alone_given so agree.alone)))
+        (both_known (λ xs ys. HoldsMore m.key ys xs b) m.words n.words ws us agree.known known (gave.alone_given agree.alone)))
 
     held_less : IsPermutation (held_with key bytes) (b ∷ held_with key given_bytes)
     held_less = IsPermutation-sym (b ∷ held_with key given_bytes) (held_with key bytes)
@@ -513,7 +513,7 @@ module _ (key : Key) (m n : Mover Company FrameBlock) (ws us bytes : List ℕ) (
   -- A split.
 
   module _ (b first second : FrameBlock) (has : Contains (out_of bytes) b) (keeps : KeepsOthers (λ (x : FrameBlock). x) b m n)
-      (out : HandsOutHalves (λ (x : FrameBlock). x) b first second m n) (so : m.remembers) where
+      (out : HandsOutHalves (λ (x : FrameBlock). x) b first second m n) where
     next : b.order ≡ suc (b.order - 1)
     next = omega (arith, out.are_halves.some)
 
@@ -542,7 +542,7 @@ module _ (key : Key) (m n : Mover Company FrameBlock) (ws us bytes : List ℕ) (
 
     halves : HoldsHalves key b first second ws us
     halves = halves_over key b first second ws us (subst (λ (k : Key). HoldsHalves k b first second ws us) agree.same_key
-        (both_known (HoldsHalves m.key b first second) m.words n.words ws us agree.known known (out.alone so agree.alone)))
+        (both_known (HoldsHalves m.key b first second) m.words n.words ws us agree.known known (out.alone agree.alone (us, known))))
 
     two : IsBlock key first × IsBlock key second
     two = halves_are key b first second block_here out.are_halves

@@ -360,7 +360,7 @@ given_then {T} {H} {t} {exact} ticks {a} {b} {c} {block_of} {held} V n m k h is 
       let t = give.knows alone in
       let u = at_known b.words (λ ws. (us : List ℕ) × ((c.words ≡ Some us) × SameFrames b.key ws us)) t.0 t.1
       (f.alone (give.keeps.stays_alone alone)) in (u.0, u.1.0);
-  alone_given = λ so alone.
-      given_then_keeps a.key a.words b.words c.words (block_of held) is (give.alone_given so alone)
+  alone_given = λ alone.
+      given_then_keeps a.key a.words b.words c.words (block_of held) is (give.alone_given alone)
       (subst (λ i. KeepsFrames i b.words c.words) give.keeps.same_key (f.alone (give.keeps.stays_alone alone)));
 }

@@ -3,7 +3,7 @@ use Rattle.std.specs.Prelude.{◌≡◌, ◌≢◌, ℕ, ◌+◌, ◌%◌, ◌^�
 use Rattle.frame_words.specs.Runs.{four_order}
 use Rattle.frame_model.specs.declared.block.FrameBlock.{FrameBlock}
 use Rattle.frame_model.specs.View.{IsIdle}
-use Rattle.frame_core.specs.Mover.{Mover}
+use Rattle.frame_core.specs.Mover.{Mover, KnowsWords}
 use Rattle.low_frames.specs.Takes.{Counts}
 use Rattle.low_frames.specs.Alone.{Turns}
 use Rattle.core_frames.specs.Bounds.{most_in_join}
@@ -33,14 +33,14 @@ pub record KeepsAllBut {T H : Type 0} (block_of : H → FrameBlock) (lower upper
   pub others_out : (c : H) → block_of c ≢ lower → block_of c ≢ upper → old.is_out c → new.is_out c
 
 -- the block of both buddies is out in their place, and one block less is lent; where nobody else
--- steps no word has changed
+-- steps no word has changed, if the words are known after it
 pub record HandsOutWhole {T H : Type 0} (block_of : H → FrameBlock) (lower upper b : H)
     (old new : Mover T H) : Type 0 where
   pub are_buddies : AreBuddies (block_of lower) (block_of upper)
   pub are_halves : AreHalves (block_of b) (block_of lower) (block_of upper)
   pub is_out : new.is_out b
   pub view : HasTakenOne old.view new.view
-  pub alone : old.remembers → old.is_alone → Turns SameWords old.words new.words
+  pub alone : old.is_alone → KnowsWords new → Turns SameWords old.words new.words
 
 -- a join: the block of both is out; or they are no buddies, and were handed back
 pub record JoinsBy {T H : Type 0} (block_of : H → FrameBlock) (exact : ℕ → Type 0) (lower upper : H)

@@ -185,4 +185,4 @@ pub record GivesBy {T H : Type 0} (block_of : H → FrameBlock) (exact : ℕ →
   pub counts : Counts exact most old new
   pub back : V old.view new.view
   pub knows : old.is_alone → KnowsWords new
-  pub alone_given : old.remembers → old.is_alone → WordsGive old.key old.words new.words (block_of given)
+  pub alone_given : old.is_alone → WordsGive old.key old.words new.words (block_of given)

@@ -10,7 +10,7 @@ use Rattle.frame_model.specs.Key.{frame_count}
 use Rattle.frame_model.specs.Block.{block, IsBlock, small_at, whole_at, smalls, wholes}
 use Rattle.frame_model.specs.Words.{bit_of, huge_of}
 use Rattle.frame_model.specs.View.{IsIdle}
-use Rattle.frame_core.specs.Mover.{Mover, KeepsOthers}
+use Rattle.frame_core.specs.Mover.{Mover, Keeps, KeepsOthers, KnowsWords}
 use Rattle.frame_model.specs.Report.{held_at}
 use Rattle.low_frames.specs.Takes.{Counts}
 use Rattle.low_frames.specs.Alone.{Turns}
@@ -43,14 +43,14 @@ pub record MaySplit {T H : Type 0} (block : H) (m : Mover T H) : Type 0 where
   pub held : m.is_out block
 
 -- the halves of the block are out in its place, and one block more is lent; where nobody else steps
--- its frames are held as theirs, and every other as before
+-- its frames are held as theirs, and every other as before, if the words are known after it
 pub record HandsOutHalves {T H : Type 0} (block_of : H → FrameBlock) (b first second : H)
     (old new : Mover T H) : Type 0 where
   pub are_halves : AreHalves (block_of b) (block_of first) (block_of second)
   pub first_out : new.is_out first
   pub second_out : new.is_out second
   pub view : HasLentOne old.view new.view
-  pub alone : old.remembers → old.is_alone
+  pub alone : old.is_alone → KnowsWords new
       → Turns (HoldsHalves old.key (block_of b) (block_of first) (block_of second)) old.words new.words
 
 -- a split: the halves are out; or the block, which has none, was handed back
@@ -102,13 +102,21 @@ pub record BringsIn {T H : Type 0} (block_of : H → FrameBlock) (exact : ℕ �
   pub counts : Counts exact most_to_bring_in old new
   pub view : Bears old.view new.view.own old.view.filled (old.view.lent -ℤ pos 1) new.view
   pub two : MakeTwo old.key (block_of b).frame ((block_of b).order - 1) new.view.own
-  pub alone : old.remembers → old.is_alone → Turns (LosesFlag old.key (block_of b)) old.words new.words
+  pub alone : old.is_alone → Turns (LosesFlag old.key (block_of b)) old.recalled new.recalled
 
 -- the child as a whole is all that is in flight
 pub record MayBreakUp {T H : Type 0} (c : ℕ) (m : Mover T H) : Type 0 where
   pub child : c < m.key.children
   pub share : 0 < m.view.share
   pub own : m.view.own ≡ block (child_frames * c) huge_order ∷ []
+
+-- in at most so many moves the view turned so, and where nobody else steps the words that were recalled
+pub record TurnsRecalled {T H : Type 0} (exact : ℕ → Type 0) (most : ℕ) (V : View → View → Type 0)
+    (W : List ℕ → List ℕ → Type 0) (old new : Mover T H) : Type 0 where
+  pub keeps : Keeps old new
+  pub counts : Counts exact most old new
+  pub view : V old.view new.view
+  pub alone : old.is_alone → Turns W old.recalled new.recalled
 
 -- the view is as before, but for its counts, and its huge frame is two blocks of order 8
 abbrev pub HasBrokenUp : ℕ → View → View → Type 0
@@ -132,6 +140,7 @@ SameWords old new = new ≡ old
 pub record HandsOutTwo {T H : Type 0} (block_of : H → FrameBlock) (exact : ℕ → Type 0)
     (frame order : ℕ) (first second : H) (old new : Mover T H) : Type 0 where
   pub brings : Brings exact 2 HasLentTwo SameWords old new
+  pub recalled : old.is_alone → new.recalled ≡ old.recalled
   pub lower : block_of first ≡ block frame order
   pub upper : block_of second ≡ block (frame + 2 ^ order) order
   pub first_out : new.is_out first

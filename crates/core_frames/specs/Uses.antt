@@ -5,6 +5,7 @@ use Rattle.frame_words.specs.declared.fault.Fault.{Fault}
 use Rattle.frame_words.specs.declared.fault.Fault.TheVariants as fault
 use Rattle.frame_words.specs.declared.fault.TakeFault.{TakeFault}
 use Rattle.frame_words.specs.declared.fault.TakeFault.TheVariants.{BadOrder, NoBlock, Contended}
+use Rattle.frame_model.specs.declared.block.FrameBlock.{FrameBlock}
 use Rattle.frame_model.specs.declared.view.View.{View}
 use Rattle.frame_model.specs.Key.{tree_count}
 use Rattle.frame_model.specs.Holding.{IsFreeBlock}
@@ -17,7 +18,7 @@ use Rattle.core_frames.specs.declared.shared.allocator.Core.{Core}
 use Rattle.core_frames.specs.Bounds.{most_in_give}
 use Rattle.core_frames.specs.Cores.{memory_of, view_in, kept_by, lent_by, moves_by, losses_by, known_by, StepsAlone, IsSureOf, IsOutOf, StaysCoreOf}
 use Rattle.core_frames.specs.Alone.{FindsNoBlock}
-use Rattle.low_frames.specs.Alone.{Turns, WordsTake}
+use Rattle.low_frames.specs.Alone.{Turns, WordsTake, WordsGive}
 use Rattle.core_frames.specs.Splits.{AreHalves}
 use Rattle.core_frames.specs.Joins.{AreBuddies}
 
@@ -78,11 +79,16 @@ pub record HasGiven (c d : Core) : Type 0 where
   pub kept : kept_by d ≡ kept_by c
   pub lent : lent_by d ≡ lent_by c -ℤ pos 1
 
--- such a give by a core, which stays the allocator's, in the moves that one may make; where nobody else
--- steps it is sure of the words then
-pub record GivesAsCore (a : Allocator) (c d : Core) : Type 0 where
+-- where nobody else steps, the frames of the block, held before, are free; every other is as before
+abbrev pub GivesAlone : Allocator → FrameBlock → Core → Core → Type 0
+GivesAlone a b c d = StepsAlone a c → WordsGive (memory_of a) (known_by c) (known_by d) b
+
+-- such a give of the block by a core, which stays the allocator's, in the moves that one may make; where
+-- nobody else steps just its frames become free, and the core is sure of the words then
+pub record GivesAsCore (a : Allocator) (b : FrameBlock) (c d : Core) : Type 0 where
   pub stays : StaysCoreOf a c d
   pub gives : HasGiven c d
+  pub alone : GivesAlone a b c d
   pub sure : StepsAlone a c → IsSureOf a d
   pub few : moves_by d ≤ moves_by c + most_in_give
 

@@ -12,7 +12,7 @@ ghost use Rattle.core_frames.specs.WrongAnswers.{TakenPastTheEnd, KeptIsClearAtC
 ghost use Rattle.core_frames.specs.WrongAnswers.{KeptOverlapAtClosing, KeptIsLostAtClosing};
 ghost use Rattle.core_frames.specs.WrongAnswers.{KeptIsClearAtStop, KeptOverlapAtStop};
 ghost use Rattle.core_frames.specs.WrongAnswers.{KeptIsLostAtStop, SeatIsElsewhere};
-ghost use Rattle.core_frames.specs.WrongAnswers.{SplitIsWrong, JoinIsWrong, CountIsWrong, DeskLends};
+ghost use Rattle.core_frames.specs.WrongAnswers.{GiveIsWrong, SplitIsWrong, JoinIsWrong, CountIsWrong, DeskLends};
 
 /// The bounds on moves are these numbers, so that no part of their formulas can grow unseen; and no call
 /// at a desk makes more than its own.
@@ -69,6 +69,12 @@ pub fn wrong_answers_are_not_told()
     ensures overlap_at_stop { KeptOverlapAtStop }
     ensures lost_at_stop { KeptIsLostAtStop }
     ensures elsewhere { SeatIsElsewhere }
+{}
+
+/// No give of a core that steps alone leaves what is wrong: a frame of its block held, or a frame beside it
+/// held or free otherwise than before.
+pub fn wrong_gives_are_not_told()
+    ensures { GiveIsWrong }
 {}
 
 /// No split, no join and no count answers what is wrong: no blocks that are not the two halves of the

@@ -4,13 +4,13 @@ ghost use Rattle.std.specs.Prelude.{◌≡◌, ◌+◌, ◌*◌, ◌≤◌, OnEr
 ghost use Rattle.frame_words.specs.Geometry.{child_frames, huge_order};
 ghost use Rattle.frame_model.specs.Block.{block};
 ghost use Rattle.core_frames.specs.Bounds.{most_to_break_up, most_in_split};
-ghost use Rattle.core_frames.specs.Searches.{Brings};
 ghost use Rattle.core_frames.specs.Splits.{
   MaySplit,
   SplitsBy,
   MayBringIn,
   BringsIn,
   MayBreakUp,
+  TurnsRecalled,
   HasBrokenUp,
   LosesFlag,
   MayHandOutTwo,
@@ -53,7 +53,7 @@ fn bring_in<M: Moves>(m: &mut M, held: M::Held)
 /// down, so that its frames are held all the time.
 fn break_up<M: Moves>(m: &mut M, child: u32)
     requires { MayBreakUp child (M.at m.old) }
-    ensures { Brings M.is_exact most_to_break_up (HasBrokenUp child)
+    ensures { TurnsRecalled M.is_exact most_to_break_up (HasBrokenUp child)
         (LosesFlag (M.at m.old).key (block (child_frames * child) huge_order))
         (M.at m.old) (M.at m.new) }
 {

@@ -27,6 +27,8 @@ pub record Mover (T H : Type 0) : Type 1 where
   pub read : ℕ → Option ℕ
   -- all words, where they are known between two moves
   pub words : Option (List ℕ)
+  -- all words, also where a block was taken in since they were known
+  pub recalled : Option (List ℕ)
   -- an exchange was lost since this was last cleared
   pub missed : Bool
   -- nobody else steps before the next move has been made, and it is not lost at will
@@ -35,8 +37,6 @@ pub record Mover (T H : Type 0) : Type 1 where
   pub is_alone : Type 0
   -- the next exchange is lost although its word is as it was seen
   pub loses_at_will : Type 0
-  -- a block that is taken in leaves the words known
-  pub remembers : Type 0
   -- the block was handed out and can be taken in here
   pub is_out : H → Type 0
 
@@ -122,6 +122,12 @@ pub record Tries {T H : Type 0} (t : ℕ → ℕ) (kind : Kind) (seen : ℕ) (ma
 
 -- A change that is always made.
 
+-- the words fit with the own view and those of all others, which are at rest where nobody else steps
+abbrev pub FitsOthers : {T H : Type 0} → Mover T H → List ℕ → Type 0
+FitsOthers m ws =
+    (shares : ℕ) × ((others : List View) × (Fit m.key shares ws (m.view ∷ others)
+    × (m.is_alone → All IsAtRest others)))
+
 -- the words are known
 abbrev pub KnowsWords : {T H : Type 0} → Mover T H → Type 0
 KnowsWords m = (ws : List ℕ) × (m.words ≡ Some ws)
@@ -131,13 +137,16 @@ pub record MayMake {T H : Type 0} (kind : Kind) (m : Mover T H) : Type 0 where
   pub share : 0 < m.view.share
   pub may : May m.key kind m.view
 
--- it was made
+-- it was made; where nobody stepped in between, the words that were recalled fit, and are known as the
+-- step left them
 pub record Makes {T H : Type 0} (t : ℕ → ℕ) (kind : Kind) (old new : Mover T H) : Type 0 where
   pub keeps : Keeps old new
   pub missed : new.missed ≡ old.missed
   pub view : new.view ≡ after t kind old.view
   pub reads : ReadsBut (place old.key kind) old.read new.read
   pub words : old.is_undisturbed → Changes old.key kind old.words new.words
+  pub recalled : old.is_undisturbed → Changes old.key kind old.recalled new.words
+  pub fits : old.is_undisturbed → (ws : List ℕ) → old.recalled ≡ Some ws → ∥ FitsOthers old ws ∥₁
   pub knows : KnowsWords new
   pub apart : IsApart old.key new.view
 
@@ -180,6 +189,7 @@ pub record HandsOut {T H : Type 0} (t : ℕ → ℕ) (block_of : H → FrameBloc
   pub is_out : new.is_out held
   pub reads : new.read ≡ old.read
   pub words : old.is_undisturbed → new.words ≡ old.words
+  pub recalled : old.is_undisturbed → new.recalled ≡ old.recalled
 
 -- the block was handed out, and what is in flight lies in its child
 pub record MayHandIn {T H : Type 0} (b : FrameBlock) (held : H) (m : Mover T H) : Type 0 where
@@ -187,23 +197,16 @@ pub record MayHandIn {T H : Type 0} (b : FrameBlock) (held : H) (m : Mover T H) 
   pub out : m.is_out held
   pub one_child : LiesIn m.view (child_of b.frame)
 
--- the block is in flight
+-- the block is in flight; the words are recalled as they were
 pub record HandsIn {T H : Type 0} (t : ℕ → ℕ) (block_of : H → FrameBlock) (held : H)
     (old new : Mover T H) : Type 0 where
   pub keeps : KeepsOthers block_of (block_of held) old new
   pub missed : new.missed ≡ old.missed
   pub view : new.view ≡ joined_by t hand_in old.view (holder (Some old.key) (block_of held))
   pub reads : new.read ≡ old.read
-  pub stays_so : old.remembers → new.remembers
-  pub words : old.remembers → old.is_undisturbed → new.words ≡ old.words
+  pub recalled : old.is_undisturbed → new.recalled ≡ old.recalled
 
--- The laws of movers.
-
--- the words fit with the own view and those of all others, which are at rest where nobody else steps
-abbrev pub FitsOthers : {T H : Type 0} → Mover T H → List ℕ → Type 0
-FitsOthers m ws =
-    (shares : ℕ) × ((others : List View) × (Fit m.key shares ws (m.view ∷ others)
-    × (m.is_alone → All IsAtRest others)))
+-- How counts of moves go up.
 
 -- the counts below this one go up by exactly one
 pub record Ticks (t : ℕ → ℕ) (exact : ℕ → Type 0) : Type 0 where

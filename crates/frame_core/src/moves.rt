@@ -178,6 +178,9 @@ pub trait Moves {
     // Where the words are known, they fit with the own view and those of all others.
     ghost fits: { (m : Self) (ws : List ℕ) → (at m).words ≡ Some ws → ∥ FitsOthers (at m) ws ∥₁ };
 
+    // Words that are known are recalled.
+    ghost recalls: { (m : Self) (ws : List ℕ) → (at m).words ≡ Some ws → (at m).recalled ≡ Some ws };
+
     ghost outs_are_blocks: { (m : Self) (b : Self.Held) → (at m).is_out b
         → IsBlock (at m).key (Self.Held.block_of b) };
 

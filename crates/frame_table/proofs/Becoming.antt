@@ -12,7 +12,7 @@ use Rattle.frame_model.specs.Steps.{Kind, place, turned, effect, after_load, aft
 use Rattle.frame_model.specs.Events.{sighting, last_seen}
 use Rattle.frame_core.specs.Moves.{ReadsBut}
 use Rattle.frame_core.specs.Mover.{IsApart}
-use Rattle.frame_table.specs.Rule.{Becomes, Looks, IsExchangedAs, IsChangedAs, FitsAmong, Learns, LearnsFor}
+use Rattle.frame_table.specs.Rule.{known_in, Becomes, Looks, IsExchangedAs, IsChangedAs, FitsAmong, Learns, LearnsFor}
 use Rattle.frame_table.specs.Seats.{AreLaid, IsSeat, Sits, key_at, id_of, view_of, reads_of}
 use Rattle.frame_table.specs.SeatSteps.{StaysBut}
 use Rattle.frame_table.specs.declared.seats.CoreSeat.{CoreSeat}
@@ -34,7 +34,7 @@ pub record Stepped (id : TableId) (key : Key) (seat : TableId) (old new : Me (Un
 
 module _ (id : TableId) (key : Key) (seat after : TableId) (old new : Me (Unit {0}) Watch) (is : IsSeat id key seat old)
     (same : after ≡ seat) (i : ℕ) where
-  learnt_fits : (found left : ℕ) → Learns key i found left old.0 new.0 → (words : List ℕ) → new.0.known ≡ Some words
+  learnt_fits : (found left : ℕ) → Learns key i found left old.0 new.0 → (words : List ℕ) → known_in new.0 ≡ Some words
       → ∥ FitsAmong key words new.0.view ∥₁
   learnt_fits found left l words knows =
       let same : set l.words i left ≡ words = (cc) in

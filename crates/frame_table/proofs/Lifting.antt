@@ -23,12 +23,12 @@ use Rattle.frame_model.proofs.Steps.Shared.{view_of}
 use Rattle.frame_model.proofs.Keeps.{total_is}
 use Rattle.frame_model.proofs.Sums.{at-le-sum}
 use Rattle.frame_model.specs.Steps.{Kind, IsFoundBy, place, seen_by, IsMade, turned, May, effect, after_loss, next}
-use Rattle.frame_model.specs.Seats.{Cut, Join, MayCut, MayJoin, part_share, hand_out, recall, part_ground, adopt}
+use Rattle.frame_model.specs.Seats.{Cut, Join, join_idle, hand_in, keep_in, MayCut, MayJoin, part_share, hand_out, recall, part_ground, adopt}
 use Rattle.frame_model.specs.Events.{sighting}
 use Rattle.frame_model.proofs.Steps.Seats.{look_keeps}
 use Rattle.frame_model.proofs.Steps.Every.{kind_keeps, seat_cut_keeps, seat_join_keeps}
 use Rattle.frame_table.specs.declared.rule.Origin.{Origin}
-use Rattle.frame_table.specs.Rule.{key_from, watch, eye_view, IsRightFor, Holds, IsFoundFor, MayFind, IsOfOneMemory, Learns, LearnsFor, Becomes, Looks, IsExchangedAs}
+use Rattle.frame_table.specs.Rule.{key_from, watch, known_in, eye_view, IsRightFor, Holds, IsFoundFor, MayFind, IsOfOneMemory, Learns, LearnsFor, Becomes, Looks, IsExchangedAs}
 use Rattle.frame_table.specs.Rule.{IsChangedAs, left_eye, right_eye, both_eyes, nobody}
 use Rattle.frame_table.proofs.Laid.{found_in}
 
@@ -118,13 +118,14 @@ module _ (o : Origin) (slots id : ℕ) (e : Watch) (about : e.view.about ≡ Som
 
     -- what the seat learns
     learns : (i n : ℕ) (w : Watch) → FitsAt (set s.words i n) (set (map eye_view s.views) id w.view)
-        → w.known ≡ Some (set s.words i n) → LearnsFor (e, []) i (get_or s.words i 0) n (w, [])
+        → known_in w ≡ Some (set s.words i n) → LearnsFor (e, []) i (get_or s.words i 0) n (w, [])
     learns i n w fit known k named =
         let is : Learns key i (get_or s.words i 0) n e w = record {
           words = s.words;
           known = known;
           here = refl;
           right = holds.right id e at;
+          fitted = (map eye_view s.views, (id, (holds.fits, there)));
           fits = (set (map eye_view s.views) id w.view, (id, (fit, at_once (map eye_view s.views) id e.view w.view there)));
         } in
         subst (λ (j : Key). Learns j i (get_or s.words i 0) n e w) (cc) is
@@ -259,6 +260,12 @@ module _ (o : Origin) (slots id : ℕ) (e : Watch) (about : e.view.about ≡ Som
             (at_snoc (set s.views id left) right u j at');
       }
 
+  -- a seat that took in a block knows what it knew, for it has the shares it had
+  both_right : (join : Join) (f : Watch) (ws : List ℕ) → IsRightFor key ws e → IsRightFor key ws (both_eyes join e f)
+  both_right join_idle f ws right = ignorant key ws (both_eyes join_idle e f) refl
+  both_right hand_in f ws right = right
+  both_right keep_in f ws right = right
+
   pub join_joins : (other : ℕ) (f : Watch) (join : Join) → MayJoin join e.view f.view
       → Joins (Holds o) id e other f (both_eyes join e f) nobody
   join_joins other f join may s holds at apart at' =
@@ -273,7 +280,7 @@ module _ (o : Origin) (slots id : ℕ) (e : Watch) (about : e.view.about ≡ Som
         right = λ j u at''. ⊎_elim
             (λ t. subst Right t.1 (ignorant key s.words nobody refl))
             (λ t. ⊎_elim
-            (λ t'. subst Right t'.1 (ignorant key s.words both refl))
+            (λ t'. subst Right t'.1 (both_right join f s.words (holds.right id e at)))
             (λ t'. holds.right j u t'.1) (at_set s.views id j both u t.1))
             (at_set (set s.views id both) other j nobody u at'');
       }

@@ -1,5 +1,6 @@
 -- A seat that was cut, the one that was cut off it, and one that took in another are seats of the table.
-use Rattle.std.proofs.Common.{◌≡◌, ℕ, List, [], ◌∷◌, ◌++◌, Some, None, set, refl, sym, ◌∙◌, subst}
+use Rattle.std.proofs.Common.{◌≡◌, ℕ, List, [], ◌∷◌, ◌++◌, Option, Some, None, Bool, true, false, set, refl, sym, ◌∙◌, subst}
+use Rattle.std.specs.Prelude.{if◌then◌else◌}
 use Rattle.std.proofs.Math.Logic.{∥∥₁_map}
 use Rattle.atomic_table.specs.Table.{Me}
 use Rattle.atomic_table.specs.Seated.{TableId}
@@ -12,7 +13,7 @@ use Rattle.frame_model.proofs.Steps.Every.{seat_cut_keeps}
 use Rattle.atomic_table.proofs.Lists.{at_longer}
 use Rattle.frame_table.proofs.Lifting.{at_once}
 use Rattle.frame_model.proofs.Steps.SeatViews.{left_is, right_is, both_is}
-use Rattle.frame_table.specs.Rule.{left_eye, right_eye, both_eyes, left_known, FitsAmong}
+use Rattle.frame_table.specs.Rule.{known_in, left_eye, right_eye, both_eyes, FitsAmong}
 use Rattle.frame_table.specs.Seats.{HasBlocksOf, IsSeat}
 use Rattle.frame_table.proofs.Effects.{left_about, right_about, both_about}
 use Rattle.frame_table.proofs.Dealing.{fresh_seat, knows_none}
@@ -33,15 +34,19 @@ cut_fits key e cut may words (vs, (at, (fit, there))) = (
 )
 
 still_fits : (key : Key) (e : Watch) (cut : Cut) → MayCut key cut e.view
-    → ((words : List ℕ) → e.known ≡ Some words → ∥ FitsAmong key words e.view ∥₁)
-    → (words : List ℕ) → e.known ≡ Some words → ∥ FitsAmong key words (left_by next cut e.view) ∥₁
+    → ((words : List ℕ) → known_in e ≡ Some words → ∥ FitsAmong key words e.view ∥₁)
+    → (words : List ℕ) → known_in e ≡ Some words → ∥ FitsAmong key words (left_by next cut e.view) ∥₁
 still_fits key e cut may fits words knows =
     ∥∥₁_map (fits words knows) (λ (f : FitsAmong key words e.view). cut_fits key e cut may words f)
 
+none_known : (b : Bool) (words : List ℕ) → ¬ ((if b then None else None) ≡ Some words)
+none_known true words e = absurd (cc)
+none_known false words e = absurd (cc)
+
 left_known_fits : (key : Key) (e : Watch) (cut : Cut) → MayCut key cut e.view
-    → ((words : List ℕ) → e.known ≡ Some words → ∥ FitsAmong key words e.view ∥₁)
-    → (words : List ℕ) → left_known cut e ≡ Some words → ∥ FitsAmong key words (left_by next cut e.view) ∥₁
-left_known_fits key e (part_share n) may fits words knows = absurd (cc)
+    → ((words : List ℕ) → known_in e ≡ Some words → ∥ FitsAmong key words e.view ∥₁)
+    → (words : List ℕ) → known_in (left_eye cut e) ≡ Some words → ∥ FitsAmong key words (left_by next cut e.view) ∥₁
+left_known_fits key e (part_share n) may fits words knows = absurd (none_known e.settled words knows)
 left_known_fits key e (hand_out b rest) may fits words knows = still_fits key e (hand_out b rest) may fits words knows
 left_known_fits key e (recall b rest) may fits words knows = still_fits key e (recall b rest) may fits words knows
 left_known_fits key e part_ground may fits words knows = still_fits key e part_ground may fits words knows

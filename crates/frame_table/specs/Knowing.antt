@@ -1,6 +1,7 @@
 -- The words that a seat knows fit with its view and those of all others, none of whom steps where the
 -- seat has all shares.
-use Rattle.std.proofs.Common.{◌≡◌, ℕ, zero, suc, ◌+◌, List, [], ◌∷◌, Some, subst, ap, sym, ◌∙◌, arith}
+use Rattle.std.proofs.Common.{◌≡◌, ℕ, zero, suc, ◌+◌, List, [], ◌∷◌, Option, None, Some, Bool, true, false, subst, ap, sym, ◌∙◌, arith}
+use Rattle.std.specs.Prelude.{if◌then◌else◌}
 use Rattle.std.proofs.Math.Logic.{∥∥₁_map}
 use Rattle.std.specs.List.{sum_by, All}
 use Rattle.std.proofs.lemmas.List.Sums.{sum_by-cons, get_or-le-sum_by}
@@ -13,9 +14,10 @@ use Rattle.frame_model.specs.View.{fixed_ground, IsViewOf}
 use Rattle.frame_model.specs.Fit.{total, Fit}
 use Rattle.frame_core.specs.Moves.{IsAtRest}
 use Rattle.frame_core.specs.Mover.{FitsOthers}
-use Rattle.frame_table.specs.Rule.{FitsAmong}
+use Rattle.frame_table.specs.Rule.{known_in, FitsAmong}
 use Rattle.frame_table.specs.Mover.{mover}
-use Rattle.frame_table.specs.Seats.{key_at, view_of}
+use Rattle.frame_table.specs.Seats.{key_at, view_of, watch_of}
+use Rattle.frame_table.specs.declared.rule.Watch.{Watch}
 use Rattle.frame_table.specs.declared.shared.SharedMoves.{SharedMoves}
 
 -- all views but one
@@ -95,11 +97,12 @@ module _ (key : Key) (ws : List ℕ) (vs : List View) (id : ℕ) (v : View) (fit
     fit.shares_add_up,
   ))
 
-pub knows_the_fit : (m : SharedMoves) (words : List ℕ) → (mover m).words ≡ Some words → ∥ FitsOthers (mover m) words ∥₁
-knows_the_fit m words knows =
+-- words that fit with views of which the own is one fit with it and the others
+pub fit_of : (m : SharedMoves) (words : List ℕ) → FitsAmong (key_at m.table.now) words (view_of m.seat.now)
+    → FitsOthers (mover m) words
+fit_of m words f =
     let key : Key = key_at m.table.now in
-    let v : View = view_of m.seat.now in
-    ∥∥₁_map (m.sits.at.fits words knows) (λ (f : FitsAmong key words v). (
+    let v : View = view_of m.seat.now in (
       key.cores,
       (
         others_of f.0 f.1.0,
@@ -108,4 +111,19 @@ knows_the_fit m words knows =
           at_rest key words f.0 f.1.0 v f.1.1.0 f.1.1.1,
         ),
       ),
-    ))
+    )
+
+pub knows_the_fit : (m : SharedMoves) (words : List ℕ) → (mover m).words ≡ Some words → ∥ FitsOthers (mover m) words ∥₁
+knows_the_fit m words knows =
+    ∥∥₁_map (m.sits.at.fits words knows) (λ (f : FitsAmong (key_at m.table.now) words (view_of m.seat.now)). fit_of m words f)
+
+-- what a seat knows it recalls
+pub known_is_recalled : (e : Watch) (words : List ℕ) → known_in e ≡ Some words → e.known ≡ Some words
+known_is_recalled e words knows = by e.settled e.known knows
+  where
+    by : (b : Bool) (known : Option (List ℕ)) → (if b then known else None) ≡ Some words → known ≡ Some words
+    by true known h = h
+    by false known h = absurd (cc)
+
+pub recalls_the_known : (m : SharedMoves) (words : List ℕ) → (mover m).words ≡ Some words → (mover m).recalled ≡ Some words
+recalls_the_known m words knows = known_is_recalled (watch_of m.seat.now) words knows

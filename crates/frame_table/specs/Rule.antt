@@ -1,5 +1,5 @@
 -- The rule of the shared table, and what each atomic operation tells of the seat that steps.
-use Rattle.std.specs.Prelude.{◌≡◌, ℕ, ◌==◌, List, [], ◌∷◌, Option, Some, None, MatchBool, map, slice_index, slice_set, if◌then◌else◌}
+use Rattle.std.specs.Prelude.{◌≡◌, ℕ, ◌==◌, List, [], ◌∷◌, Option, Some, None, true, false, MatchBool, map, slice_index, slice_set, if◌then◌else◌}
 use mathlib.Core.Option.{some}
 use lib.ListN.{get_elem?}
 use Rattle.atomic_table.specs.Table.{State, Me, Step}
@@ -11,7 +11,7 @@ use Rattle.frame_model.specs.declared.view.View.{View}
 use Rattle.frame_model.specs.View.{spent, idle, IsViewOf}
 use Rattle.frame_model.specs.Fit.{Fit}
 use Rattle.frame_model.specs.Steps.{Kind, place, turned, effect, after_load, after_loss, next}
-use Rattle.frame_model.specs.Seats.{Cut, part_share, Join, left_by, right_by, joined_by}
+use Rattle.frame_model.specs.Seats.{Cut, part_share, Join, join_idle, left_by, right_by, joined_by}
 use Rattle.frame_model.specs.Events.{eye, sighting}
 use Rattle.frame_model.specs.declared.view.Eye.{Eye}
 use Rattle.frame_core.specs.Moves.{place_of, IsPlace, HasLayout}
@@ -29,9 +29,13 @@ key_from o = record {
   sealed = o.sealed;
 }
 
--- a view, what its seat has read, and all words, where the seat knows them
+-- a view, what its seat has read, and all words, where the seat knows them; it took in no seat since
 abbrev pub watch : View → List Sighting → Option (List ℕ) → Watch
-watch view read known = record { view = view; read = read; known = known }
+watch view read known = record { view = view; read = read; known = known; settled = true }
+
+-- all words, where the seat knows them and took in no seat since, so that they fit with its view
+abbrev pub known_in : Watch → Option (List ℕ)
+known_in e = if e.settled then e.known else None
 
 -- what a seat has in flight, apart from what it has read and knows
 abbrev pub eye_view : Watch → View
@@ -85,12 +89,13 @@ FitsAmong key words v =
     (views : List View) × ((id : ℕ) × (Fit key key.cores words views × (get_elem? views id ≡ some v)))
 
 -- by a step that found this in a word and left that there, the seat has learnt all words, which fit
--- with its view; and if it had all shares and knew words before, it knew those which the step found
+-- with its view, as those did that the step found; if it had all shares and knew words, it knew these
 pub record Learns (key : Key) (i found left : ℕ) (old new : Watch) : Type 0 where
   pub words : List ℕ
-  pub known : new.known ≡ Some (slice_set words i left)
+  pub known : known_in new ≡ Some (slice_set words i left)
   pub here : slice_index words i ≡ found
   pub right : IsRightFor key words old
+  pub fitted : FitsAmong key words old.view
   pub fits : FitsAmong key (slice_set words i left) new.view
 
 -- the same for the memory that the view names
@@ -134,16 +139,31 @@ left_known _ e = e.known
 
 -- the watch of a seat after another was cut off it: it keeps what it has read
 abbrev pub left_eye : Cut → Watch → Watch
-left_eye cut e = watch (left_by next cut e.view) e.read (left_known cut e)
+left_eye cut e = record {
+  view = left_by next cut e.view;
+  read = e.read;
+  known = left_known cut e;
+  settled = e.settled;
+}
 
 -- the watch of the seat that was cut off, which has read nothing and knows no word
 abbrev pub right_eye : Cut → Watch → Watch
 right_eye cut e = watch (right_by cut e.view) [] None
 
--- the watch of a seat after it took in another: it keeps what it has read itself, and knows no words
--- until its next step, since it learns by steps alone that they fit with its view
+-- a seat that takes in another core's forgets the words
+abbrev pub both_known : Join → Watch → Option (List ℕ)
+both_known join_idle e = None
+both_known _ e = e.known
+
+-- the watch of a seat after it took in another: it keeps what it has read itself, and is not settled
+-- until its next step, since it learns by steps alone that the words fit with its view
 abbrev pub both_eyes : Join → Watch → Watch → Watch
-both_eyes join e f = watch (joined_by next join e.view f.view) e.read None
+both_eyes join e f = record {
+  view = joined_by next join e.view f.view;
+  read = e.read;
+  known = both_known join e;
+  settled = false;
+}
 
 -- the watch of a seat that was taken in: nothing is in flight, and nothing was read
 abbrev pub nobody : Watch

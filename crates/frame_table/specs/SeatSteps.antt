@@ -7,8 +7,8 @@ use Rattle.frame_model.specs.Seats.{Cut, Join, left_by, joined_by}
 use Rattle.frame_model.specs.Steps.{Kind, place, turned, May, effect, after_load, after_loss, next}
 use Rattle.frame_core.specs.Moves.{ReadsBut}
 use Rattle.frame_core.specs.Mover.{IsApart}
-use Rattle.frame_table.specs.Rule.{IsFoundIn, Learns, left_known, right_eye}
-use Rattle.frame_table.specs.Seats.{key_at, id_of, view_of, reads_of, watch_of, words_known_by, Sits}
+use Rattle.frame_table.specs.Rule.{IsFoundIn, Learns, known_in, left_known, left_eye, right_eye, both_known}
+use Rattle.frame_table.specs.Seats.{key_at, id_of, view_of, reads_of, watch_of, words_known_by, words_recalled_by, Sits}
 use Rattle.frame_table.specs.declared.seats.CoreSeat.{CoreSeat}
 use Rattle.frame_table.specs.declared.table.FrameTable.{FrameTable}
 
@@ -64,12 +64,15 @@ pub record CutsOff (t : FrameTable) (cut : Cut) (part : Seat (Unit {0}) Watch) (
   pub sits : Sits t new
   pub view : view_of new ≡ left_by next cut (view_of old)
   pub reads : reads_of new ≡ reads_of old
-  pub known : words_known_by new ≡ left_known cut (watch_of old)
+  pub known : words_known_by new ≡ known_in (left_eye cut (watch_of old))
+  pub recalled : words_recalled_by new ≡ left_known cut (watch_of old)
   pub table : part.table_id ≡ id_of t
   pub is_part : part.me ≡ (right_eye cut old.seat.me.0, [])
 
--- a seat with this view was taken in by that of the core, which sits there still and has read what it had
+-- a seat with this view was taken in by that of the core, which sits there still, and has read and
+-- recalls what it had
 pub record JoinsTo (t : FrameTable) (join : Join) (other : View) (old new : CoreSeat) : Type 0 where
   pub sits : Sits t new
   pub view : view_of new ≡ joined_by next join (view_of old) other
   pub reads : reads_of new ≡ reads_of old
+  pub recalled : words_recalled_by new ≡ both_known join (watch_of old)

@@ -17,7 +17,7 @@ use Rattle.frame_model.specs.Events.{last_seen}
 use Rattle.frame_model.specs.Key.{tree_count}
 use Rattle.frame_model.specs.Words.{entry_place, tree_place, local_place}
 use Rattle.frame_words.specs.Words.{free_in, flag_in, lane_in, rest_in}
-use Rattle.frame_table.specs.Rule.{key_from, FitsAmong}
+use Rattle.frame_table.specs.Rule.{key_from, known_in, FitsAmong}
 use Rattle.frame_table.specs.declared.block.Block.{Block}
 use Rattle.frame_table.specs.declared.seats.CoreSeat.{CoreSeat}
 use Rattle.frame_table.specs.declared.table.FrameTable.{FrameTable}
@@ -44,7 +44,11 @@ watch_of s = s.seat.me.0
 
 -- all words, where the seat knows them
 abbrev pub words_known_by : CoreSeat → Option (List ℕ)
-words_known_by s = s.seat.me.0.known
+words_known_by s = known_in s.seat.me.0
+
+-- all words, also where the seat took in a block since it knew them
+abbrev pub words_recalled_by : CoreSeat → Option (List ℕ)
+words_recalled_by s = s.seat.me.0.known
 
 -- the words are known
 abbrev pub KnowsAll : Option (List ℕ) → Type 0
@@ -70,7 +74,7 @@ pub record IsSeat (id : TableId) (key : Key) (seat : TableId) (me : Me (Unit {0}
   pub about : me.0.view.about ≡ Some key
   pub is_view : ∥ IsViewOf key me.0.view ∥₁
   pub laid : AreLaid key me.0.read
-  pub fits : (words : List ℕ) → me.0.known ≡ Some words → ∥ FitsAmong key words me.0.view ∥₁
+  pub fits : (words : List ℕ) → known_in me.0 ≡ Some words → ∥ FitsAmong key words me.0.view ∥₁
 
 -- the seat of a core at this table; what was held before the opening is not with it
 pub record Sits (t : FrameTable) (s : CoreSeat) : Type 0 where

@@ -10,7 +10,7 @@ ghost use Rattle.frame_model.specs.Steps.{next};
 ghost use Rattle.frame_model.specs.Seats.{left_by, part_share, part_ground};
 ghost use Rattle.frame_model.specs.Rebuilt.{IsRebuilt};
 ghost use Rattle.frame_model.specs.Openings.{held_blocks, IsSealedOpening};
-ghost use Rattle.frame_table.specs.Rule.{key_from, first_view};
+ghost use Rattle.frame_table.specs.Rule.{key_from, known_in, first_view};
 ghost use Rattle.frame_table.specs.Seats.{key_at, id_of, view_of, KnowsAll, Sits, IsSeat};
 ghost use Rattle.frame_table.specs.Openings.{unsealed_key, moved, ground_view};
 ghost use Rattle.frame_table.specs.Openings.{IsNew, IsOpenedAt, IsGround};
@@ -125,7 +125,7 @@ fn open_words(
     ensures key { IfOk result (λ r. key_at r.0 ≡ key_from origin) }
     ensures seat { IfOk result (λ r. IsSeat (id_of r.0) (key_at r.0) r.1.table_id r.1.me) }
     ensures view { IfOk result (λ r. r.1.me.0.view ≡ first_view origin) }
-    ensures knows { IfOk result (λ r. KnowsAll r.1.me.0.known) }
+    ensures knows { IfOk result (λ r. KnowsAll (known_in r.1.me.0)) }
     ensures err { IfErr result (λ e. e ≡ Fault.NoMemory) }
 {
     let Ok((grid, seat)) = Table::of_words(alloc, image.words(), &origin) else {
@@ -139,7 +139,7 @@ fn deal(table: &FrameTable, mut seat: Seat<(), Watch>, mut seats: Vec<CoreSeat>)
     requires seat { IsSeat (id_of table.now) (key_at table.now) seat.table_id seat.me }
     requires view { (first : ℕ) × ((first ≤ 1)
         × (seat.me.0.view ≡ moved first (idle (key_at table.now) (key_at table.now).cores))) }
-    requires knows { KnowsAll seat.me.0.known }
+    requires knows { KnowsAll (known_in seat.me.0) }
     requires room { (seats.items ≡ []) × ((key_at table.now).cores ≤ vec_capacity seats) }
     ensures count { vec_len result ≡ (key_at table.now).cores }
     ensures new { All (IsNew table.now) result.items }
@@ -169,7 +169,7 @@ fn part_ground_off(table: &FrameTable, seat: &mut Seat<(), Watch>) -> GroundSeat
     requires holds { seat.old.me.0.view.is_ground ≡ true }
     ensures seat { IsSeat (id_of table.now) (key_at table.now) seat.new.table_id seat.new.me }
     ensures view { seat.new.me.0.view ≡ left_by next part_ground seat.old.me.0.view }
-    ensures knows { seat.new.me.0.known ≡ seat.old.me.0.known }
+    ensures knows { known_in seat.new.me.0 ≡ known_in seat.old.me.0 }
     ensures held { IsGround table.now result
         × (ground_view result ≡ ground_with (key_at table.now) seat.old.me.0.view.kept) }
 {

@@ -20,8 +20,10 @@ pub struct Watch {
     pub view: View,
     /// The latest first.
     pub read: LinkedList<Sighting>,
-    /// None where it took in another seat since, or parted a share off.
+    /// None where it took in another core's seat since, or parted a share off.
     pub known: Option<LinkedList<u64>>,
+    /// It took in no seat since.
+    pub settled: bool,
 }
 
 /// The words and the views fit, and who has all shares and knows words knows the right ones.

@@ -9,7 +9,7 @@ use Rattle.frame_model.specs.declared.key.Key.{Key}
 use Rattle.frame_model.specs.Words.{run, entry_place, bits_place, free_of, huge_of, entry_of, bit_word_of}
 use Rattle.frame_model.specs.declared.place.Place.{Place}
 use Rattle.frame_model.specs.Steps.{Kind, charge, claim, take_huge, place, words_after}
-use Rattle.frame_core.specs.Moves.{place_of, Exchanges, OfRun}
+use Rattle.frame_core.specs.Moves.{place_of, Changes, Exchanges, OfRun}
 use Rattle.frame_core.specs.Mover.{Mover, Keeps, Loads, Tries}
 use Rattle.frame_model.proofs.Steps.Shared.{bit_word_is}
 use Rattle.low_frames.specs.Alone.{Turns, FindsOf, IsCharged, HasTooFew, IsClaimed, IsClaimedIn, HasNoRun, HasNoRunIn, IsTakenHuge}
@@ -23,6 +23,27 @@ if_known (Some x) P Q h f = f x refl h
 
 pub at_known : {X : Type 0} (o : Option X) (P : X → Type 0) (x : X) → o ≡ Some x → IfSome o P → P x
 at_known o P x e h = subst (λ o. IfSome o P) e h
+
+-- what is known is recalled, so what was made of words that were recalled was made of known ones
+pub of_recalled : (R : List ℕ → List ℕ → Type 0) (known recalled new : Option (List ℕ))
+    → ((ws : List ℕ) → known ≡ Some ws → recalled ≡ Some ws) → Turns R recalled new → Turns R known new
+of_recalled R None recalled new recalls h = tt
+of_recalled R (Some ws) recalled new recalls h =
+    at_known recalled (λ ws. (us : List ℕ) × ((new ≡ Some us) × R ws us)) ws (recalls ws refl) h
+
+-- and what was made of words that are recalled, where they are known, was made of these
+pub to_known : (R : List ℕ → List ℕ → Type 0) (old known recalled : Option (List ℕ)) (ws : List ℕ) → known ≡ Some ws
+    → ((ws : List ℕ) → known ≡ Some ws → recalled ≡ Some ws) → Turns R old recalled → Turns R old known
+to_known R None known recalled ws e recalls h = tt
+to_known R (Some us) known recalled ws e recalls h =
+    let there : ◌≡◌ {A = Option (List ℕ)} (Some h.0) (Some ws) = sym h.1.0 ∙ recalls ws e in
+    (h.0, (e ∙ sym there, h.1.1))
+
+-- what a step leaves known it leaves recalled
+pub also_recalled : (key : Key) (kind : Kind) (old known recalled : Option (List ℕ))
+    → ((ws : List ℕ) → known ≡ Some ws → recalled ≡ Some ws) → Changes key kind old known → Changes key kind old recalled
+also_recalled key kind None known recalled recalls step = tt
+also_recalled key kind (Some ws) known recalled recalls step = recalls (words_after key kind ws) step
 
 -- where the words were known, no try was lost and they are as they were
 abbrev pub IsFirstTry : ℕ → Option (List ℕ) → Option (List ℕ) → Type 0

@@ -84,9 +84,17 @@ module _ {T H : Type 0} where
     loses_none = λ s. record { missed = m.missed; lost = ap (λ v. v.lost) m.view };
   }
 
-  pub sure_in : {t : ℕ → ℕ} {a b : Mover T H} {block_of : H → FrameBlock} {held : H} → (a.is_alone → a.is_undisturbed)
-      → HandsIn t block_of held a b → a.remembers → StaysSure a b
-  sure_in still m so = record {
-    is_sure = λ s. (m.keeps.stays_alone s.0, (s.1.0, m.words so (still s.0) ∙ s.1.1));
-    loses_none = λ s. record { missed = m.missed; lost = ap (λ v. v.lost) m.view };
+  -- what loses no exchange
+
+  pub loses_nothing : (a : Mover T H) → LosesNone a a
+  loses_nothing a = record { missed = refl; lost = refl }
+
+  pub loses_none_make : {t : ℕ → ℕ} {a b : Mover T H} {kind : Kind} → Makes t kind a b → LosesNone a b
+  loses_none_make {t} {a} {b} {kind} m = record {
+    missed = m.missed;
+    lost = ap (λ v. v.lost) m.view ∙ after_lost t kind a.view;
   }
+
+  pub loses_none_in : {t : ℕ → ℕ} {a b : Mover T H} {block_of : H → FrameBlock} {held : H}
+      → HandsIn t block_of held a b → LosesNone a b
+  loses_none_in m = record { missed = m.missed; lost = ap (λ v. v.lost) m.view }

@@ -42,6 +42,6 @@ pub record Gives {T H : Type 0} (block_of : H → FrameBlock) (exact : ℕ → T
   pub keeps : KeepsOthers block_of (block_of given) old new
   pub counts : Counts exact most old new
   pub back : V old.view new.view
-  pub sure : old.remembers → StaysSure old new
+  pub sure : StaysSure old new
   pub knows : KnowsWords new
-  pub alone_given : old.remembers → old.is_alone → WordsGive old.key old.words new.words (block_of given)
+  pub alone_given : old.is_alone → WordsGive old.key old.words new.words (block_of given)

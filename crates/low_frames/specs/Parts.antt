@@ -175,21 +175,25 @@ pub record ClaimsWords {T H : Type 0} (exact : ℕ → Type 0) (c f k : ℕ) (an
   pub alone : old.is_alone → WhereFree old.key old.words (child_words * c + f) k ((answer ≡ None)
       × (HasTakenWords old.key old.words new.words (child_words * c + f) k × LosesNone old new))
 
--- so many bit words of the child, in flight before, are charged and paid, and nothing is in flight
+-- so many bit words of the child, in flight before, are charged and paid, and nothing is in flight;
+-- where nobody else steps their frames are free, also where the words were but recalled
 pub record ReleasesWords {T H : Type 0} (exact : ℕ → Type 0) (c f k : ℕ) (old new : Mover T H)
     : Type 0 where
   pub keeps : Keeps old new
   pub counts : Counts exact k old new
   pub sure : StaysSure old new
+  pub loses_none : LosesNone old new
   pub view : HasReleased c (word_bits * k) old.view new.view
   pub read : ReadsOutside old.key (child_words * c + f) k old.read new.read
   pub alone : old.is_alone → HasGivenWords old.key old.words new.words (child_words * c + f) k
+  pub recalled : old.is_alone → HasGivenWords old.key old.recalled new.words (child_words * c + f) k
 
--- the frames of the block, in flight before, are charged and paid, and nothing is in flight
+-- the frames of the block, in flight before, are charged and paid, and nothing is in flight; where
+-- nobody else steps they are free, if the words were recalled
 pub record ReleasesBlock {T H : Type 0} (exact : ℕ → Type 0) (b : FrameBlock) (old new : Mover T H)
     : Type 0 where
   pub keeps : Keeps old new
   pub counts : Counts exact most_words old new
-  pub sure : StaysSure old new
+  pub loses_none : LosesNone old new
   pub view : HasReleased (child_of b.frame) (2 ^ b.order) old.view new.view
-  pub alone : old.is_alone → WordsGive old.key old.words new.words b
+  pub alone : old.is_alone → WordsGive old.key old.recalled new.words b

@@ -31,6 +31,7 @@ use Rattle.frame_model.proofs.Amounts.{count_on_here}
 use Rattle.plain_moves.specs.declared.plain.party.Company.{Company}
 use Rattle.plain_moves.specs.declared.plain.PlainMoves.{PlainMoves}
 use Rattle.plain_moves.specs.Plain.{plain_tick, plain_mover, Agrees}
+use Rattle.plain_moves.specs.PlainLaws.{plain_fits}
 use Rattle.plain_moves.specs.PlainState.{key_by, words_by, view_by}
 
 pub got : (ws : List ℕ) (i x : ℕ) → slice_get ws i ≡ Some x → get_or ws i 0 ≡ x
@@ -232,12 +233,14 @@ pub made_by : {them : Company} (key : Key) (words bytes : List ℕ) (v w : View)
     → effect plain_tick kind (get_or words (place key kind) 0) v ≡ w → place key kind ≡ p
     → after plain_tick kind v ≡ effect plain_tick kind (get_or words (place key kind) 0) v
     → Makes plain_tick kind (plain_mover key them words bytes v) (plain_mover key them (set words p x) bytes w)
-made_by key words bytes v w kind p x agrees share may made is_word is_view is_place any = record {
+made_by {them} key words bytes v w kind p x agrees share may made is_word is_view is_place any = record {
   keeps = keeps_plain key words (set words p x) bytes v w;
   missed = refl;
   view = sym (any ∙ is_view);
   reads = λ i n. reads_but words p x i (λ e. n (e ∙ sym is_place));
   words = λ u. written words p (place key kind) x _ (sym is_place) (sym is_word);
+  recalled = λ u. written words p (place key kind) x _ (sym is_place) (sym is_word);
+  fits = λ u ws e. plain_fits key them words bytes v ws agrees e;
   knows = (_, refl);
   apart = apart_known key (set words p x) bytes w
       (stepped key words bytes v w kind p x agrees share may made is_word is_view is_place);

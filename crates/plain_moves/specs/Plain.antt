@@ -102,11 +102,11 @@ plain_mover key them words bytes v = record {
   view = v;
   read = λ i. slice_get words i;
   words = Some words;
+  recalled = Some words;
   missed = false;
   is_undisturbed = Unit {0};
   is_alone = All IsIdleParty them.parties.items;
   loses_at_will = ⊥;
-  remembers = Unit {0};
   is_out = λ b. IsOutIn bytes b;
 }
 

@@ -26,7 +26,7 @@ use Rattle.plain_moves.specs.Acts.{MakesIt}
 use Rattle.script_moves.specs.Script.{IsPast, NoneAt, LosesAt, ShowsStop, StepsOnce}
 use Rattle.script_moves.specs.ScriptState.{at_by, read_by, scripted, stage_mover, IsOver, IsReady, IsLost, FindsWord, MeetsFirst, ShowsTo}
 use Rattle.script_moves.specs.Plays.{PlaysOn, IsSilent, TriesIt, LoadsIt, SwapsIt, HandsItOut, HandsItIn}
-use Rattle.script_moves.specs.ScriptLaws.{over_is_quiet}
+use Rattle.script_moves.specs.ScriptLaws.{over_is_quiet, stage_fits}
 use Rattle.script_moves.proofs.Cues.{is_not_at, cues_show, stepped}
 use Rattle.plain_moves.proofs.PlainSteps.{apart_known, got}
 
@@ -206,6 +206,8 @@ module _ (m r w n : Stage) (p : PlainMoves) (kind : Kind) (q : ℕ) (ready : IsR
     view = ap view_by now ∙ is.view ∙ ap (after plain_tick kind) ready.still.view;
     reads = reads_by is.keeps.same_key;
     words = changed m r p n.plain ready now kind (is.words tt);
+    recalled = changed m r p n.plain ready now kind (is.words tt);
+    fits = λ none ws e. stage_fits m ws e;
     knows = (_, refl);
     apart = subst (λ (w : PlainMoves). IsApart (key_by m.plain) (view_by w)) (sym now)
         (subst (λ (k : Key). IsApart k (view_by p)) ready.still.key is.apart);
@@ -324,6 +326,7 @@ module _ (m r : Stage) (p : PlainMoves) (ready : IsReady m r) (b : FrameBlock) w
     is_out = is.is_out;
     reads = reads_on;
     words = λ none. words_on (is.words tt) none;
+    recalled = λ none. words_on (is.words tt) none;
   }
 
   pub in_by : HandsIn plain_tick (λ d. d) b (mover_by r.plain) (mover_by p)
@@ -341,8 +344,7 @@ module _ (m r : Stage) (p : PlainMoves) (ready : IsReady m r) (b : FrameBlock) w
         missed = ready.untold.missed;
         view = is.view ∙ (λ k. joined_by plain_tick hand_in (ready.still.view k) (holder (Some (ready.still.key k)) b));
         reads = reads_on;
-        stays_so = λ so. so;
-        words = λ so none. words_on (is.words tt tt) none;
+        recalled = λ none. words_on (is.recalled tt) none;
       }
 
 -- The caller's own step.

@@ -43,11 +43,11 @@ scripted plain cues read begun missed = record {
   view = view_by plain;
   read = λ i. slice_get read i;
   words = Some (words_by plain);
+  recalled = Some (words_by plain);
   missed = missed;
   is_undisturbed = NoneAt (moves_made plain - begun) cues;
   is_alone = IsOver (moves_made plain - begun) cues plain;
   loses_at_will = LosesAt (moves_made plain - begun) cues;
-  remembers = Unit {0};
   is_out = λ b. IsOutIn plain.outs.items b;
 }
 

@@ -2,12 +2,13 @@
 
 ghost use Rattle.std.specs.Prelude.{◌≡◌, ◌+◌, ◌≤◌};
 ghost use Rattle.frame_words.specs.Geometry.{huge_order};
+ghost use Rattle.frame_model.specs.Block.{block};
 ghost use Rattle.core_frames.specs.Bounds.{most_moves, most_in_give};
 ghost use Rattle.frame_table.specs.Seats.{block_in};
 ghost use Rattle.core_frames.specs.Cores.{memory_of, moves_by, StepsAlone, IsSureOf, IsOutOf};
 ghost use Rattle.core_frames.specs.Cores.{IsCoreOf, StaysCoreOf, RecordsGiveAt};
 ghost use Rattle.core_frames.specs.Found.{IsOutAs};
-ghost use Rattle.core_frames.specs.Uses.{TakesThrough, HasGiven, GivesAsCore};
+ghost use Rattle.core_frames.specs.Uses.{TakesThrough, HasGiven, GivesAlone, GivesAsCore};
 
 use crate::gives::give_by;
 use crate::shared::allocator::{Allocator, Core};
@@ -46,6 +47,7 @@ impl Allocator {
         ensures core { StaysCoreOf self.now core.old core.new }
         ensures gives { HasGiven core.old core.new }
         ensures record { RecordsGiveAt (block_in block).frame core.old core.new }
+        ensures alone { GivesAlone self.now (block_in block) core.old core.new }
         ensures sure { StepsAlone self.now core.old → IsSureOf self.now core.new }
         ensures moves { moves_by core.new ≤ moves_by core.old + most_in_give }
     {
@@ -62,7 +64,7 @@ impl Allocator {
     fn give_huge(&self, core: &mut Core, found: Found)
         requires core { IsCoreOf self.now core.old }
         requires found { IsOutAs self.now huge_order found }
-        ensures gives { GivesAsCore self.now core.old core.new }
+        ensures gives { GivesAsCore self.now (block found.frame huge_order) core.old core.new }
         ensures record { RecordsGiveAt found.frame core.old core.new }
     {
         self.give_of(core, found.with_order(HUGE_ORDER));
@@ -72,7 +74,7 @@ impl Allocator {
     fn give_any(&self, core: &mut Core, found: Found, order: u8)
         requires core { IsCoreOf self.now core.old }
         requires found { IsOutAs self.now order found }
-        ensures gives { GivesAsCore self.now core.old core.new }
+        ensures gives { GivesAsCore self.now (block found.frame order) core.old core.new }
         ensures record { RecordsGiveAt found.frame core.old core.new }
     {
         self.give_of(core, found.with_order(order));
@@ -82,7 +84,7 @@ impl Allocator {
     fn give_of(&self, core: &mut Core, block: Block)
         requires core { IsCoreOf self.now core.old }
         requires block { IsOutOf self.now block }
-        ensures gives { GivesAsCore self.now core.old core.new }
+        ensures gives { GivesAsCore self.now (block_in block) core.old core.new }
         ensures record { RecordsGiveAt (block_in block).frame core.old core.new }
     {
         let mut m = SharedMoves::new(&self.table, &mut core.seat);

@@ -227,7 +227,7 @@ fn recall(allocator: &Allocator, core: &mut Core, entry: LabelledBlock) -> Block
 fn give_back(allocator: &Allocator, core: &mut Core, block: Block) -> (u32, u8)
     requires core { IsCoreOf allocator.now core.old }
     requires block { IsOutOf allocator.now block }
-    ensures gives { GivesAsCore allocator.now core.old core.new }
+    ensures gives { GivesAsCore allocator.now (block_in block) core.old core.new }
     ensures answer { block_at result.0 result.1 ≡ block_in block }
 {
     let answer = (block.frame(), block.order());

@@ -121,6 +121,8 @@ impl Moves for PlainMoves {
 
     ghost fits = { λ m ws e. plain_fits _ _ _ _ _ ws m.agrees e };
 
+    ghost recalls = { λ m ws e. e };
+
     ghost outs_are_blocks = { λ m b o. plain_outs _ _ _ _ b m.agrees o };
 
     ghost stays_alone = { λ _ _. tt };

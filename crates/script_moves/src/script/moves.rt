@@ -104,6 +104,8 @@ impl Moves for ScriptMoves {
 
     ghost fits = { script_fits };
 
+    ghost recalls = { λ m ws e. e };
+
     ghost outs_are_blocks = { λ m b o. plain_outs _ _ _ _ b m.stage.plain.agrees o };
 
     ghost stays_alone = { λ m. over_is_quiet (stage_by m) };

@@ -5,7 +5,8 @@ use Rattle.frame_model.specs.Block.{block}
 use Rattle.low_frames.proofs.TakeLemmas.{lies_anywhere, counts_none, in_then, out_then}
 use Rattle.core_frames.specs.Bounds.{most_in_join}
 use Rattle.core_frames.specs.Joins.{AreBuddies}
-use Rattle.core_frames.specs.Splits.{AreHalves}
+use Rattle.low_frames.proofs.AloneLemmas.{of_recalled, to_known}
+use Rattle.core_frames.specs.Splits.{AreHalves, SameWords}
 use Rattle.core_frames.proofs.SplitAlone.{still_same}
 use Rattle.core_frames.proofs.JoinLemmas.{both_of, elsewhere, lies_there, both_in, whole_out, can_hand_out_both, are_its_halves}
 use Rattle.core_frames.proofs.JoinLemmas.{all_but, the_buddies, the_both, can_hand_out_as, in_as, out_as}
@@ -97,11 +98,13 @@ returns-clause-joins g c =
         is_out = out.is_out;
         view = whole_out m.key low high is_low is_high are M.tick m.view n.view w.view c.requires.idle.own both
             (out_as M.tick n.view w.view (block c.frame-frame.result (c.order-order.result + 1)) (both_of low) whole out.view);
-        alone = λ so a.
-            still_same m.words w.words
-            (out.words (g.met.M.Moves.stays_alone c.hand_in-2.new.self (second.keeps.stays_alone (first.keeps.stays_alone a)))
-            ∙ second.words (first.stays_so so) (g.met.M.Moves.stays_alone c.hand_in.new.self (first.keeps.stays_alone a))
-            ∙ first.words so (g.met.M.Moves.stays_alone c.args.m.now a));
+        alone = λ a knows.
+            of_recalled SameWords m.words m.recalled w.words (g.met.M.Moves.recalls c.args.m.now)
+            (to_known SameWords m.recalled w.words w.recalled knows.0 knows.1 (g.met.M.Moves.recalls c.hand_out.new.self)
+            (still_same m.recalled w.recalled
+            (out.recalled (g.met.M.Moves.stays_alone c.hand_in-2.new.self (second.keeps.stays_alone (first.keeps.stays_alone a)))
+            ∙ second.recalled (g.met.M.Moves.stays_alone c.hand_in.new.self (first.keeps.stays_alone a))
+            ∙ first.recalled (g.met.M.Moves.stays_alone c.args.m.now a))));
       };
       err = tt;
     }

@@ -1,6 +1,8 @@
 use Rattle.std.proofs.Common.{◌+◌, ◌*◌, ap, refl, ◌∙◌, arith}
 use Rattle.frame_model.specs.declared.view.View.{View}
-use Rattle.low_frames.proofs.Sure.{sure_both, sure_make}
+use Rattle.frame_model.specs.Steps.{fill_word}
+use Rattle.frame_core.specs.Moves.{drop_whole}
+use Rattle.low_frames.proofs.AloneLemmas.{also_recalled}
 use Rattle.low_frames.proofs.TakeLemmas.{keeps_both, make_then}
 use Rattle.core_frames.specs.Bounds.{most_to_break_up}
 use Rattle.core_frames.proofs.SplitAlone.{filled_same, dropped_same}
@@ -31,13 +33,14 @@ loop-i-preserved g c =
       brings = record {
         keeps = keeps_both was.keeps now.keeps;
         counts = make_then M.tick M.is_exact g.met.M.Moves.ticks c.loop-i.i (c.loop-i.i + 1) (omega arith) was.counts now;
-        sure = sure_both was.sure (sure_make (g.met.M.Moves.stays_alone c.loop-i.m) now);
         view = filled_one M.tick m.view u.view w.view word was.view now.view;
         alone = λ a.
-            filled_same u.key m.key u.view u.is_alone c.args.child word m.words u.words w.words was.keeps.same_key c.requires.child
+            let calm = g.met.M.Moves.stays_alone c.loop-i.m (was.keeps.stays_alone a) in
+            filled_same u.key m.key u.view u.is_alone c.args.child word m.recalled u.recalled w.recalled was.keeps.same_key c.requires.child
             (omega arith) (huge_own u.view c.args.child (ap (λ (x : View). x.own) was.view ∙ c.requires.own))
-            (g.met.M.Moves.fits c.loop-i.m)
-            (now.words (g.met.M.Moves.stays_alone c.loop-i.m (was.keeps.stays_alone a))) (was.alone a);
+            (now.fits calm)
+            (also_recalled u.key (fill_word word) u.recalled w.words w.recalled (g.met.M.Moves.recalls c.fill_word.new.self)
+            (now.recalled calm)) (was.alone a);
       };
       filled = filled_more M.tick u.view w.view (8 * c.args.child) c.loop-i.i word now.view refl c.loop-i.invariant.filled;
     }
@@ -64,11 +67,12 @@ returns g c =
     record {
       keeps = keeps_both was.keeps now.keeps;
       counts = make_then M.tick M.is_exact g.met.M.Moves.ticks c.loop-i.i most_to_break_up (omega arith) was.counts now;
-      sure = sure_both was.sure (sure_make (g.met.M.Moves.stays_alone c.loop-i.m) now);
       view = dropped M.tick m.key m.view u.view w.view c.args.child c.requires.child c.requires.own was.view now.view;
       alone = λ a.
-          dropped_same u.key m.key u.view u.is_alone c.args.child m.words u.words w.words was.keeps.same_key c.requires.child
+          let calm = g.met.M.Moves.stays_alone c.loop-i.m (was.keeps.stays_alone a) in
+          dropped_same u.key m.key u.view u.is_alone c.args.child m.recalled u.recalled w.recalled was.keeps.same_key c.requires.child
           (huge_own u.view c.args.child (ap (λ (x : View). x.own) was.view ∙ c.requires.own))
-          (λ n l h. c.loop-i.invariant.filled n l (omega (arith, h, c.loop-i-test.false))) (g.met.M.Moves.fits c.loop-i.m)
-          (now.words (g.met.M.Moves.stays_alone c.loop-i.m (was.keeps.stays_alone a))) (was.alone a);
+          (λ n l h. c.loop-i.invariant.filled n l (omega (arith, h, c.loop-i-test.false))) (now.fits calm)
+          (also_recalled u.key (drop_whole c.args.child) u.recalled w.words w.recalled (g.met.M.Moves.recalls c.drop_flag.new.self)
+          (now.recalled calm)) (was.alone a);
     }

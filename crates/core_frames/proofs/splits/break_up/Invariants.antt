@@ -1,7 +1,6 @@
 use Rattle.std.proofs.Common.{◌≡◌, ℕ, ◌+◌, ◌*◌, ◌<◌, ◌≤◌}
 use Rattle.frame_model.specs.View.{names}
-use Rattle.core_frames.specs.Searches.{Brings}
-use Rattle.core_frames.specs.Splits.{Bears}
+use Rattle.core_frames.specs.Splits.{Bears, TurnsRecalled}
 use Rattle.core_frames.proofs.SplitAlone.{KeepsFlags}
 use Rattle.core_frames.proofs.splits.break_up.Given as goal
 
@@ -9,6 +8,6 @@ abbrev pub invariant-loop-i : goal.invariant-loop-i
 invariant-loop-i g l =
     let M = g.M.Moves in
     record {
-      brings : Brings M.is_exact l.i (λ v w. Bears v v.own w.filled v.lent w) (KeepsFlags (M.at l.fn.m).key) (M.at l.fn.m) (M.at l.m);
+      brings : TurnsRecalled M.is_exact l.i (λ v w. Bears v v.own w.filled v.lent w) (KeepsFlags (M.at l.fn.m).key) (M.at l.fn.m) (M.at l.m);
       filled : (n : ℕ) → 8 * l.fn.child ≤ n → n < 8 * l.fn.child + l.i → names n (M.at l.m).view.filled ≡ 1;
     }

@@ -33,9 +33,9 @@ returns-then-order-lt-HUGE_ORDER g c =
       two = subst (MakeTwo m.key b.frame (b.order - 1)) (sym (ap (λ (x : View). x.own) came))
           (two_small m.key b.frame b.order c.requires.some (omega (arith, c.order-order.ensures, c.if-order-lt-HUGE_ORDER.true))
           (g.met.M.Moves.outs_are_blocks c.args.m.now c.args.held c.requires.held));
-      alone = λ so a.
-          none_lost m.key b m.words u.words (omega (arith, c.order-order.ensures, c.if-order-lt-HUGE_ORDER.true))
-          (c.hand_in.ensures.words so (g.met.M.Moves.stays_alone c.args.m.now a));
+      alone = λ a.
+          none_lost m.key b m.recalled u.recalled (omega (arith, c.order-order.ensures, c.if-order-lt-HUGE_ORDER.true))
+          (c.hand_in.ensures.recalled (g.met.M.Moves.stays_alone c.args.m.now a));
     }
 
 pub returns : goal.returns
@@ -58,9 +58,9 @@ returns g c =
           [] u.view.lent now.view);
       two = two_huge m.key b c.child_of.result w.view.own is (omega (arith, c.order-order.ensures, c.if-order-lt-HUGE_ORDER.false))
           at (omega (arith, at, child_inside m.key b is)) (ap (λ (x : View). x.own) now.view);
-      alone = λ so a.
-          then_lost m.key u.key b c.child_of.result m.words u.words w.words c.hand_in.ensures.keeps.same_key
-          (c.hand_in.ensures.words so (g.met.M.Moves.stays_alone c.args.m.now a))
+      alone = λ a.
+          then_lost m.key u.key b c.child_of.result m.recalled u.recalled w.recalled c.hand_in.ensures.keeps.same_key
+          (c.hand_in.ensures.recalled (g.met.M.Moves.stays_alone c.args.m.now a))
           (as_child m.key b is (omega (arith, c.order-order.ensures, c.if-order-lt-HUGE_ORDER.false))
           ∙ ap (λ n. block (512 * n) 9) (sym at))
           (now.alone (c.hand_in.ensures.keeps.stays_alone a));

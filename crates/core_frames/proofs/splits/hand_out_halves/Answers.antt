@@ -53,6 +53,9 @@ returns g c =
             (high.words (g.met.M.Moves.stays_alone c.hand_out-lower.new.self (low.keeps.stays_alone a))
             ∙ low.words (g.met.M.Moves.stays_alone c.args.m.now a));
       };
+      recalled = λ a.
+          high.recalled (g.met.M.Moves.stays_alone c.hand_out-lower.new.self (low.keeps.stays_alone a))
+          ∙ low.recalled (g.met.M.Moves.stays_alone c.args.m.now a);
       lower = low.is_block;
       upper = high.is_block ∙ ap (λ n. block (c.args.frame + n) c.args.order) c.frames_of.ensures.value;
       first_out = high.keeps.stay_out c.hand_out-lower.result low.is_out;

@@ -3,9 +3,10 @@ use Rattle.frame_model.specs.Block.{block}
 use Rattle.low_frames.proofs.TakeLemmas.{then_counts, others_both}
 use Rattle.core_frames.specs.Bounds.{most_to_bring_in, most_in_split}
 use Rattle.core_frames.specs.Search.{HasLentOne}
-use Rattle.core_frames.specs.Splits.{AreHalves}
+use Rattle.low_frames.proofs.AloneLemmas.{of_recalled, to_known}
+use Rattle.core_frames.specs.Splits.{AreHalves, LosesFlag, SameWords}
 use Rattle.core_frames.proofs.SplitLemmas.{split_up}
-use Rattle.core_frames.proofs.SplitAlone.{halved_words}
+use Rattle.core_frames.proofs.SplitAlone.{halved_words, still_same}
 use Rattle.core_frames.proofs.splits.split_by.Goals as goal
 
 pub returns-clause-splits : goal.returns-clause-splits
@@ -36,12 +37,16 @@ returns-clause-splits g c =
         first_out = out.first_out;
         second_out = out.second_out;
         view = lent;
-        alone = λ so a.
+        alone = λ a knows.
+            let later = came.keeps.stays_alone a in
             halved_words m.key w.key b (block_of c.hand_out_halves.result.0) (block_of c.hand_out_halves.result.1) m.view w.view m.is_alone
-            w.is_alone m.words u.words w.words (out.brings.keeps.same_key ∙ came.keeps.same_key)
+            w.is_alone m.words u.recalled w.words (out.brings.keeps.same_key ∙ came.keeps.same_key)
             (g.met.M.Moves.outs_are_blocks c.args.m.now c.args.held c.requires.held) are c.requires.idle lent a
-            (out.brings.keeps.stays_alone (came.keeps.stays_alone a)) (g.met.M.Moves.fits c.args.m.now)
-            (g.met.M.Moves.fits c.hand_out_halves.new.m) (came.alone so a) (out.brings.alone (came.keeps.stays_alone a));
+            (out.brings.keeps.stays_alone later) (g.met.M.Moves.fits c.args.m.now)
+            (g.met.M.Moves.fits c.hand_out_halves.new.m)
+            (of_recalled (LosesFlag m.key b) m.words m.recalled u.recalled (g.met.M.Moves.recalls c.args.m.now) (came.alone a))
+            (to_known SameWords u.recalled w.words w.recalled knows.0 knows.1 (g.met.M.Moves.recalls c.hand_out_halves.new.m)
+            (still_same u.recalled w.recalled (out.recalled later)));
       };
       err = tt;
     }

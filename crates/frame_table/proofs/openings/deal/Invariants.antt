@@ -3,6 +3,7 @@ use Rattle.std.specs.List.{All}
 use Rattle.frame_model.specs.View.{idle}
 use Rattle.frame_table.specs.Seats.{key_at, id_of, KnowsAll, IsSeat}
 use Rattle.frame_table.specs.Openings.{moved, IsNew}
+use Rattle.frame_table.specs.Rule.{known_in}
 use Rattle.frame_table.proofs.openings.deal.Given as goal
 
 abbrev pub invariant-loop-core : goal.invariant-loop-core
@@ -11,7 +12,7 @@ invariant-loop-core l = record {
   moves : l.seat.me.0.view.moves ≤ l._core + 1;
   view : l.seat.me.0.view ≡ moved l.seat.me.0.view.moves (idle (key_at l.table) ((key_at l.table).cores - l._core));
   count : vec_len l.seats ≡ l._core;
-  knows : l._core ≡ 0 → KnowsAll l.seat.me.0.known;
+  knows : l._core ≡ 0 → KnowsAll (known_in l.seat.me.0);
   room : (key_at l.table).cores ≤ vec_capacity l.seats;
   new : All (IsNew l.table) l.seats.items;
 }

@@ -4,7 +4,9 @@ use Rattle.frame_model.specs.View.{IsViewOf}
 use Rattle.frame_model.proofs.Steps.Shared.{view_of}
 use Rattle.frame_model.specs.Fit.{Fit}
 use Rattle.frame_core.specs.Image.{Contents}
-use Rattle.frame_table.specs.Rule.{key_from, first_view, FitsAmong}
+use Rattle.atomic_table.specs.Table.{Me}
+use Rattle.frame_table.specs.declared.rule.Watch.{Watch}
+use Rattle.frame_table.specs.Rule.{key_from, known_in, first_view, FitsAmong}
 use Rattle.frame_table.specs.Seats.{key_at, id_of}
 use Rattle.frame_table.proofs.Dealing.{fresh_seat}
 use Rattle.frame_table.proofs.openings.open_words.Goals as goal
@@ -35,3 +37,7 @@ returns-clause-seat c =
     ) in
     ∣ subst (λ (k : Key). FitsAmong k words (first_view o)) key
     (subst (λ ws. FitsAmong (key_from o) ws (first_view o)) same first) ∣₁)
+
+pub returns-clause-knows : goal.returns-clause-knows
+returns-clause-knows c =
+    (c.args.origin.image.value.words, ap (λ (me : Me (Unit {0}) Watch). known_in me.0) c.in-Ok.ensures.4)

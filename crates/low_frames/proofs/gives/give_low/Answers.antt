@@ -3,7 +3,9 @@ use Rattle.frame_model.specs.Block.{block, IsBlock}
 use Rattle.frame_model.specs.Without.{without}
 use Rattle.low_frames.proofs.TakeLemmas.{lies_anywhere, keeps_both, others_both}
 use Rattle.low_frames.proofs.Counts.{at_most, both_counts, in_counts, make_counts}
-use Rattle.low_frames.proofs.Sure.{sure_both, sure_in, sure_make}
+use Rattle.low_frames.proofs.Sure.{loses_both, loses_none_in, loses_none_make}
+use Rattle.low_frames.specs.Alone.{HoldsMore}
+use Rattle.low_frames.proofs.AloneLemmas.{of_recalled}
 use Rattle.low_frames.proofs.GiveLemmas.{charges_but, can_give_huge, huge_back, can_refund_then, small_back}
 use Rattle.low_frames.proofs.GiveAlone.{small_given, huge_given}
 use Rattle.low_frames.proofs.gives.give_low.Goals as goal
@@ -82,17 +84,23 @@ returns-then-order-eq-HUGE_ORDER g c =
       back = huge_back M.tick m.key (Some m.key) b m.view n.view is c.requires.charged c.requires.own taken.view
           (M.at c.give_huge.new.self).view c.frame-frame.result c.order-order.result c.child_of.result c.frame-frame.ensures
           c.order-order.ensures c.if-order-eq-HUGE_ORDER.true c.child_of.ensures given.view;
-      sure = λ so. sure_both (sure_in (still c.args.m.now) taken so) (sure_make (still c.hand_in.new.self) given);
+      sure = record {
+        is_sure = λ s. (given.keeps.stays_alone (taken.keeps.stays_alone s.0), given.knows);
+        loses_none = λ s. loses_both (loses_none_in taken) (loses_none_make given);
+      };
       knows = given.knows;
-      alone_given = λ so h.
-          let flight = taken.words so (still c.args.m.now h) in
+      alone_given = λ h.
+          let calm = still c.hand_in.new.self (taken.keeps.stays_alone h) in
+          let flight = taken.recalled (still c.args.m.now h) in
           let can = can_give_huge M.tick m.key (Some m.key) b m.view n.view is c.requires.charged c.requires.own taken.view n.key
           c.frame-frame.result c.order-order.result c.child_of.result taken.keeps.same_key c.frame-frame.ensures c.order-order.ensures
           c.if-order-eq-HUGE_ORDER.true c.child_of.ensures (g.met.M.Moves.fills_own c.args.m.now c.requires.own) c.requires.paid in
-          huge_given n.key m.key n.view n.is_alone b c.frame-frame.result c.order-order.result c.child_of.result
-          (without (block (512 * c.child_of.result) 9) n.view.own) m.words n.words (M.at c.give_huge.new.self).words
+          of_recalled (λ ws us. HoldsMore m.key us ws b) m.words m.recalled (M.at c.give_huge.new.self).words
+          (g.met.M.Moves.recalls c.args.m.now)
+          (huge_given n.key m.key n.view n.is_alone b c.frame-frame.result c.order-order.result c.child_of.result
+          (without (block (512 * c.child_of.result) 9) n.view.own) m.recalled n.recalled (M.at c.give_huge.new.self).words
           taken.keeps.same_key is c.frame-frame.ensures c.order-order.ensures c.if-order-eq-HUGE_ORDER.true c.child_of.ensures flight can
-          (g.met.M.Moves.fits c.hand_in.new.self) (given.words (still c.hand_in.new.self (taken.keeps.stays_alone h)));
+          (given.fits calm) (given.recalled calm));
     }
 
 pub returns-else-order-eq-HUGE_ORDER : goal.returns-else-order-eq-HUGE_ORDER
@@ -116,9 +124,12 @@ returns-else-order-eq-HUGE_ORDER g c =
           c.frame-frame.result c.order-order.result c.child_of-else-order-eq-HUGE_ORDER.result c.frames_of.result c.frame-frame.ensures
           c.order-order.ensures c.child_of-else-order-eq-HUGE_ORDER.ensures c.frames_of.ensures.value l.view released.view
           (M.at c.refund.new.self).view back.view;
-      sure = λ so. sure_both (sure_in (still c.args.m.now) taken so) (sure_both released.sure (sure_make (still c.release_block.new.m) back));
+      sure = record {
+        is_sure = λ s. (back.keeps.stays_alone (released.keeps.stays_alone (taken.keeps.stays_alone s.0)), back.knows);
+        loses_none = λ s. loses_both (loses_none_in taken) (loses_both released.loses_none (loses_none_make back));
+      };
       knows = back.knows;
-      alone_given = λ so h.
+      alone_given = λ h.
           let alone = taken.keeps.stays_alone h in
           let same = released.keeps.same_key ∙ taken.keeps.same_key in
           let can = can_refund_then M.tick m.key (Some m.key) b m.view n.view is c.requires.charged c.requires.own taken.view
@@ -126,8 +137,10 @@ returns-else-order-eq-HUGE_ORDER g c =
           c.order-order.ensures c.child_of-else-order-eq-HUGE_ORDER.ensures c.frames_of.ensures.value l.view released.view l.key same in
           let whole : block c.frame-frame.result c.order-order.result ≡ b =
           ap (λ f. block f c.order-order.result) c.frame-frame.ensures ∙ ap (block b.frame) c.order-order.ensures in
-          small_given l.key n.key m.key l.view l.is_alone b (block c.frame-frame.result c.order-order.result)
-          c.child_of-else-order-eq-HUGE_ORDER.result c.frames_of.result m.words n.words l.words (M.at c.refund.new.self).words same
-          taken.keeps.same_key whole (taken.words so (still c.args.m.now h)) can (g.met.M.Moves.fits c.release_block.new.m)
-          (released.alone alone) (back.words (still c.release_block.new.m (released.keeps.stays_alone alone)));
+          of_recalled (λ ws us. HoldsMore m.key us ws b) m.words m.recalled (M.at c.refund.new.self).words
+          (g.met.M.Moves.recalls c.args.m.now)
+          (small_given l.key n.key m.key l.view l.is_alone b (block c.frame-frame.result c.order-order.result)
+          c.child_of-else-order-eq-HUGE_ORDER.result c.frames_of.result m.recalled n.recalled l.words (M.at c.refund.new.self).words same
+          taken.keeps.same_key whole (taken.recalled (still c.args.m.now h)) can (g.met.M.Moves.fits c.release_block.new.m)
+          (released.alone alone) (back.words (still c.release_block.new.m (released.keeps.stays_alone alone))));
     }

@@ -1,6 +1,6 @@
 use Rattle.std.proofs.Common.{◌%◌, arith, rules}
 use Rattle.low_frames.proofs.Counts.{at_most, make_counts}
-use Rattle.low_frames.proofs.Sure.{sure_make}
+use Rattle.low_frames.proofs.Sure.{loses_none_make}
 use Rattle.low_frames.proofs.GiveAlone.{block_given, words_given}
 use Rattle.low_frames.proofs.GiveLemmas.{few_words, aligned_in_word, some_words, words_in_flight}
 use Rattle.low_frames.proofs.GiveLemmas.{can_release_block, block_released, words_released}
@@ -42,13 +42,13 @@ returns-then-order-le-WORD_ORDER g c =
     record {
       keeps = made.keeps;
       counts = at_most ticks (make_counts ticks made) (omega arith);
-      sure = sure_make still made;
+      loses_none = loses_none_make made;
       view = block_released M.tick m.key m.view (M.at c.release.new.self).view c.args.frame c.args.order c.requires.is_block
           c.requires.own made.view;
       alone = λ h.
-          block_given m.key m.view m.is_alone c.args.frame c.args.order m.words (M.at c.release.new.self).words
+          block_given m.key m.view m.is_alone c.args.frame c.args.order m.recalled (M.at c.release.new.self).words
           c.if-order-le-WORD_ORDER.true
-          c.requires.is_block c.requires.own (g.met.M.Moves.fits c.args.m.now) (made.words (still h));
+          c.requires.is_block c.requires.own (made.fits (still h)) (made.recalled (still h));
     }
 
 pub returns-else-order-le-WORD_ORDER : goal.returns-else-order-le-WORD_ORDER
@@ -61,11 +61,11 @@ returns-else-order-le-WORD_ORDER g c =
       keeps = made.keeps;
       counts = at_most g.met.M.Moves.ticks made.counts
           (few_words c.args.order c.frames_of.result c.requires.order c.frames_of.ensures.value);
-      sure = made.sure;
+      loses_none = made.loses_none;
       view = words_released m.view n.view c.child_of.result c.args.frame c.args.order c.frames_of.result
           (omega (arith, c.if-order-le-WORD_ORDER.false)) c.requires.order c.child_of.ensures c.frames_of.ensures.value made.view;
       alone = λ h.
-          words_given m.key c.args.frame c.args.order c.child_of.result c.frames_of.result m.words n.words
+          words_given m.key c.args.frame c.args.order c.child_of.result c.frames_of.result m.recalled n.words
           (omega (arith, c.if-order-le-WORD_ORDER.false)) c.requires.order c.requires.is_block c.child_of.ensures c.frames_of.ensures.value
-          (made.alone h);
+          (made.recalled h);
     }

@@ -1,6 +1,6 @@
-use Rattle.std.proofs.Common.{◌+◌, ◌-◌, ◌*◌}
-use Rattle.frame_core.specs.Mover.{Keeps}
-use Rattle.low_frames.specs.Takes.{Counts, StaysSure}
+use Rattle.std.proofs.Common.{◌+◌, ◌-◌, ◌*◌, ◌<◌}
+use Rattle.frame_core.specs.Mover.{Keeps, KnowsWords}
+use Rattle.low_frames.specs.Takes.{Counts, LosesNone, StaysSure}
 use Rattle.low_frames.specs.Groups.{HoldsWords, ReadsOutside, HasGivenWords}
 use Rattle.low_frames.proofs.AmountLemmas.{HasReleasedSome}
 use Rattle.low_frames.proofs.gives.release_words.Given as goal
@@ -18,5 +18,7 @@ invariant-loop-i g l =
       read : ReadsOutside m.key first l.count m.read now.read;
       counts : Counts M.is_exact l.i m now;
       sure : StaysSure m now;
-      given : m.is_alone → HasGivenWords m.key m.words now.words first l.i;
+      loses : LosesNone m now;
+      knows : 0 < l.i → KnowsWords now;
+      given : m.is_alone → HasGivenWords m.key m.recalled now.recalled first l.i;
     }

@@ -48,7 +48,7 @@ invariant_of-self c =
     (renamed (set a.starts.items b.frame 0) (set a.starts.items c.frame-frame.result 0)
     (ap (λ (x : ℕ). set a.starts.items x 0) (sym c.frame-frame.ensures))
     (given key _ _ m.words.items n.words.items a.starts.items a.habits.items a.refused c.self.invariant refl b has _ most_in_give
-    c.give_by.ensures.gives tt))
+    c.give_by.ensures.gives))
 
 pub returns-clause-out : goal.returns-clause-out
 returns-clause-out c =

@@ -62,7 +62,7 @@ invariant_of-self-2 c =
     (renamed (halved a.starts.items b.frame (b.order - 1))
     (set (set a.starts.items c.frame.result c.out_byte-byte.result) c.frame-2.result c.out_byte-byte.result) (bytes_are c)
     (divided (sealed_key m.geometry a.ranges.items) _ _ m.words.items n.words.items a.starts.items a.habits.items a.refused
-    c.self.invariant refl b c.in-Ok.halves.0 c.in-Ok.halves.1 (has_it c) c.split_by.ensures.splits.keeps c.in-Ok.ensures.splits.ok tt))
+    c.self.invariant refl b c.in-Ok.halves.0 c.in-Ok.halves.1 (has_it c) c.split_by.ensures.splits.keeps c.in-Ok.ensures.splits.ok))
 
 pub returns-clause-split : goal.returns-clause-split
 returns-clause-split c =
@@ -73,7 +73,7 @@ returns-clause-split c =
     let are = c.in-Ok.ensures.splits.ok.are_halves in
     let now : List ℕ = set (set a.starts.items c.frame.result c.out_byte-byte.result) c.frame-2.result c.out_byte-byte.result in
     let made = halves_out (sealed_key m.geometry a.ranges.items) _ _ m.words.items n.words.items a.starts.items a.habits.items a.refused
-    c.self.invariant refl b c.in-Ok.halves.0 c.in-Ok.halves.1 (has_it c) c.split_by.ensures.splits.keeps c.in-Ok.ensures.splits.ok tt in
+    c.self.invariant refl b c.in-Ok.halves.0 c.in-Ok.halves.1 (has_it c) c.split_by.ensures.splits.keeps c.in-Ok.ensures.splits.ok in
     let first : IsPermutation (b ∷ out_of now)
     (block b.frame (b.order - 1) ∷ block (b.frame + 2 ^ (b.order - 1)) (b.order - 1) ∷ out_of a.starts.items) =
     subst (λ (bytes : List ℕ). IsPermutation (b ∷ out_of bytes)
@@ -94,7 +94,7 @@ returns-clause-kept c =
     let b : FrameBlock = c.args.block in
     ap kept_of (sym (bytes_are c))
     ∙ halves_kept (sealed_key m.geometry a.ranges.items) _ _ m.words.items n.words.items a.starts.items a.habits.items a.refused
-    c.self.invariant refl b c.in-Ok.halves.0 c.in-Ok.halves.1 (has_it c) c.split_by.ensures.splits.keeps c.in-Ok.ensures.splits.ok tt
+    c.self.invariant refl b c.in-Ok.halves.0 c.in-Ok.halves.1 (has_it c) c.split_by.ensures.splits.keeps c.in-Ok.ensures.splits.ok
     ∙ ap (λ (s : PlainState). s.kept) c.self.view_is
 
 pub returns-clause-geometry : goal.returns-clause-geometry

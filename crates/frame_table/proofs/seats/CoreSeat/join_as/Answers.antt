@@ -16,4 +16,5 @@ returns g c =
       };
       view = view;
       reads = search rules;
+      recalled = ap (λ (me : Me (Unit {0}) Watch). me.0.known) c.join_seat.ensures.both;
     }

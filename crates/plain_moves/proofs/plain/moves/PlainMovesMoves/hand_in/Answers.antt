@@ -45,8 +45,7 @@ returns c =
           ∙ ap (λ i. out_count (set m.outs.items i 0) + 1) (sym f))
           (sym (c.push_front_reserved.ensures.items ∙ (λ i. block (f i) (o i) ∷ m.own.items))) (sym c.saturating_add-self.ensures));
       reads = refl;
-      stays_so = λ r. r;
-      words = λ r u. refl;
+      recalled = λ u. refl;
     }
 
 pub invariant_of-self-clause-agrees : goal.invariant_of-self-clause-agrees

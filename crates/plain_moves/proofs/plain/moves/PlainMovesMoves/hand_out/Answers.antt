@@ -85,4 +85,5 @@ returns c =
       is_out = search rules;
       reads = refl;
       words = λ u. refl;
+      recalled = λ u. refl;
     }
