@@ -3,11 +3,12 @@ use Rattle.std.specs.Prelude.{◌≡◌, ℕ, ◌+◌, ◌<◌, ◌≤◌, Bool,
 use Rattle.std.specs.List.{sum_by}
 use Rattle.frame_words.specs.declared.fault.TakeFault.{TakeFault}
 use Rattle.frame_words.specs.declared.fault.TakeFault.TheVariants.{BadOrder, NoBlock, Contended}
+use Rattle.frame_table.specs.Seats.{block_in}
 use Rattle.core_frames.specs.declared.shared.allocator.Allocator.{Allocator}
 use Rattle.core_frames.specs.declared.shared.allocator.Core.{Core}
 use Rattle.core_frames.specs.Bounds.{most_moves}
 use Rattle.core_frames.specs.Cores.{memory_of, kept_by, lent_by, moves_by, losses_by}
-use Rattle.core_frames.specs.Uses.{HasTaken, HasMovedForEach, IsRefusedFor, HasGiven}
+use Rattle.core_frames.specs.Uses.{HasTaken, HasMovedForEach, IsRefusedFor, HasGiven, GivesAlone}
 use Rattle.frame_zones.specs.Zones.{zone_count, zone_at, core_at, InEach, IsOutOfItsZone, StayCoresOf}
 use Rattle.frame_zones.specs.declared.zones.Zones.{Zones}
 use Rattle.frame_zones.specs.declared.zones.ZoneCore.{ZoneCore}
@@ -23,6 +24,12 @@ OthersStay zs z c d = (k : ℕ) (x : Core) → k < zone_count zs → ¬ (k ≡ z
 pub record GivesIn (zs : Zones) (z : ℕ) (c d : ZoneCore) : Type 0 where
   pub here : (x : Core) → HasGiven (core_at c z x) (core_at d z x)
   pub others : OthersStay zs z c d
+
+-- where nobody else steps in the zone of the block, its frames, held before, are free; every other of
+-- the zone is as before
+abbrev pub GivesAloneIn : Zones → ZoneBlock → ZoneCore → ZoneCore → Type 0
+GivesAloneIn zs b c d = (a : Allocator) (x : Core)
+    → GivesAlone (zone_at zs b.zone a) (block_in b.block) (core_at c b.zone x) (core_at d b.zone x)
 
 -- what says that a block was given names this one
 pub record IsGivenFor (b : ZoneBlock) (g : GivenBlock) : Type 0 where

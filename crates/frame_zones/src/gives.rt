@@ -3,7 +3,7 @@
 ghost use Rattle.std.specs.Prelude.{◌+◌, ◌≤◌};
 ghost use Rattle.core_frames.specs.Bounds.{most_in_give};
 ghost use Rattle.frame_zones.specs.Zones.{AreCoresOf, StayCoresOf, IsOutOfItsZone};
-ghost use Rattle.frame_zones.specs.Uses.{GivesIn, IsGivenFor, MovesAtMost, moves_through};
+ghost use Rattle.frame_zones.specs.Uses.{GivesIn, GivesAloneIn, IsGivenFor, MovesAtMost, moves_through};
 
 use crate::block::{GivenBlock, ZoneBlock};
 use crate::zones::{ZoneCore, Zones};
@@ -17,6 +17,7 @@ impl Zones {
         requires block { IsOutOfItsZone self.now block }
         ensures core { StayCoresOf self.now core.old core.new }
         ensures gives { GivesIn self.now block.zone core.old core.new }
+        ensures alone { GivesAloneIn self.now block core.old core.new }
         ensures given { IsGivenFor block result }
         ensures moves { MovesAtMost most_in_give block.zone core.old core.new }
         ensures all_moves { moves_through core.new ≤ moves_through core.old + most_in_give }
