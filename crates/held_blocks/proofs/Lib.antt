@@ -1,8 +1,8 @@
 pub mod LabelLemmas
 pub mod ChainSteps
 pub mod ChainLists
-pub mod TableLemmas
 pub mod Slots
+pub mod PageLemmas
 pub mod StoreLemmas
 pub mod Outcomes
 pub mod HeldLemmas

@@ -9,12 +9,13 @@ use Rattle.held_blocks.specs.declared.label_chains.LabelChains.{LabelChains}
 use Rattle.held_blocks.specs.declared.slot_pages.SlotPages.{SlotPages}
 use Rattle.held_blocks.specs.Label.{is_label, packed}
 use Rattle.held_blocks.specs.LabelChains.{Chained, IsFirstLive, NoneLive, is_live}
-use Rattle.held_blocks.specs.SlotPages.{HasPage, KeepsSlots, slot_at}
+use Rattle.held_blocks.specs.SlotPages.{HasPage, KeepsSlots, Counts, number_at, number_in, begins_in, slot_at}
 use Rattle.held_blocks.specs.LabelledBlocks.{IsUnder, IsTheBlock, BeginsAt, HasNone}
 use Rattle.held_blocks.specs.Slots.{held, FindsEntries, IsFound, StandsAt, IsFirstAt, HoldsAt}
 use Rattle.held_blocks.specs.Slots.{KnowsEachLabel, CanMove}
 use Rattle.held_blocks.proofs.LabelLemmas.{same_label}
 use Rattle.held_blocks.proofs.ChainLists.{chained_less}
+use Rattle.held_blocks.proofs.PageLemmas.{number_less, number_some}
 use Rattle.held_blocks.proofs.Slots.{held_push, held_less, none_held, all_at, below_from_some}
 use Rattle.held_blocks.proofs.Slots.{some_from, still, old_or_new}
 
@@ -36,12 +37,24 @@ module _ {slots : List (Option LabelledBlock)} {chains : LabelChains} {pages : S
     count = rw same fits.count;
   }
 
-  -- an entry leaves
-  pub fits_take : {slots' : List (Option LabelledBlock)} {n : ℕ} (i : ℕ) (e : LabelledBlock)
-      → StandsAt slots i e → slots' ≡ set slots i None → n + 1 ≡ live → FindsEntries slots' chains pages n
-  fits_take i e stands less one_less = record {
+  -- an entry leaves, and its page counts one less
+  pub fits_take : {slots' : List (Option LabelledBlock)} {pages' : SlotPages} {n : ℕ} (i : ℕ) (e : LabelledBlock)
+      → StandsAt slots i e → slots' ≡ set slots i None → n + 1 ≡ live → Counts pages (held slots)
+      → ((f : ℕ) → number_at pages' f + begins_in e.block.frame f ≡ number_at pages f)
+      → ((f : ℕ) → HasPage pages' f → slot_at pages' f ≡ slot_at pages f) → FindsEntries slots' chains pages' n
+  fits_take {slots' = slots'} {pages' = pages'} i e stands less one_less counts numbers kept = record {
     chained = rw less (chained_less chains slots i fits.chained);
-    each = λ j f h. fits.each j f (still slots i j f (rw less at h));
+    each = λ j f h.
+        let was = fits.each j f (still slots i j f (rw less at h)) in
+        let frame = f.block.frame in
+        let page : HasPage pages' frame =
+        omega (arith, number_some slots' j f h, ap (λ l. number_in (held l) frame) less, number_less slots i e frame stands, counts frame, numbers frame) in
+        record {
+          lawful = was.lawful;
+          key = was.key;
+          page = page;
+          slot = kept frame page ∙ was.slot;
+        };
     count = rw less (omega (arith, held_less slots i e stands, fits.count));
   }
 

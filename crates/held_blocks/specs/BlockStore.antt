@@ -1,10 +1,10 @@
 -- What a store of entries has room for. No public clause cites this module.
-use Rattle.std.specs.Prelude.{ℕ, ◌+◌, ◌≤◌, List, vec_len, vec_capacity}
+use Rattle.std.specs.Prelude.{ℕ, ◌+◌, ◌≤◌, List, Option, IfSome, vec_len, vec_capacity}
 use Rattle.held_blocks.specs.declared.labelled_block.LabelledBlock.{LabelledBlock}
 use Rattle.held_blocks.specs.declared.block_store.BlockStore.{BlockStore}
 use Rattle.held_blocks.specs.Label.{packed}
 use Rattle.held_blocks.specs.LabelChains.{ChainsHaveRoom, Knows}
-use Rattle.held_blocks.specs.SlotPages.{HasSpare, KeepsPages}
+use Rattle.held_blocks.specs.SlotPages.{Counts, HasSpare, KeepsPages}
 use Rattle.held_blocks.specs.Slots.{held}
 
 -- the entries of a store, in order
@@ -25,6 +25,15 @@ pub record IsReadyFor (store : BlockStore) (key : ℕ) : Type 0 where
 -- one more entry under the label takes no memory
 abbrev pub IsReadyUnder : BlockStore → List ℕ → Type 0
 IsReadyUnder store label = IsReadyFor store (packed label)
+
+-- the pages of a store count its entries
+abbrev pub CountsEntries : BlockStore → Type 0
+CountsEntries store = Counts store.pages (entries_of store)
+
+-- a store counts its entries, and one more under a label for which there is room takes no memory
+pub record IsCountedAndReady (store : BlockStore) (room : Option (List ℕ)) : Type 0 where
+  pub counts : CountsEntries store
+  pub ready : IfSome room (IsReadyUnder store)
 
 -- a store stays ready for each label
 abbrev pub KeepsReady : BlockStore → BlockStore → Type 0

@@ -1,17 +1,17 @@
 -- The lists of a table of pages. No public clause cites this module.
-use Rattle.std.specs.Prelude.{ℕ, ◌*◌, ◌≡◌, ◌<◌, ◌≤◌, List, length, slice_index_or}
-use Rattle.frame_words.specs.Geometry.{child_frames}
+use Rattle.std.specs.Prelude.{ℕ, List, Option, Some, None, slice_index_or}
+use Rattle.held_blocks.specs.declared.slot_page.SlotPage.{SlotPage}
 
--- what stands in place of a page where a child has none
-abbrev pub no_page : ℕ
-no_page = 18446744073709551615
+-- the page of a child, if it has one
+abbrev pub page_in : List (Option SlotPage) → ℕ → Option SlotPage
+page_in pages child = slice_index_or pages child None
 
--- the page of a child
-abbrev pub page_in : List ℕ → ℕ → ℕ
-page_in pages child = slice_index_or pages child no_page
+-- how many blocks begin in the child of a page
+abbrev pub blocks_in : Option SlotPage → ℕ
+blocks_in None = 0
+blocks_in (Some page) = page.blocks
 
--- no two children have one page, and each page has its slots
-pub record ArePages (pages slots : List ℕ) (used : ℕ) : Type 0 where
-  pub beyond : (c : ℕ) → used ≤ page_in pages c → page_in pages c ≡ no_page
-  pub apart : (c d : ℕ) → page_in pages c < used → page_in pages c ≡ page_in pages d → c ≡ d
-  pub filled : child_frames * used ≤ length slots
+-- the slot that stands in a page
+abbrev pub slot_in : Option SlotPage → ℕ → ℕ
+slot_in None place = 0
+slot_in (Some page) place = slice_index_or page.slots.items place 0

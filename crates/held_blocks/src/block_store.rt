@@ -27,14 +27,16 @@ impl BlockStore {
     ghost use Rattle.std.specs.Prelude.{◌≡◌, ◌<◌, ◌^◌, ◌++◌, ◌∷◌, [], OnOk, OnErr};
     ghost use Rattle.held_blocks.specs.Label.{packed};
     ghost use Rattle.held_blocks.specs.LabelChains.{Knows};
-    ghost use Rattle.held_blocks.specs.SlotPages.{HasPage, HasSpare};
+    ghost use Rattle.std.specs.Prelude.{ℕ, ◌+◌};
+    ghost use Rattle.held_blocks.specs.SlotPages.{HasPage, HasSpare, number_at, begins_in};
     ghost use Rattle.held_blocks.specs.BlockStore.{entries_of, HasRoom, IsReadyFor, KeepsReady};
-    ghost use Rattle.held_blocks.specs.BlockStore.{UsesRoomOfOne};
+    ghost use Rattle.held_blocks.specs.BlockStore.{CountsEntries, UsesRoomOfOne};
     ghost use Rattle.held_blocks.specs.LabelledBlocks.{BeginsAt, HasNone};
 
     /// No slot, and no memory.
     pub(crate) fn new(alloc: Global) -> BlockStore
-        ensures { entries_of result ≡ [] }
+        ensures entries { entries_of result ≡ [] }
+        ensures counts { CountsEntries result }
     {
         BlockStore {
             slots: Vec::new(alloc),
@@ -47,6 +49,7 @@ impl BlockStore {
     /// Makes ready for one more entry under the label with this number.
     pub(crate) fn make_ready(&mut self, key: u128, alloc: Global) -> Result<(), AllocError>
         ensures entries { entries_of self.new ≡ entries_of self.old }
+        ensures counts { CountsEntries self.old → CountsEntries self.new }
         ensures ready { OnOk result (IsReadyFor self.new key) }
         ensures kept { OnErr result (KeepsReady self.old self.new) }
     {
@@ -61,6 +64,7 @@ impl BlockStore {
     // Makes a page that no child has, unless there is one.
     fn make_spare(&mut self) -> Result<(), AllocError>
         ensures slots { self.new.slots ≡ self.old.slots }
+        ensures numbers { (f : ℕ) → number_at self.new.pages f ≡ number_at self.old.pages f }
         ensures spare { OnOk result (HasSpare self.new.pages) }
         ensures kept { KeepsReady self.old self.new }
     {
@@ -77,6 +81,7 @@ impl BlockStore {
     fn make_room(&mut self, key: u128) -> Result<(), AllocError>
         requires { HasSpare self.old.pages }
         ensures slots { self.new.slots.items ≡ self.old.slots.items }
+        ensures pages { self.new.pages ≡ self.old.pages }
         ensures ready { OnOk result (IsReadyFor self.new key) }
         ensures kept { KeepsReady self.old self.new }
     {
@@ -89,21 +94,25 @@ impl BlockStore {
         requires ready { IsReadyFor self.old (packed entry.label) }
         requires low { entry.block.frame < 2 ^ 21 }
         requires apart { HasNone (BeginsAt entry.block.frame) (entries_of self.old) }
-        ensures { entries_of self.new ≡ entries_of self.old ++ entry ∷ [] }
+        requires counts { CountsEntries self.old }
+        ensures entries { entries_of self.new ≡ entries_of self.old ++ entry ∷ [] }
+        ensures counts { CountsEntries self.new }
     {
-        self.give_page(entry.block.frame());
+        self.enter(entry.block.frame());
         self.put_last(entry);
     }
 
-    // Gives the child of a frame its page, if it has none.
-    fn give_page(&mut self, frame: u32)
+    // Counts a block that begins at a frame, whose child gets a page if it has none.
+    fn enter(&mut self, frame: u32)
         requires spare { HasSpare self.old.pages }
         requires low { frame < 2 ^ 21 }
+        requires counts { CountsEntries self.old }
         ensures slots { self.new.slots ≡ self.old.slots }
         ensures chains { self.new.chains ≡ self.old.chains }
         ensures page { HasPage self.new.pages frame }
+        ensures numbers { (f : ℕ) → number_at self.new.pages f ≡ number_at self.old.pages f + begins_in frame f }
     {
-        self.pages.give_page(frame);
+        self.pages.enter(frame);
     }
 
     /// Puts an entry last, where there is room and the child of its frame has a page.

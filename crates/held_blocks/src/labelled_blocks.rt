@@ -28,12 +28,11 @@ impl Model for LabelledBlocks {
 
     ghost Value = { LabelledList };
 
-    ghost use Rattle.std.specs.Prelude.{IfSome};
-    ghost use Rattle.held_blocks.specs.BlockStore.{entries_of, IsReadyUnder};
+    ghost use Rattle.held_blocks.specs.BlockStore.{entries_of, IsCountedAndReady};
 
     ghost view = { λ list. record { entries = entries_of list.store; room = list.room } };
 
-    ghost invariant = { λ list. IfSome list.room (IsReadyUnder list.store) };
+    ghost invariant = { λ list. IsCountedAndReady list.store list.room };
 }
 
 impl LabelledBlocks {

@@ -9,6 +9,7 @@ mod labelled_block;
 mod labelled_blocks;
 mod lookups;
 mod removals;
+mod slot_page;
 mod slot_pages;
 
 pub use label::Label;

@@ -16,6 +16,7 @@ impl BlockStore {
         ensures slots { self.new.slots ≡ self.old.slots }
         ensures none { IfNone result (HasNone (IsUnder label.now) (entries_of self.old)) }
         ensures found { IfSome result (IsFirstAt (IsUnder label.now) self.old.slots.items) }
+        ensures pages { self.new.pages ≡ self.old.pages }
         ensures kept { KeepsReady self.old self.new }
     {
         self.chains.first_live(self.slots.as_slice(), key_of(label))

@@ -1,42 +1,42 @@
-//! For each frame a slot: a page of 512 slots for each child that ever needed one.
+//! For each frame a slot: a page of 512 slots for each child in which a block begins.
 //! Nothing is ever wiped out: its owner knows which frames mean something.
 
-ghost use Rattle.std.specs.Prelude.{◌≡◌, ◌≤◌, ◌<◌, ◌+◌, ℕ, length, slice_index_or, OnOk};
-ghost use Rattle.frame_words.specs.Geometry.{child_frames, most_children};
-ghost use Rattle.held_blocks.specs.Pages.{ArePages, page_in};
+ghost use Rattle.std.specs.Prelude.{◌≡◌, ◌≤◌, ◌+◌, ℕ, length, OnOk};
+ghost use Rattle.frame_words.specs.Geometry.{most_children};
+ghost use Rattle.held_blocks.specs.Pages.{blocks_in, page_in};
 
-use frame_words::{CHILD_FRAMES, MOST_CHILDREN};
+use crate::slot_page::{PAGE_SLOTS, SlotPage};
+use frame_words::MOST_CHILDREN;
 use std::alloc::{AllocError, Global};
 
 /// The most pages: one for each child of a memory.
 const MOST_PAGES: usize = MOST_CHILDREN as usize;
 
-/// The slots of a page: one for each frame of a child.
-const PAGE_SLOTS: usize = CHILD_FRAMES as usize;
+/// So many pages that no child has are kept, so that a core that takes and gives in turn makes none.
+const FEW_PAGES: usize = 32;
 
-/// The page of a child that has none.
-const NO_PAGE: usize = usize::MAX;
-
-/// The page of each child, the slots of all pages, and how many pages the children have.
+/// The page of each child, and pages that no child has.
 #[derive(Drop)]
 pub(crate) struct SlotPages {
-    pages: Vec<usize>,
-    slots: Vec<usize>,
-    used: usize,
-    pub ghost sound: { ArePages pages.items slots.items used },
+    pages: Vec<Option<SlotPage>>,
+    spares: Vec<SlotPage>,
+    alloc: Global,
 }
 
 impl SlotPages {
-    ghost use Rattle.std.specs.Prelude.{◌≢◌, ◌^◌, IfSome, IfNone};
+    ghost use Rattle.std.specs.Prelude.{◌≢◌, ◌<◌, ◌^◌, IfSome, IfNone, IsSome, None};
     ghost use Rattle.held_blocks.specs.SlotPages.{HasPage, HasSpare, slot_at};
     ghost use Rattle.held_blocks.specs.SlotPages.{KeepsPages, KeepsSlots};
+    ghost use Rattle.held_blocks.specs.SlotPages.{number_at, begins_in};
 
     /// No page, and no memory.
-    pub(crate) fn new(alloc: Global) -> SlotPages {
+    pub(crate) fn new(alloc: Global) -> SlotPages
+        ensures { (f : ℕ) → number_at result f ≡ 0 }
+    {
         SlotPages {
             pages: Vec::new(alloc),
-            slots: Vec::new(alloc),
-            used: 0,
+            spares: Vec::new(alloc),
+            alloc,
         }
     }
 
@@ -47,25 +47,79 @@ impl SlotPages {
         ensures pages { KeepsPages self.old self.new }
     {
         make_directory(&mut self.pages)?;
-        if self.slots.len() / PAGE_SLOTS > self.used {
-            return Ok(());
+        if self.spares.is_empty() {
+            self.spares.reserve(FEW_PAGES)?;
+            self.spares.push_reserved(SlotPage::new(self.alloc)?);
         }
-        lengthen(&mut self.slots)
+        Ok(())
     }
 
-    /// Gives the child of a frame its page, if it has none.
-    pub(crate) fn give_page(&mut self, frame: u32)
+    /// Counts a block that begins at a frame, whose child gets a page if it has none.
+    pub(crate) fn enter(&mut self, frame: u32)
         requires spare { HasSpare self.old }
         requires low { frame < 2 ^ 21 }
-        ensures page { HasPage self.new frame }
+        requires few { number_at self.old frame + 1 < 2 ^ 64 }
+        ensures numbers { (f : ℕ) → number_at self.new f ≡ number_at self.old f + begins_in frame f }
         ensures slots { KeepsSlots self.old self.new }
     {
         let child = frame as usize / PAGE_SLOTS;
-        if self.pages[child] != NO_PAGE {
-            return;
+        if self.pages[child].is_none() {
+            self.give_page(child);
         }
-        self.pages[child] = self.used;
-        self.used += 1;
+        match &mut self.pages[child] {
+            Some(page) => page.enter(),
+            None => unreachable!(),
+        }
+    }
+
+    // Gives a child that has no page one of no block.
+    fn give_page(&mut self, child: usize)
+        requires spare { HasSpare self.old }
+        requires low { child < most_children }
+        requires none { page_in self.old.pages.items child ≡ None }
+        ensures page { IsSome (page_in self.new.pages.items child) }
+        ensures numbers { (f : ℕ) → number_at self.new f ≡ number_at self.old f }
+        ensures slots { KeepsSlots self.old self.new }
+        ensures kept { length self.new.pages.items ≡ length self.old.pages.items }
+    {
+        let Some(page) = self.spares.pop() else {
+            unreachable!();
+        };
+        self.pages[child] = Some(page.cleared());
+    }
+
+    /// Counts no more a block that begins at a frame. A page of no block leaves its child.
+    pub(crate) fn leave(&mut self, frame: u32)
+        requires { HasPage self.old frame }
+        ensures numbers { (f : ℕ) → number_at self.new f + begins_in frame f ≡ number_at self.old f }
+        ensures slots { (f : ℕ) → HasPage self.new f → slot_at self.new f ≡ slot_at self.old f }
+        ensures spare { HasSpare self.old → HasSpare self.new }
+    {
+        let child = frame as usize / PAGE_SLOTS;
+        let blocks = match &mut self.pages[child] {
+            Some(page) => page.leave(),
+            None => unreachable!(),
+        };
+        if blocks == 0 {
+            self.let_go(child);
+        }
+    }
+
+    // Lets the page of a child go, in which no block begins.
+    fn let_go(&mut self, child: usize)
+        requires low { child < length self.old.pages.items }
+        requires none { blocks_in (page_in self.old.pages.items child) ≡ 0 }
+        ensures page { page_in self.new.pages.items child ≡ None }
+        ensures numbers { (f : ℕ) → number_at self.new f ≡ number_at self.old f }
+        ensures slots { KeepsSlots self.old self.new }
+        ensures spare { HasSpare self.old → HasSpare self.new }
+    {
+        let Some(page) = self.pages[child].take() else {
+            return;
+        };
+        if self.spares.len() < FEW_PAGES {
+            let _ = self.spares.push(page);
+        }
     }
 
     /// What stands at a frame, if its child has a page.
@@ -77,11 +131,8 @@ impl SlotPages {
         if child >= self.pages.len() {
             return None;
         }
-        let page = self.pages[child];
-        if page >= self.used {
-            return None;
-        }
-        Some(self.slots[page * PAGE_SLOTS + frame as usize % PAGE_SLOTS])
+        let page = self.pages[child].as_ref()?;
+        Some(page.slots[frame as usize % PAGE_SLOTS])
     }
 
     /// Writes a slot at a frame, whose child has a page.
@@ -92,31 +143,24 @@ impl SlotPages {
             slot_at self.new f ≡ slot_at self.old f }
         ensures pages { KeepsPages self.old self.new }
     {
-        let page = self.pages[frame as usize / PAGE_SLOTS];
-        self.slots[page * PAGE_SLOTS + frame as usize % PAGE_SLOTS] = slot;
+        match &mut self.pages[frame as usize / PAGE_SLOTS] {
+            Some(page) => page.slots[frame as usize % PAGE_SLOTS] = slot,
+            None => unreachable!(),
+        }
     }
 }
 
 // Makes the directory, in which no child has a page, unless it is there.
-fn make_directory(pages: &mut Vec<usize>) -> Result<(), AllocError>
+fn make_directory(pages: &mut Vec<Option<SlotPage>>) -> Result<(), AllocError>
     ensures same { (c : ℕ) → page_in pages.new.items c ≡ page_in pages.old.items c }
     ensures made { OnOk result (most_children ≤ length pages.new.items) }
     ensures kept { length pages.old.items ≤ length pages.new.items }
 {
     if pages.len() < MOST_PAGES {
-        pages.resize(MOST_PAGES, NO_PAGE)?;
+        pages.reserve(MOST_PAGES)?;
+    }
+    while pages.len() < MOST_PAGES {
+        pages.push(None)?;
     }
     Ok(())
-}
-
-// Makes the slots of one page more.
-fn lengthen(slots: &mut Vec<usize>) -> Result<(), AllocError>
-    ensures same { (k : ℕ) → k < length slots.old.items →
-        slice_index_or slots.new.items k 0 ≡ slice_index_or slots.old.items k 0 }
-    ensures made { OnOk result (length slots.new.items ≡ length slots.old.items + child_frames) }
-    ensures kept { length slots.old.items ≤ length slots.new.items }
-{
-    slots.reserve(PAGE_SLOTS)?;
-    let len = slots.len();
-    slots.resize(len + PAGE_SLOTS, 0)
 }

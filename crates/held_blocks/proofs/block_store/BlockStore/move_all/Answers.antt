@@ -30,7 +30,7 @@ put_last-requires-clause-page c =
     let i = c.loop-slot.slot in
     let old = c.args.slots.items in
     let stands : StandsAt old i e = sym (read_rest c.loop-slot.slots.items old i inv.rest) ∙ c.take_slot.ensures.entry in
-    inv.pages e.block.frame (c.requires.can.pages i e stands)
+    omega (arith, inv.numbers e.block.frame, c.requires.can.pages i e stands)
 
 pub put_last-requires-clause-apart : goal.put_last-requires-clause-apart
 put_last-requires-clause-apart c =
@@ -67,7 +67,7 @@ loop-slot-preserved c =
             same = rw w.slots-is (t.len ∙ inv.same);
             room = rw w.self-is (p.room.room (length (held (drop (i + 1) old)) + 1) room);
             known = rw w.self-is (λ q h. p.room.known q (inv.known q h));
-            pages = rw w.self-is (λ f h. p.room.pages.pages f (inv.pages f h));
+            numbers = rw w.self-is (λ f. p.room.pages.numbers f ∙ inv.numbers f);
             spare = rw w.self-is (p.room.pages.spare inv.spare);
           }
       | else-is_some w ↦
@@ -82,7 +82,7 @@ loop-slot-preserved c =
             same = rw w.slots-is inv.same;
             room = rw w.self-is room;
             known = rw w.self-is inv.known;
-            pages = rw w.self-is inv.pages;
+            numbers = rw w.self-is inv.numbers;
             spare = rw w.self-is inv.spare;
           }
     ]

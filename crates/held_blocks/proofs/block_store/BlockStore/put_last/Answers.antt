@@ -1,5 +1,6 @@
 use Rattle.std.proofs.Common.{arith, ◌∙◌, Some, ◌++◌, ◌∷◌, []}
 use Rattle.held_blocks.specs.LabelChains.{Chained}
+use Rattle.held_blocks.proofs.PageLemmas.{keeps_page}
 use Rattle.held_blocks.proofs.Slots.{length-held}
 use Rattle.held_blocks.proofs.StoreLemmas.{fits_push}
 use Rattle.held_blocks.proofs.block_store.BlockStore.put_last.Goals as goal
@@ -20,7 +21,7 @@ invariant_of-self c =
     let keys = rw k.key at chains.ensures.adds.keys in
     let frame = c.frame.ensures in
     let here = rw frame at table.here ∙ c.len.ensures ∙ old.slots.ok.0 in
-    record { finds = fits_push old.finds x k.lawful c.push_reserved.ensures.items chained keys (table.pages.pages x.block.frame c.requires.page) here table.pages.pages (rw frame at table.others) c.requires.apart }
+    record { finds = fits_push old.finds x k.lawful c.push_reserved.ensures.items chained keys (keeps_page table.pages x.block.frame c.requires.page) here (keeps_page table.pages) (rw frame at table.others) c.requires.apart }
 
 pub returns-clause-room : goal.returns-clause-room
 returns-clause-room c =
