@@ -176,7 +176,9 @@ typedef struct llfree_claim {
  *  - BAD_IMAGE: count is not llfree_image_words(frames); a number is no image's; the last child is cut off and
  *    one block of order 9; or a bit past the end is clear.
  *  - NOT_HELD: the image does not hold a claimed block (one of order 9 as such), or two share a frame.
- *  - CONTENDED: a claimed block or a free one was not reached (tested: never seen). */
+ *  - CONTENDED: a claimed block or a free one was not reached (tested: never seen).
+ * Where several are true, BAD_GEOMETRY is told before BAD_IMAGE, that before BAD_ORDER, and that before NOT_HELD.
+ * NO_MEMORY is told only for lawful numbers of frames (or zones) and cores, but maybe before all else is read. */
 LLFREE_NODISCARD
 enum llfree_status llfree_reopen(llfree_core *handles, size_t cores, uint32_t frames,
                                  const uint64_t *words, size_t count, const llfree_claim *claims,

@@ -7,7 +7,7 @@ use Rattle.frame_model.specs.Block.{block}
 use Rattle.core_frames.specs.PlainState.{PlainState, memory_by}
 use Rattle.frame_slots.specs.Claims.{Ascend, IsHeldAs, ShareNoFrame}
 use Rattle.frame_slots.specs.Numbers.{IsImageOf}
-use Rattle.llfree_c.specs.Openings.{HasNoSizes, IsMemoryOf}
+use Rattle.llfree_c.specs.Openings.{AreMemorySizes, HasNoSizes, IsMemoryOf}
 use Rattle.llfree_c.specs.Replays.{HoldsAllOf, HoldsOnly}
 use Rattle.llfree_c.specs.Status.{bad_image, bad_order, contended, no_memory, not_held}
 use Rattle.llfree_c.specs.declared.blocks.ClaimedBlock.{ClaimedBlock}
@@ -40,26 +40,32 @@ pub record IsClaimedOf (frames : ℕ) (numbers : List ℕ) (claims : List Claime
   pub ascend : Ascend blocks
   pub apart : ShareNoFrame blocks
 
--- why blocks are not claimed: the numbers are no image's, an order is none, a block is not held by
--- itself or shares a frame with another one, or memory was wanting
+-- the numbers are those of an image of so many frames, and each claim names an order
+pub record AreImageAndClaims (frames : ℕ) (numbers : List ℕ) (claims : List ClaimedBlock) : Type 0 where
+  pub image : IsImageOf frames numbers
+  pub orders : All NamesAnOrder claims
+
+-- why blocks are not claimed: the numbers are no image's; or they are, but an order is none; or each is one, but a
+-- block is not held by itself or shares a frame with another one, or memory was wanting
 abbrev pub HasNoClaims : (frames : ℕ) → List ℕ → List ClaimedBlock → (status : ℕ) → Type 0
 HasNoClaims frames numbers claims status =
     ((status ≡ bad_image) × ¬ IsImageOf frames numbers)
-    ⊎ ((status ≡ bad_order) × ¬ All NamesAnOrder claims)
-    ⊎ ((status ≡ not_held) × ¬ MayBeClaimed frames numbers claims)
-    ⊎ (status ≡ no_memory)
+    ⊎ ((status ≡ bad_order) × IsImageOf frames numbers × ¬ All NamesAnOrder claims)
+    ⊎ ((status ≡ not_held) × AreImageAndClaims frames numbers claims × ¬ MayBeClaimed frames numbers claims)
+    ⊎ ((status ≡ no_memory) × AreImageAndClaims frames numbers claims)
 
 -- a block was not reached, of an image's that may be claimed
 abbrev pub IsUnreached : (frames : ℕ) → List ℕ → List ClaimedBlock → (status : ℕ) → Type 0
 IsUnreached frames numbers claims status =
     (status ≡ contended) × IsImageOf frames numbers × MayBeClaimed frames numbers claims
 
--- why no memory was opened at an image: there is none of these sizes, blocks are not claimed, or one
+-- why no memory was opened at an image: there is none of these sizes; or there is, but blocks are not claimed, or one
 -- that may be claimed was not reached
 abbrev pub IsNotReopened : (frames cores : ℕ) → List ℕ → List ClaimedBlock → (status : ℕ) → Type 0
 IsNotReopened frames cores numbers claims status =
-    HasNoSizes frames cores status ⊎ HasNoClaims frames numbers claims status
-    ⊎ IsUnreached frames numbers claims status
+    HasNoSizes frames cores status
+    ⊎ (AreMemorySizes frames cores
+    × (HasNoClaims frames numbers claims status ⊎ IsUnreached frames numbers claims status))
 
 -- the memory has so many frames and no ranges, was left with these numbers, and holds just the frames that they
 -- hold; of these just the claimed blocks are out, which may be claimed

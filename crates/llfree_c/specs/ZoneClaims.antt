@@ -50,23 +50,19 @@ pub record AreClaimedOf (zones : List Stretch) (numbers : List ℕ) (claims : Li
   pub ascend : Ascend blocks
   pub apart : ShareNoFrame blocks
 
--- why blocks of these zones are not claimed: the numbers are no image's, an order is none, a block is not held
--- by itself in one zone or shares a frame with another one, or memory was wanting
+-- the numbers are those of an image of these zones, and each claim names an order
+pub record AreImagesAndClaims (zones : List Stretch) (numbers : List ℕ) (claims : List ClaimedBlock) : Type 0 where
+  pub images : AreImagesOf zones numbers
+  pub orders : All NamesAnOrder claims
+
+-- why blocks of these zones are not claimed: the numbers are no image's; or they are, but an order is none; or each
+-- is one, but a block is not held by itself in one zone or shares a frame with another one, or memory was wanting
 abbrev pub HasNoClaimsIn : List Stretch → List ℕ → List ClaimedBlock → (status : ℕ) → Type 0
 HasNoClaimsIn zones numbers claims status =
     ((status ≡ bad_image) × ¬ AreImagesOf zones numbers)
-    ⊎ ((status ≡ bad_order) × ¬ All NamesAnOrder claims)
-    ⊎ ((status ≡ not_held) × ¬ MayBeClaimedIn zones numbers claims)
-    ⊎ (status ≡ no_memory)
-
--- why blocks of these zones are not claimed once it is known where the numbers of each begin: the same, and memory
--- was wanting only where the numbers are an image's and the orders are some
-abbrev pub HasNoClaimsOnceRead : List Stretch → List ℕ → List ClaimedBlock → (status : ℕ) → Type 0
-HasNoClaimsOnceRead zones numbers claims status =
-    ((status ≡ bad_image) × ¬ AreImagesOf zones numbers)
-    ⊎ ((status ≡ bad_order) × ¬ All NamesAnOrder claims)
-    ⊎ ((status ≡ not_held) × ¬ MayBeClaimedIn zones numbers claims)
-    ⊎ ((status ≡ no_memory) × AreImagesOf zones numbers × All NamesAnOrder claims)
+    ⊎ ((status ≡ bad_order) × AreImagesOf zones numbers × ¬ All NamesAnOrder claims)
+    ⊎ ((status ≡ not_held) × AreImagesAndClaims zones numbers claims × ¬ MayBeClaimedIn zones numbers claims)
+    ⊎ ((status ≡ no_memory) × AreImagesAndClaims zones numbers claims)
 
 -- a block was not reached, of an image's of these zones that may be claimed
 abbrev pub IsUnreachedIn : List Stretch → List ℕ → List ClaimedBlock → (status : ℕ) → Type 0

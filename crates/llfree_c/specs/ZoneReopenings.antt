@@ -15,10 +15,11 @@ use Rattle.frame_zones.specs.declared.zones.ZoneCore.{ZoneCore}
 use Rattle.zone_slots.specs.Layouts.{Stretch, stretch_at, AreEven}
 use Rattle.zone_slots.specs.Openings.{AreListsIn, Shares, IsUnusedState, parts_from_last}
 use Rattle.zone_slots.specs.ZoneClaims.{blocks_within}
+use Rattle.zone_slots.specs.ZoneSpans.{MayBeUsed}
 use Rattle.zone_slots.specs.declared.core_state.CoreState.{CoreState}
 use Rattle.zone_slots.specs.declared.memory.Memory.{Memory}
 use Rattle.llfree_c.specs.OpenCores.{AreCoresInOrder, HasZones, IsCoreBehind, IsOneOpen, core_behind, states_in}
-use Rattle.llfree_c.specs.Openings.{pairs_of, HasNoZones, ZonesDoNotFit}
+use Rattle.llfree_c.specs.Openings.{pairs_of, AreFewEnough, AreZoneSizes, HasNoZones, ZonesDoNotFit}
 use Rattle.llfree_c.specs.Status.{no_memory}
 use Rattle.llfree_c.specs.ZoneClaims.{numbers_of_zone, AreClaimedOf, HasNoClaimsIn, IsUnreachedIn}
 use Rattle.llfree_c.specs.declared.blocks.ClaimedBlock.{ClaimedBlock}
@@ -119,21 +120,23 @@ abbrev pub IsNotReopenedIn : List Stretch → List ℕ → List ClaimedBlock →
 IsNotReopenedIn zones numbers claims status =
     HasNoClaimsIn zones numbers claims status ⊎ IsUnreachedIn zones numbers claims status
 
--- why the zones of so many frames without a hole were not: there are none for so many cores, memory was
--- wanting, or as above
+-- why the zones of so many frames without a hole were not: there are none for so many cores; or there are, but memory
+-- was wanting, or as above
 abbrev pub IsNotReopenedEven : (frames cores : ℕ) → List ℕ → List ClaimedBlock → (status : ℕ) → Type 0
 IsNotReopenedEven frames cores numbers claims status =
-    HasNoZones frames cores status ⊎ (status ≡ no_memory)
-    ⊎ ((zones : List Stretch) × AreEven frames zones × IsNotReopenedIn zones numbers claims status)
+    HasNoZones frames cores status
+    ⊎ (AreZoneSizes frames cores × ((status ≡ no_memory)
+    ⊎ ((zones : List Stretch) × AreEven frames zones × IsNotReopenedIn zones numbers claims status)))
 
 -- why no cores were opened at an image behind these handles: one was open, or as above
 abbrev pub HasNoCoresAt : ℕ → List ℕ → List ClaimedBlock → List CoreHandle → ℕ → Type 0
 HasNoCoresAt frames numbers claims handles status =
     IsOneOpen handles status ⊎ IsNotReopenedEven frames (length handles) numbers claims status
 
--- why none of zones that C passed were: one was open, zones may not lie so for so many cores, memory was wanting,
--- or blocks are not claimed or reached
+-- why none of zones that C passed were: one was open; zones may not lie so for so many cores; memory was wanting for
+-- so many; or they may lie so, but blocks are not claimed or reached
 abbrev pub HasNoCoresInAt : List FrameRange → List ℕ → List ClaimedBlock → List CoreHandle → ℕ → Type 0
 HasNoCoresInAt zones numbers claims handles status =
-    IsOneOpen handles status ⊎ ZonesDoNotFit (length handles) (pairs_of zones) status ⊎ (status ≡ no_memory)
-    ⊎ IsNotReopenedIn (pairs_of zones) numbers claims status
+    IsOneOpen handles status ⊎ ZonesDoNotFit (length handles) (pairs_of zones) status
+    ⊎ ((status ≡ no_memory) × AreFewEnough (length handles) (pairs_of zones))
+    ⊎ (MayBeUsed (length handles) (pairs_of zones) × IsNotReopenedIn (pairs_of zones) numbers claims status)

@@ -5,7 +5,8 @@ ghost use Rattle.std.specs.List.{All};
 ghost use Rattle.std.specs.List.Sorted.{IsPermutation};
 ghost use Rattle.frame_slots.specs.Claims.{Ascend};
 ghost use Rattle.frame_slots.specs.Numbers.{most_frames};
-ghost use Rattle.llfree_c.specs.Reopenings.{claimed_blocks, HasNoClaims, NamesAnOrder, IsClaimedOf, MayBeClaimed};
+ghost use Rattle.llfree_c.specs.Reopenings.{claimed_blocks, AreImageAndClaims, HasNoClaims, NamesAnOrder};
+ghost use Rattle.llfree_c.specs.Reopenings.{IsClaimedOf, MayBeClaimed};
 ghost use Rattle.llfree_c.specs.Status.{no_memory};
 
 use crate::statuses::{BAD_IMAGE, BAD_ORDER, NO_MEMORY, NOT_HELD};
@@ -33,6 +34,7 @@ pub(crate) fn claimed_in(
     requires { frames ≤ most_frames }
     ensures claimed { IfOk result (λ blocks. IsClaimedOf frames numbers.now claims.now blocks.items) }
     ensures lawful { IfOk result (λ _. MayBeClaimed frames numbers.now claims.now) }
+    ensures read { IfOk result (λ _. AreImageAndClaims frames numbers.now claims.now) }
     ensures err { IfErr result (HasNoClaims frames numbers.now claims.now) }
 {
     if !is_image(numbers, frames) {

@@ -9,9 +9,11 @@ ghost use Rattle.frame_slots.specs.Claims.{Ascend};
 ghost use Rattle.zone_slots.specs.Layouts.{stretch_at, MayBeLaidOut};
 ghost use Rattle.zone_slots.specs.ZoneClaims.{blocks_within};
 ghost use Rattle.llfree_c.specs.OpenCores.{IsClosedHandle};
-ghost use Rattle.llfree_c.specs.Reopenings.{IsNotReopened, Reopens};
+ghost use Rattle.llfree_c.specs.Openings.{AreMemorySizes};
+ghost use Rattle.llfree_c.specs.Reopenings.{AreImageAndClaims, IsNotReopened, Reopens};
 ghost use Rattle.llfree_c.specs.Replays.{EndsReplay};
 ghost use Rattle.llfree_c.specs.Status.{no_memory};
+ghost use Rattle.llfree_c.specs.ZoneClaims.{AreImagesAndClaims};
 ghost use Rattle.llfree_c.specs.ZoneReopenings.{HasNoCoresAt, IsNotReopenedIn, ReopenEven, ReopenStates, ShareReopened};
 
 use crate::blocks::{ClaimedBlock, claimed_in};
@@ -38,6 +40,8 @@ impl Plain {
         claims: &[ClaimedBlock],
     ) -> Result<Plain, u32>
         ensures reopened { IfOk result (λ p. Reopens frames numbers.now claims.now p.allocator) }
+        ensures sizes { IfOk result (λ _. AreMemorySizes frames 1) }
+        ensures read { IfOk result (λ _. AreImageAndClaims frames numbers.now claims.now) }
         ensures err { IfErr result (IsNotReopened frames 1 numbers.now claims.now) }
     {
         let geometry = geometry_of(frames, 1)?;
@@ -87,6 +91,7 @@ pub(crate) fn reopened_states(
     requires { MayBeLaidOut zones.now }
     ensures states { IfOk result (λ states.
         ReopenStates cores zones.now numbers.now claims.now states.items) }
+    ensures read { IfOk result (λ _. AreImagesAndClaims zones.now numbers.now claims.now) }
     ensures err { IfErr result (IsNotReopenedIn zones.now numbers.now claims.now) }
 {
     let blocks = claimed_in_zones(heap, zones, numbers, claims)?;

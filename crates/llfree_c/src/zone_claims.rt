@@ -6,7 +6,7 @@ ghost use Rattle.frame_slots.specs.Claims.{IsHeldAs};
 ghost use Rattle.frame_slots.specs.Numbers.{child_count_of, most_frames, IsImageOf};
 ghost use Rattle.zone_slots.specs.ImageParts.{AreStarts};
 ghost use Rattle.zone_slots.specs.Layouts.{MayBeLaidOut};
-ghost use Rattle.llfree_c.specs.ZoneClaims.{AreClaimedOf, AreImagesOf, HasNoClaimsIn, HasNoClaimsOnceRead};
+ghost use Rattle.llfree_c.specs.ZoneClaims.{AreClaimedOf, AreImagesAndClaims, AreImagesOf, HasNoClaimsIn};
 ghost use Rattle.llfree_c.specs.ZoneClaims.{IsHeldInOne, MayBeClaimedIn};
 
 use crate::blocks::{ClaimedBlock, blocks_in, have_orders};
@@ -18,7 +18,7 @@ use std::alloc::Global;
 use zone_slots::{image_numbers, image_starts, zone_of};
 
 /// The claimed blocks, which ascend, where these are the numbers of an image of such zones that holds
-/// each of them.
+/// each of them. The image and the orders are looked at before memory is asked for.
 pub(crate) fn claimed_in_zones(
     heap: Global,
     zones: &[(u32, u32)],
@@ -29,15 +29,22 @@ pub(crate) fn claimed_in_zones(
     ensures claimed { IfOk result (λ blocks.
         AreClaimedOf zones.now numbers.now claims.now blocks.items) }
     ensures lawful { IfOk result (λ _. MayBeClaimedIn zones.now numbers.now claims.now) }
+    ensures read { IfOk result (λ _. AreImagesAndClaims zones.now numbers.now claims.now) }
     ensures err { IfErr result (HasNoClaimsIn zones.now numbers.now claims.now) }
 {
+    if !are_images(zones, numbers) {
+        return Err(BAD_IMAGE);
+    }
+    if !have_orders(claims) {
+        return Err(BAD_ORDER);
+    }
     let Ok(starts) = image_starts(heap, zones) else {
         return Err(NO_MEMORY);
     };
     claimed_at(heap, zones, &starts, numbers, claims)
 }
 
-// The same, where the numbers of each zone begin at these places.
+// The same, where the numbers of each zone's image begin at these places.
 fn claimed_at(
     heap: Global,
     zones: &[(u32, u32)],
@@ -47,17 +54,12 @@ fn claimed_at(
 ) -> Result<Vec<FrameBlock>, u32>
     requires zones { MayBeLaidOut zones.now }
     requires starts { AreStarts zones.now starts.now }
+    requires read { AreImagesAndClaims zones.now numbers.now claims.now }
     ensures claimed { IfOk result (λ blocks.
         AreClaimedOf zones.now numbers.now claims.now blocks.items) }
     ensures lawful { IfOk result (λ _. MayBeClaimedIn zones.now numbers.now claims.now) }
-    ensures err { IfErr result (HasNoClaimsOnceRead zones.now numbers.now claims.now) }
+    ensures err { IfErr result (HasNoClaimsIn zones.now numbers.now claims.now) }
 {
-    if !are_images(zones, starts, numbers) {
-        return Err(BAD_IMAGE);
-    }
-    if !have_orders(claims) {
-        return Err(BAD_ORDER);
-    }
     let blocks = blocks_in(heap, claims)?;
     if !are_held_in(zones, starts, numbers, &blocks) {
         return Err(NOT_HELD);
@@ -69,21 +71,30 @@ fn claimed_at(
 }
 
 // Are these the numbers of an image of the zones?
-fn are_images(zones: &[(u32, u32)], starts: &[usize], numbers: &[u64]) -> bool
-    requires zones { MayBeLaidOut zones.now }
-    requires starts { AreStarts zones.now starts.now }
+fn are_images(zones: &[(u32, u32)], numbers: &[u64]) -> bool
+    requires { MayBeLaidOut zones.now }
     ensures { MatchBool result (AreImagesOf zones.now numbers.now)
         (¬ AreImagesOf zones.now numbers.now) }
 {
     if numbers.len() != image_numbers(zones) {
         return false;
     }
+    let mut start = 0;
     for zone in 0..zones.len() {
-        if !is_image_at(numbers, starts[zone], zones[zone].1) {
+        let frames = zones[zone].1;
+        if !is_image_at(numbers, start, frames) {
             return false;
         }
+        start += numbers_for(frames);
     }
     true
+}
+
+// As many numbers as an image of so many frames has.
+fn numbers_for(frames: u32) -> usize
+    ensures { result ≡ 9 * child_count_of frames }
+{
+    CHILD_NUMBERS * frames.div_ceil(CHILD_FRAMES) as usize
 }
 
 // Are the numbers from a place on, as many as such an image has, those of one of so many frames?
@@ -94,8 +105,7 @@ fn is_image_at(numbers: &[u64], start: usize, frames: u32) -> bool
         (¬ IsImageOf frames (take (9 * child_count_of frames) (drop start numbers.now))) }
 {
     let back = behind(numbers, start);
-    let count = CHILD_NUMBERS * frames.div_ceil(CHILD_FRAMES) as usize;
-    let (own, _rest) = back.split_at(count.min(back.len()));
+    let (own, _rest) = back.split_at(numbers_for(frames).min(back.len()));
     is_image(own, frames)
 }
 

@@ -19,7 +19,7 @@ use Rattle.frame_zones.specs.declared.spans.Span.{Span}
 use Rattle.frame_zones.specs.declared.zones.Zones.{Zones}
 use Rattle.frame_zones.specs.declared.zones.ZoneCore.{ZoneCore}
 use Rattle.zone_slots.specs.ImageParts.{numbers_from}
-use Rattle.zone_slots.specs.Openings.{LieAt, AreListsIn, Shares, parts_from_last, IsUnusedState, IsNoOpening}
+use Rattle.zone_slots.specs.Openings.{LieAt, AreListsIn, Shares, parts_from_last, IsUnusedState, MayBeOpened, IsNoOpening}
 use Rattle.zone_slots.specs.declared.core_state.CoreState.{CoreState}
 use Rattle.zone_slots.specs.declared.memory.Memory.{Memory}
 
@@ -73,7 +73,8 @@ pub record AreReopened (as_many : ℕ) (places : List Place) (numbers : List ℕ
   pub share : All (Shares memory) states
   pub keeper : HasKeeper numbers claimed memory.zones states
 
--- why zones were not opened again: they may not be opened so; or memory was wanting, a block that was
+-- why zones were not opened again: they may not be opened so; or they may, and memory was wanting, a block that was
 -- claimed is not held by itself, or some block was not found
 abbrev pub IsNoReopening : ℕ → List Span → Fault → Type 0
-IsNoReopening cores spans fault = IsNoOpening cores spans fault ⊎ IsNoReplay fault
+IsNoReopening cores spans fault =
+    IsNoOpening cores spans fault ⊎ (IsNoReplay fault × MayBeOpened cores spans)

@@ -9,7 +9,7 @@ ghost use Rattle.frame_slots.specs.Slots.{IsUnused, laid_down};
 ghost use Rattle.frame_zones.specs.Openings.{HaveHomes};
 ghost use Rattle.frame_zones.specs.Spans.{place_of_span};
 ghost use Rattle.frame_zones.specs.Zones.{zone_count, zone_at, core_at, AreCoresOf};
-ghost use Rattle.zone_slots.specs.Openings.{LieAt, AreListsIn, IsUnusedCore, AreUnusedIn};
+ghost use Rattle.zone_slots.specs.Openings.{LieAt, AreListsIn, IsUnusedCore, AreUnusedIn, MayBeOpened};
 ghost use Rattle.zone_slots.specs.Reopenings.{ChangesIn, KeepsRests, HasLaidIn, HaveLaidDown, AreReopened, IsNoReopening};
 
 use crate::core_state::CoreState;
@@ -37,6 +37,7 @@ pub fn reopen_cores(
     requires { length claimed.now ≡ length spans.now }
     ensures cores { IfOk result (λ states.
         AreReopened cores (map place_of_span spans.now) numbers.now claimed.now states.items) }
+    ensures lawful { IfOk result (λ _. MayBeOpened cores spans.now) }
     ensures err { IfErr result (IsNoReopening cores spans.now) }
 {
     let (memory, parts, keeper) = reopen_memory(alloc, cores, spans, numbers, claimed)?;
@@ -67,6 +68,7 @@ fn reopen_memory(
     ensures rest { IfOk result (λ r. KeepsRests numbers.now claimed.now r.0.zones r.2) }
     ensures count { IfOk result (λ r. vec_len r.1 + 1 ≡ cores) }
     ensures laid { IfOk result (λ r. HaveLaidDown claimed.now r.0) }
+    ensures lawful { IfOk result (λ _. MayBeOpened cores spans.now) }
     ensures err { IfErr result (IsNoReopening cores spans.now) }
 {
     let (mut memory, mut parts) = open_memory(alloc, cores, spans)?;

@@ -15,7 +15,7 @@ returns-then-not-are_held_in-clause-err c =
     let no : ¬ MayBeClaimedIn c.args.zones.now c.args.numbers.now c.args.claims.now = λ m.
     c.if-not-are_held_in.ensures (subst (λ (bs : List FrameBlock). All Held bs) (sym c.deref.ensures.value)
     (All-permutation Held (claimed_blocks c.args.claims.now) c.in_ok-blocks.blocks.items c.in_ok-blocks.ensures.same m.held)) in
-    inr (inr (inl (refl, no)))
+    inr (inr (inl (refl, c.requires.read, no)))
 
 pub are_apart-requires : goal.are_apart-requires
 are_apart-requires c =
@@ -30,17 +30,17 @@ returns-then-not-are_apart-clause-err c =
     c.in_ok-blocks.ensures.same in
     let no : ¬ MayBeClaimedIn c.args.zones.now c.args.numbers.now c.args.claims.now = λ m.
     c.if-not-are_apart.ensures.overlap refl (apart_still (claimed_blocks c.args.claims.now) c.deref-2.result.now same m.apart) in
-    inr (inr (inl (refl, no)))
+    inr (inr (inl (refl, c.requires.read, no)))
 
 pub returns-clause-claimed : goal.returns-clause-claimed
 returns-clause-claimed c =
     are_claimed c.args.zones.now c.args.numbers.now c.args.claims.now c.in_ok-blocks.blocks.items c.deref.result.now
-    c.deref-2.result.now c.if-not-are_images.ensures c.deref.ensures.value c.if-not-are_held_in.ensures
+    c.deref-2.result.now c.requires.read.images c.deref.ensures.value c.if-not-are_held_in.ensures
     c.in_ok-blocks.ensures.same c.in_ok-blocks.ensures.ascend c.deref-2.ensures.value (c.if-not-are_apart.ensures.apart refl)
 
 pub returns-clause-lawful : goal.returns-clause-lawful
 returns-clause-lawful c =
     may_be_claimed c.args.zones.now c.args.numbers.now c.args.claims.now c.in_ok-blocks.blocks.items
     (are_claimed c.args.zones.now c.args.numbers.now c.args.claims.now c.in_ok-blocks.blocks.items c.deref.result.now
-    c.deref-2.result.now c.if-not-are_images.ensures c.deref.ensures.value c.if-not-are_held_in.ensures
+    c.deref-2.result.now c.requires.read.images c.deref.ensures.value c.if-not-are_held_in.ensures
     c.in_ok-blocks.ensures.same c.in_ok-blocks.ensures.ascend c.deref-2.ensures.value (c.if-not-are_apart.ensures.apart refl))
