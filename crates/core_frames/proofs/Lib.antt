@@ -23,3 +23,4 @@ mod Adopting
 mod DeskLemmas
 mod FoundLemmas
 pub mod FillLemmas
+pub mod GivenWords

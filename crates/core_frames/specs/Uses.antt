@@ -1,5 +1,5 @@
 -- What takes, gives and splits through a core leave.
-use Rattle.std.specs.Prelude.{◌≡◌, ℕ, pos, ◌+◌, ◌+ℤ◌, ◌-ℤ◌, ◌<◌, ◌≤◌, Result, IfOk, IfErr}
+use Rattle.std.specs.Prelude.{◌≡◌, ℕ, pos, ◌+◌, ◌+ℤ◌, ◌-ℤ◌, ◌<◌, ◌≤◌, List, Some, Result, IfOk, IfErr}
 use Rattle.frame_words.specs.Geometry.{huge_order}
 use Rattle.frame_words.specs.declared.fault.Fault.{Fault}
 use Rattle.frame_words.specs.declared.fault.Fault.TheVariants as fault
@@ -18,7 +18,7 @@ use Rattle.core_frames.specs.declared.shared.allocator.Core.{Core}
 use Rattle.core_frames.specs.Bounds.{most_in_give}
 use Rattle.core_frames.specs.Cores.{memory_of, view_in, kept_by, lent_by, moves_by, losses_by, known_by, StepsAlone, IsSureOf, IsOutOf, StaysCoreOf}
 use Rattle.core_frames.specs.Alone.{FindsNoBlock}
-use Rattle.low_frames.specs.Alone.{Turns, WordsTake, WordsGive}
+use Rattle.low_frames.specs.Alone.{Turns, HoldsMore, WordsTake, WordsGive}
 use Rattle.core_frames.specs.Splits.{AreHalves}
 use Rattle.core_frames.specs.Joins.{AreBuddies}
 
@@ -82,6 +82,12 @@ pub record HasGiven (c d : Core) : Type 0 where
 -- where nobody else steps, the frames of the block, held before, are free; every other is as before
 abbrev pub GivesAlone : Allocator → FrameBlock → Core → Core → Type 0
 GivesAlone a b c d = StepsAlone a c → WordsGive (memory_of a) (known_by c) (known_by d) b
+
+-- by such a give of a core that knew the words the block became free, and no other bit or flag was turned
+abbrev pub GivesFreeTheirBlock : Type 0
+GivesFreeTheirBlock = (a : Allocator) (b : FrameBlock) (c d : Core) (old new : List ℕ)
+    → StepsAlone a c → known_by c ≡ Some old → known_by d ≡ Some new → GivesAlone a b c d
+    → HoldsMore (memory_of a) new old b
 
 -- such a give of the block by a core, which stays the allocator's, in the moves that one may make; where
 -- nobody else steps just its frames become free, and the core is sure of the words then

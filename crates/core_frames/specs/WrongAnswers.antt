@@ -1,13 +1,11 @@
 -- Answers that would be wrong: blocks past the end, images in which what is kept is free or lost, halves
 -- that are none, and counts of more than there is.
-use Rattle.std.specs.Prelude.{◌≡◌, ◌≢◌, ℕ, pos, ◌+◌, ◌*◌, ◌^◌, ◌+ℤ◌, ◌-ℤ◌, ◌<◌, ◌≤◌, List, Some, Contains}
+use Rattle.std.specs.Prelude.{◌≡◌, ◌≢◌, ℕ, pos, ◌+◌, ◌*◌, ◌^◌, ◌+ℤ◌, ◌-ℤ◌, ◌<◌, ◌≤◌, List, Contains}
 use Rattle.frame_words.specs.Geometry.{child_frames}
 use Rattle.frame_model.specs.declared.block.FrameBlock.{FrameBlock}
 use Rattle.frame_model.specs.declared.key.Key.{Key}
 use Rattle.frame_model.specs.declared.view.Eye.{Eye}
-use Rattle.frame_model.specs.Key.{frame_count}
-use Rattle.frame_model.specs.Words.{bit_of, huge_of}
-use Rattle.frame_model.specs.Block.{covers, small_at, whole_at}
+use Rattle.frame_model.specs.Block.{covers}
 use Rattle.frame_model.specs.Events.{State, Has, Fits}
 use Rattle.frame_model.specs.Holding.{holders}
 use Rattle.frame_model.specs.Openings.{held_blocks}
@@ -23,10 +21,10 @@ use Rattle.frame_table.specs.declared.seats.CoreSeat.{CoreSeat}
 use Rattle.core_frames.specs.declared.shared.allocator.Allocator.{Allocator}
 use Rattle.core_frames.specs.declared.shared.allocator.Core.{Core}
 use Rattle.core_frames.specs.declared.free_counts.FreeCounts.{FreeCounts}
-use Rattle.core_frames.specs.Cores.{memory_of, seat_of, lent_by, known_by, StepsAlone, IsOutOf}
+use Rattle.core_frames.specs.Cores.{memory_of, seat_of, lent_by, IsOutOf}
 use Rattle.core_frames.specs.FreeCounts.{frames_read, huge_read, AreCountsOf}
 use Rattle.core_frames.specs.Joins.{AreBuddies}
-use Rattle.core_frames.specs.Uses.{HasTaken, GivesAlone, HasSplit, HasJoined, LendsAsMany}
+use Rattle.core_frames.specs.Uses.{HasTaken, HasSplit, HasJoined, LendsAsMany}
 
 -- no take answers a block that ends past the memory
 abbrev pub TakenPastTheEnd : Type 0
@@ -76,17 +74,6 @@ SeatIsElsewhere = (key : Key) (last : CoreSeat) (image : Contents)
     → ((s : State) (id : ℕ) (e : Eye) → s.words ≡ image.words → Fits key key.cores s → Has s id e
     → e.view ≢ view_of last)
     → ¬ IsImageAtStop key last image
-
--- no give of a core that steps alone and knows the words leaves a frame of the block held, or turns a bit or
--- a flag besides
-abbrev pub GiveIsWrong : Type 0
-GiveIsWrong = (a : Allocator) (b : FrameBlock) (c d : Core) (old new : List ℕ)
-    → StepsAlone a c → known_by c ≡ Some old → known_by d ≡ Some new
-    → ((x : ℕ) → covers b x ≡ 1 → held_at (memory_of a) new x ≢ 0 → ¬ GivesAlone a b c d)
-    × ((x : ℕ) → x < frame_count (memory_of a) → small_at x b ≡ 0
-    → bit_of (memory_of a) new x ≢ bit_of (memory_of a) old x → ¬ GivesAlone a b c d)
-    × ((k : ℕ) → k < (memory_of a).children → whole_at k b ≡ 0
-    → huge_of new k ≢ huge_of old k → ¬ GivesAlone a b c d)
 
 -- no split answers what begins elsewhere than the block or than behind its lower half, is of another order
 -- than one less, or is not out; and none lends otherwise than one block more

@@ -5,6 +5,7 @@ ghost use Rattle.core_frames.specs.BoundNumbers.{TakeInNumbers, GiveInNumbers, S
 ghost use Rattle.core_frames.specs.BoundNumbers.{JoinInNumbers, TellingInNumbers, TreeInNumbers};
 ghost use Rattle.core_frames.specs.BoundNumbers.{DeskMovesTooMuch};
 ghost use Rattle.core_frames.specs.Missed.{MissesTheWithheld, NobodyWithholds};
+ghost use Rattle.core_frames.specs.Uses.{GivesFreeTheirBlock};
 ghost use Rattle.core_frames.specs.Refusals.{OrderIsLawful, OrderIsUnlawful, MovesTooLittle};
 ghost use Rattle.core_frames.specs.Refusals.{LossIsUntold, DeskIsRefused, LeftIsRefused};
 ghost use Rattle.core_frames.specs.Refusals.{RangesAreRefused, ClosingIsRefused, NumberIsAnother};
@@ -12,7 +13,7 @@ ghost use Rattle.core_frames.specs.WrongAnswers.{TakenPastTheEnd, KeptIsClearAtC
 ghost use Rattle.core_frames.specs.WrongAnswers.{KeptOverlapAtClosing, KeptIsLostAtClosing};
 ghost use Rattle.core_frames.specs.WrongAnswers.{KeptIsClearAtStop, KeptOverlapAtStop};
 ghost use Rattle.core_frames.specs.WrongAnswers.{KeptIsLostAtStop, SeatIsElsewhere};
-ghost use Rattle.core_frames.specs.WrongAnswers.{GiveIsWrong, SplitIsWrong, JoinIsWrong, CountIsWrong, DeskLends};
+ghost use Rattle.core_frames.specs.WrongAnswers.{SplitIsWrong, JoinIsWrong, CountIsWrong, DeskLends};
 
 /// The bounds on moves are these numbers, so that no part of their formulas can grow unseen; and no call
 /// at a desk makes more than its own.
@@ -71,10 +72,10 @@ pub fn wrong_answers_are_not_told()
     ensures elsewhere { SeatIsElsewhere }
 {}
 
-/// No give of a core that steps alone leaves what is wrong: a frame of its block held, or a frame beside it
-/// held or free otherwise than before.
-pub fn wrong_gives_are_not_told()
-    ensures { GiveIsWrong }
+/// Where a core steps alone and knows the words, a give makes its block free, held before, and leaves every
+/// other bit and flag as it was.
+pub fn gives_free_their_block()
+    ensures { GivesFreeTheirBlock }
 {}
 
 /// No split, no join and no count answers what is wrong: no blocks that are not the two halves of the

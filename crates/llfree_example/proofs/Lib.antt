@@ -1,3 +1,4 @@
+mod Given
 mod Missing
 mod NothingHeld
 mod Surviving

@@ -9,6 +9,7 @@ ghost use Rattle.core_frames.specs.Cores.{memory_of, IsCoreOf, IsSureOf, IsOutOf
 ghost use Rattle.llfree_example.specs.Knowing.{KnowsThat};
 
 use core_frames::{Allocator, Core};
+use frame_core::HeldBlock;
 use frame_table::Block;
 use frame_words::{Fault, Geometry, TakeFault};
 use std::alloc::Global;
@@ -44,6 +45,21 @@ fn take_again(allocator: &Allocator, core: &mut Core, order: u8) -> Result<Block
     take_alone(allocator, core, order)
 }
 
+/// A block that was given is free, so that a take of its order is not refused.
+fn give_and_take(allocator: &Allocator, core: &mut Core, block: Block) -> Result<Block, TakeFault>
+    requires core { IsCoreOf allocator.now core.old }
+    requires sure { IsSureOf allocator.now core.old }
+    requires block { IsOutOf allocator.now block }
+    ensures core { IsCoreOf allocator.now core.new }
+    ensures sure { IsSureOf allocator.now core.new }
+    ensures out { IfOk result (IsOutOf allocator.now) }
+    ensures taken { IfErr result (λ _. ⊥) }
+{
+    let order = block.order();
+    allocator.give(core, block);
+    allocator.take(core, order)
+}
+
 /// How many frames are free.
 fn count_alone(allocator: &Allocator, core: &mut Core) -> u32
     requires core { IsCoreOf allocator.now core.old }
@@ -67,7 +83,9 @@ fn free_besides_one(allocator: &Allocator, cores: Vec<Core>) -> Result<(u32, Vec
     let taken = take_again(allocator, &mut core, 9);
     let free = count_alone(allocator, &mut core);
     if let Ok(block) = taken {
-        allocator.give(&mut core, block);
+        if let Ok(block) = give_and_take(allocator, &mut core, block) {
+            allocator.give(&mut core, block);
+        }
     }
     Ok((free, allocator.scatter(core, room)))
 }
