@@ -16,3 +16,4 @@ mod Tallies
 pub mod WrongRecords
 pub mod WrongEnds
 pub mod WrongTexts
+pub mod WorkedOutcome

@@ -116,7 +116,7 @@ same_first P (z ∷ front) x back (w ∷ front') y back' none is none' is' same 
     same_first P front x back front' y back' (All-tail (λ t. ¬ P t) z front none) is
     (All-tail (λ t. ¬ P t) w front' none') is' others
 
-first_is_one : (P : LabelledBlock → Type 0) (old : List LabelledBlock) (e f : LabelledBlock) (new other : List LabelledBlock)
+pub first_is_one : (P : LabelledBlock → Type 0) (old : List LabelledBlock) (e f : LabelledBlock) (new other : List LabelledBlock)
     → TakesFirst P old e new → TakesFirst P old f other → e ≡ f
 first_is_one P old e f new other a b =
     same_first P a.front e a.back b.front f b.back a.first a.holds b.first b.holds (sym a.was ∙ b.was)

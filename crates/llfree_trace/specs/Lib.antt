@@ -8,3 +8,4 @@ pub mod Command
 pub mod ImageStreams
 pub mod WrongRuns
 pub mod WrongTexts
+pub mod WorkedOutcome

@@ -1,5 +1,6 @@
 //! What would be wrong, and is told: laws, proved as contracts of functions that do nothing.
 
+ghost use Rattle.llfree_trace.specs.WorkedOutcome.{TwoCoresAreWorkedOut};
 ghost use Rattle.llfree_trace.specs.WrongRuns.{EachGivesItsOwn, FirstTakenIsGivenFirst, FrameIsShared, GiveIsRefused, ListOverlaps};
 ghost use Rattle.llfree_trace.specs.WrongRuns.{OtherBlockIsGiven, OtherFramesAreHeld, OtherIsAnswered};
 ghost use Rattle.llfree_trace.specs.WrongRuns.{OtherKind, TakeIsRefused, WhatMovedIsGiven, WrongBlockIsTaken};
@@ -56,4 +57,10 @@ pub fn wrong_ends_are_not_told()
     ensures made { OtherIsMade }
     ensures no_command { NoCommandIsDone }
     ensures done { OtherIsDone }
+{}
+
+/// In a memory of one child, two cores may take, move and give so. Not so with a frame that the other has, a
+/// give of the newer block, an answer too few, or other frames held at the end.
+pub fn two_cores_are_worked_out()
+    ensures { TwoCoresAreWorkedOut }
 {}
