@@ -13,19 +13,19 @@ use Rattle.held_blocks.specs.Slots.{held, StandsAt}
 use Rattle.held_blocks.proofs.Slots.{held_at, held_without}
 use Rattle.held_blocks.specs.declared.slot_page.SlotPage.{SlotPage}
 use Rattle.held_blocks.specs.Pages.{blocks_in, page_in}
-use Rattle.held_blocks.specs.SlotPages.{begins_in, number_in, HasPage, KeepsPages}
+use Rattle.held_blocks.specs.SlotPages.{in_one_child, number_in, HasPage, KeepsPages}
 
-pub begins_here : (here f : ℕ) → f / 512 ≡ here / 512 → begins_in here f ≡ 1
-unfolding begins_in
-begins_here here f same = grind (arith, nat_tests)
+pub here_counts : (here f : ℕ) → f / 512 ≡ here / 512 → in_one_child here f ≡ 1
+unfolding in_one_child
+here_counts here f same = grind (arith, nat_tests)
 
-pub begins_elsewhere : (here f : ℕ) → f / 512 ≢ here / 512 → begins_in here f ≡ 0
-unfolding begins_in
-begins_elsewhere here f other = grind (arith, nat_tests)
+pub elsewhere_counts_not : (here f : ℕ) → f / 512 ≢ here / 512 → in_one_child here f ≡ 0
+unfolding in_one_child
+elsewhere_counts_not here f other = grind (arith, nat_tests)
 
-pub begins_le : (here f : ℕ) → begins_in here f ≤ 1
-unfolding begins_in
-begins_le here f = grind (arith, nat_tests, common_steps)
+pub one_at_most : (here f : ℕ) → in_one_child here f ≤ 1
+unfolding in_one_child
+one_at_most here f = grind (arith, nat_tests, common_steps)
 
 -- a child that has a page stands in the directory
 pub paged_within : (pages : List (Option SlotPage)) (k : ℕ) → 0 < blocks_in (page_in pages k) → k < length pages
@@ -45,18 +45,18 @@ read_page pages k read page within is some =
 pub number_le : (entries : List LabelledBlock) (f : ℕ) → number_in entries f ≤ length entries
 number_le [] f = omega arith
 number_le (e ∷ entries) f =
-    omega (arith, sum_by-cons (λ e. begins_in e.block.frame f) e entries, number_le entries f, begins_le e.block.frame f)
+    omega (arith, sum_by-cons (λ e. in_one_child e.block.frame f) e entries, number_le entries f, one_at_most e.block.frame f)
 
 -- one entry more
 pub number_push : (entries : List LabelledBlock) (e : LabelledBlock) (f : ℕ)
-    → number_in (entries ++ e ∷ []) f ≡ number_in entries f + begins_in e.block.frame f
-number_push entries e f = sum_by_push (λ e. begins_in e.block.frame f) entries e
+    → number_in (entries ++ e ∷ []) f ≡ number_in entries f + in_one_child e.block.frame f
+number_push entries e f = sum_by_push (λ e. in_one_child e.block.frame f) entries e
 
 -- one entry less
 pub number_less : (slots : List (Option LabelledBlock)) (i : ℕ) (e : LabelledBlock) (f : ℕ) → StandsAt slots i e
-    → number_in (held (set slots i None)) f + begins_in e.block.frame f ≡ number_in (held slots) f
+    → number_in (held (set slots i None)) f + in_one_child e.block.frame f ≡ number_in (held slots) f
 number_less slots i e f stands =
-    let here = λ (x : LabelledBlock). begins_in x.block.frame f in
+    let here = λ (x : LabelledBlock). in_one_child x.block.frame f in
     let front = held (take i slots) in
     let back = held (drop (suc i) slots) in
     let was = ap (sum_by here) (held_at slots i e stands) ∙ sum_by-append here front (e ∷ back) in
@@ -67,7 +67,7 @@ number_less slots i e f stands =
 pub number_some : (slots : List (Option LabelledBlock)) (i : ℕ) (e : LabelledBlock) → StandsAt slots i e
     → 0 < number_in (held slots) e.block.frame
 number_some slots i e stands =
-    omega (arith, number_less slots i e e.block.frame stands, begins_here e.block.frame e.block.frame refl)
+    omega (arith, number_less slots i e e.block.frame stands, here_counts e.block.frame e.block.frame refl)
 
 -- the frames that have pages keep them, where the numbers stay
 pub keeps_page : {old new : SlotPages} → KeepsPages old new → (f : ℕ) → HasPage old f → HasPage new f
@@ -77,13 +77,13 @@ keeps_page kept f page = omega (arith, kept.numbers f, page)
 pub number_set : (pages : List (Option SlotPage)) (here f : ℕ) (page : SlotPage)
     → here / 512 < length pages
     → ((f / 512 ≡ here / 512) × (blocks_in (page_in (set pages (here / 512) (Some page)) (f / 512)) ≡ page.blocks)
-    × (begins_in here f ≡ 1))
+    × (in_one_child here f ≡ 1))
     ⊎ ((blocks_in (page_in (set pages (here / 512) (Some page)) (f / 512)) ≡ blocks_in (page_in pages (f / 512)))
-    × (begins_in here f ≡ 0))
+    × (in_one_child here f ≡ 0))
 number_set pages here f page within =
     elim (cases_eq (f / 512) (here / 512)) [
       | inl same ↦
-          inl (same, rw same (ap blocks_in (get_or-set_same pages (here / 512) (Some page) None within)), begins_here here f same)
+          inl (same, rw same (ap blocks_in (get_or-set_same pages (here / 512) (Some page) None within)), here_counts here f same)
       | inr other ↦
-          inr (ap blocks_in (get_or-set_other pages (here / 512) (f / 512) (Some page) None other), begins_elsewhere here f other)
+          inr (ap blocks_in (get_or-set_other pages (here / 512) (f / 512) (Some page) None other), elsewhere_counts_not here f other)
     ]

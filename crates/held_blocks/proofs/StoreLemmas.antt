@@ -9,7 +9,7 @@ use Rattle.held_blocks.specs.declared.label_chains.LabelChains.{LabelChains}
 use Rattle.held_blocks.specs.declared.slot_pages.SlotPages.{SlotPages}
 use Rattle.held_blocks.specs.Label.{is_label, packed}
 use Rattle.held_blocks.specs.LabelChains.{Chained, IsFirstLive, NoneLive, is_live}
-use Rattle.held_blocks.specs.SlotPages.{HasPage, KeepsSlots, Counts, number_at, number_in, begins_in, slot_at}
+use Rattle.held_blocks.specs.SlotPages.{HasPage, KeepsSlots, CountsEachChild, counted_at, number_in, in_one_child, slot_at}
 use Rattle.held_blocks.specs.LabelledBlocks.{IsUnder, IsTheBlock, BeginsAt, HasNone}
 use Rattle.held_blocks.specs.Slots.{held, FindsEntries, IsFound, StandsAt, IsFirstAt, HoldsAt}
 use Rattle.held_blocks.specs.Slots.{KnowsEachLabel, CanMove}
@@ -39,8 +39,8 @@ module _ {slots : List (Option LabelledBlock)} {chains : LabelChains} {pages : S
 
   -- an entry leaves, and its page counts one less
   pub fits_take : {slots' : List (Option LabelledBlock)} {pages' : SlotPages} {n : ℕ} (i : ℕ) (e : LabelledBlock)
-      → StandsAt slots i e → slots' ≡ set slots i None → n + 1 ≡ live → Counts pages (held slots)
-      → ((f : ℕ) → number_at pages' f + begins_in e.block.frame f ≡ number_at pages f)
+      → StandsAt slots i e → slots' ≡ set slots i None → n + 1 ≡ live → CountsEachChild pages (held slots)
+      → ((f : ℕ) → counted_at pages' f + in_one_child e.block.frame f ≡ counted_at pages f)
       → ((f : ℕ) → HasPage pages' f → slot_at pages' f ≡ slot_at pages f) → FindsEntries slots' chains pages' n
   fits_take {slots' = slots'} {pages' = pages'} i e stands less one_less counts numbers kept = record {
     chained = rw less (chained_less chains slots i fits.chained);

@@ -4,7 +4,7 @@ use Rattle.held_blocks.specs.declared.labelled_block.LabelledBlock.{LabelledBloc
 use Rattle.held_blocks.specs.declared.block_store.BlockStore.{BlockStore}
 use Rattle.held_blocks.specs.Label.{packed}
 use Rattle.held_blocks.specs.LabelChains.{ChainsHaveRoom, Knows}
-use Rattle.held_blocks.specs.SlotPages.{Counts, HasSpare, KeepsPages}
+use Rattle.held_blocks.specs.SlotPages.{CountsEachChild, HasSpare, KeepsPages}
 use Rattle.held_blocks.specs.Slots.{held}
 
 -- the entries of a store, in order
@@ -28,7 +28,7 @@ IsReadyUnder store label = IsReadyFor store (packed label)
 
 -- the pages of a store count its entries
 abbrev pub CountsEntries : BlockStore → Type 0
-CountsEntries store = Counts store.pages (entries_of store)
+CountsEntries store = CountsEachChild store.pages (entries_of store)
 
 -- a store counts its entries, and one more under a label for which there is room takes no memory
 pub record IsCountedAndReady (store : BlockStore) (room : Option (List ℕ)) : Type 0 where

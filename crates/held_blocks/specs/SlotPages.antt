@@ -13,12 +13,12 @@ abbrev pub page_of : SlotPages → ℕ → Option SlotPage
 page_of table frame = page_in table.pages.items (frame / child_frames)
 
 -- how many blocks the table counts in the child of a frame
-abbrev pub number_at : SlotPages → ℕ → ℕ
-number_at table frame = blocks_in (page_of table frame)
+abbrev pub counted_at : SlotPages → ℕ → ℕ
+counted_at table frame = blocks_in (page_of table frame)
 
 -- the child of the frame has a page
 abbrev pub HasPage : SlotPages → ℕ → Type 0
-HasPage table frame = 0 < number_at table frame
+HasPage table frame = 0 < counted_at table frame
 
 -- there is a page that no child has, and a directory of all children
 abbrev pub HasSpare : SlotPages → Type 0
@@ -29,16 +29,16 @@ abbrev pub slot_at : SlotPages → ℕ → ℕ
 slot_at table frame = slot_in (page_of table frame) (frame % child_frames)
 
 -- 1 where the frames are of one child, else 0
-unfoldable pub begins_in : ℕ → ℕ → ℕ
-begins_in here frame = if nat_eq (here / child_frames) (frame / child_frames) then 1 else 0
+unfoldable pub in_one_child : ℕ → ℕ → ℕ
+in_one_child here frame = if nat_eq (here / child_frames) (frame / child_frames) then 1 else 0
 
 -- how many of the entries begin in the child of a frame
 abbrev pub number_in : List LabelledBlock → ℕ → ℕ
-number_in entries frame = sum_by (λ e. begins_in e.block.frame frame) entries
+number_in entries frame = sum_by (λ e. in_one_child e.block.frame frame) entries
 
 -- the table counts the entries of each child
-abbrev pub Counts : SlotPages → List LabelledBlock → Type 0
-Counts table entries = (frame : ℕ) → number_at table frame ≡ number_in entries frame
+abbrev pub CountsEachChild : SlotPages → List LabelledBlock → Type 0
+CountsEachChild table entries = (frame : ℕ) → counted_at table frame ≡ number_in entries frame
 
 -- the frames that have pages keep them, and what stands there
 pub record KeepsSlots (old new : SlotPages) : Type 0 where
@@ -47,5 +47,5 @@ pub record KeepsSlots (old new : SlotPages) : Type 0 where
 
 -- as many blocks are counted in each child, and a spare page stays
 pub record KeepsPages (old new : SlotPages) : Type 0 where
-  pub numbers : (f : ℕ) → number_at new f ≡ number_at old f
+  pub numbers : (f : ℕ) → counted_at new f ≡ counted_at old f
   pub spare : HasSpare old → HasSpare new

@@ -28,7 +28,7 @@ impl BlockStore {
     ghost use Rattle.held_blocks.specs.Label.{packed};
     ghost use Rattle.held_blocks.specs.LabelChains.{Knows};
     ghost use Rattle.std.specs.Prelude.{ℕ, ◌+◌};
-    ghost use Rattle.held_blocks.specs.SlotPages.{HasPage, HasSpare, number_at, begins_in};
+    ghost use Rattle.held_blocks.specs.SlotPages.{HasPage, HasSpare, counted_at, in_one_child};
     ghost use Rattle.held_blocks.specs.BlockStore.{entries_of, HasRoom, IsReadyFor, KeepsReady};
     ghost use Rattle.held_blocks.specs.BlockStore.{CountsEntries, UsesRoomOfOne};
     ghost use Rattle.held_blocks.specs.LabelledBlocks.{BeginsAt, HasNone};
@@ -64,7 +64,7 @@ impl BlockStore {
     // Makes a page that no child has, unless there is one.
     fn make_spare(&mut self) -> Result<(), AllocError>
         ensures slots { self.new.slots ≡ self.old.slots }
-        ensures numbers { (f : ℕ) → number_at self.new.pages f ≡ number_at self.old.pages f }
+        ensures numbers { (f : ℕ) → counted_at self.new.pages f ≡ counted_at self.old.pages f }
         ensures spare { OnOk result (HasSpare self.new.pages) }
         ensures kept { KeepsReady self.old self.new }
     {
@@ -110,7 +110,7 @@ impl BlockStore {
         ensures slots { self.new.slots ≡ self.old.slots }
         ensures chains { self.new.chains ≡ self.old.chains }
         ensures page { HasPage self.new.pages frame }
-        ensures numbers { (f : ℕ) → number_at self.new.pages f ≡ number_at self.old.pages f + begins_in frame f }
+        ensures numbers { (f : ℕ) → counted_at self.new.pages f ≡ counted_at self.old.pages f + in_one_child frame f }
     {
         self.pages.enter(frame);
     }

@@ -2,7 +2,7 @@
 
 ghost use Rattle.std.specs.Prelude.{◌≡◌, ◌+◌, [], ℕ, length, IfOk, OnOk, OnErr};
 ghost use Rattle.held_blocks.specs.LabelChains.{Knows};
-ghost use Rattle.held_blocks.specs.SlotPages.{HasSpare, number_at};
+ghost use Rattle.held_blocks.specs.SlotPages.{HasSpare, counted_at};
 ghost use Rattle.held_blocks.specs.Slots.{held, AreChainsFor, CanMove};
 ghost use Rattle.held_blocks.specs.BlockStore.{entries_of, HasRoom, IsReadyFor};
 
@@ -19,7 +19,7 @@ impl BlockStore {
     pub(crate) fn compact(&mut self, key: u128, alloc: Global) -> Result<(), AllocError>
         requires { HasSpare self.old.pages }
         ensures entries { entries_of self.new ≡ entries_of self.old }
-        ensures numbers { (f : ℕ) → number_at self.new.pages f ≡ number_at self.old.pages f }
+        ensures numbers { (f : ℕ) → counted_at self.new.pages f ≡ counted_at self.old.pages f }
         ensures ready { OnOk result (IsReadyFor self.new key) }
         ensures kept { OnErr result (self.new ≡ self.old) }
     {
@@ -63,7 +63,7 @@ impl BlockStore {
         requires spare { HasSpare self.old.pages }
         requires can { CanMove slots.items self.old.chains self.old.pages }
         ensures entries { entries_of self.new ≡ held slots.items }
-        ensures numbers { (f : ℕ) → number_at self.new.pages f ≡ number_at self.old.pages f }
+        ensures numbers { (f : ℕ) → counted_at self.new.pages f ≡ counted_at self.old.pages f }
         ensures ready { (q : ℕ) → Knows self.old.chains q → IsReadyFor self.new q }
     {
         let mut slots = slots;

@@ -27,11 +27,11 @@ impl SlotPages {
     ghost use Rattle.std.specs.Prelude.{◌≢◌, ◌<◌, ◌^◌, IfSome, IfNone, IsSome, None};
     ghost use Rattle.held_blocks.specs.SlotPages.{HasPage, HasSpare, slot_at};
     ghost use Rattle.held_blocks.specs.SlotPages.{KeepsPages, KeepsSlots};
-    ghost use Rattle.held_blocks.specs.SlotPages.{number_at, begins_in};
+    ghost use Rattle.held_blocks.specs.SlotPages.{counted_at, in_one_child};
 
     /// No page, and no memory.
     pub(crate) fn new(alloc: Global) -> SlotPages
-        ensures { (f : ℕ) → number_at result f ≡ 0 }
+        ensures { (f : ℕ) → counted_at result f ≡ 0 }
     {
         SlotPages {
             pages: Vec::new(alloc),
@@ -58,8 +58,8 @@ impl SlotPages {
     pub(crate) fn enter(&mut self, frame: u32)
         requires spare { HasSpare self.old }
         requires low { frame < 2 ^ 21 }
-        requires few { number_at self.old frame + 1 < 2 ^ 64 }
-        ensures numbers { (f : ℕ) → number_at self.new f ≡ number_at self.old f + begins_in frame f }
+        requires few { counted_at self.old frame + 1 < 2 ^ 64 }
+        ensures numbers { (f : ℕ) → counted_at self.new f ≡ counted_at self.old f + in_one_child frame f }
         ensures slots { KeepsSlots self.old self.new }
     {
         let child = frame as usize / PAGE_SLOTS;
@@ -78,7 +78,7 @@ impl SlotPages {
         requires low { child < most_children }
         requires none { page_in self.old.pages.items child ≡ None }
         ensures page { IsSome (page_in self.new.pages.items child) }
-        ensures numbers { (f : ℕ) → number_at self.new f ≡ number_at self.old f }
+        ensures numbers { (f : ℕ) → counted_at self.new f ≡ counted_at self.old f }
         ensures slots { KeepsSlots self.old self.new }
         ensures kept { length self.new.pages.items ≡ length self.old.pages.items }
     {
@@ -91,7 +91,7 @@ impl SlotPages {
     /// Counts no more a block that begins at a frame. A page of no block leaves its child.
     pub(crate) fn leave(&mut self, frame: u32)
         requires { HasPage self.old frame }
-        ensures numbers { (f : ℕ) → number_at self.new f + begins_in frame f ≡ number_at self.old f }
+        ensures numbers { (f : ℕ) → counted_at self.new f + in_one_child frame f ≡ counted_at self.old f }
         ensures slots { (f : ℕ) → HasPage self.new f → slot_at self.new f ≡ slot_at self.old f }
         ensures spare { HasSpare self.old → HasSpare self.new }
     {
@@ -110,7 +110,7 @@ impl SlotPages {
         requires low { child < length self.old.pages.items }
         requires none { blocks_in (page_in self.old.pages.items child) ≡ 0 }
         ensures page { page_in self.new.pages.items child ≡ None }
-        ensures numbers { (f : ℕ) → number_at self.new f ≡ number_at self.old f }
+        ensures numbers { (f : ℕ) → counted_at self.new f ≡ counted_at self.old f }
         ensures slots { KeepsSlots self.old self.new }
         ensures spare { HasSpare self.old → HasSpare self.new }
     {

@@ -21,7 +21,7 @@ use Rattle.held_blocks.specs.LabelledBlocks.{IsUnder, TakesFirst}
 use Rattle.held_blocks.specs.declared.labelled_block.LabelledBlock.{LabelledBlock}
 use Rattle.held_blocks.proofs.HeldLemmas.{more_lawful}
 use Rattle.llfree_trace.specs.Outcome.{DeskStep, Moves, Runs, core_list}
-use Rattle.llfree_trace.specs.WorkedOutcome.{Happens, NoneGivesTheNewer, NoneIsLeftOut, NoneTakesTheOthers, NoOtherIsHeld}
+use Rattle.llfree_trace.specs.WorkedOutcome.{TwoRoundsHappen, NoneGivesTheNewer, NoneIsLeftOut, NoneTakesTheOthers, NoOtherIsHeld}
 use Rattle.llfree_trace.specs.WorkedOutcome.{TwoCoresAreWorkedOut, a, image_with, two_rounds}
 use Rattle.frame_words.specs.declared.geometry.Geometry.{Geometry}
 use Rattle.llfree_trace.specs.WrongRuns.{answered_from}
@@ -108,7 +108,7 @@ leaves_first : {b : FrameBlock} (others : List LabelledBlock) → TakesFirst (Is
 leaves_first others =
     record { front = []; back = others; was = refl; stays = refl; holds = refl; first = All-nil (λ x. ¬ IsUnder a x) }
 
-happens : Happens memory
+happens : TwoRoundsHappen memory
 unfolding Runs DeskStep TakesUnder Moves GivesFirst ranges_in
 happens =
     let first = entry (block 0 0) in

@@ -40,8 +40,8 @@ abbrev pub Tells : Geometry → List Answer → ℕ → Type 0
 Tells geometry answers bits = IsAnsweredBy MayRefuse two_rounds answers (image_with geometry bits)
 
 -- the first core may take frame 0 and the second frames 2 and 3, give these back and keep frame 0, which alone is held
-abbrev pub Happens : Geometry → Type 0
-Happens geometry = Tells geometry (answered (reply.Taken 2 1) (reply.Given 2 1)) 1
+abbrev pub TwoRoundsHappen : Geometry → Type 0
+TwoRoundsHappen geometry = Tells geometry (answered (reply.Taken 2 1) (reply.Given 2 1)) 1
 
 -- the second core does not take a frame that the first one has
 abbrev pub NoneTakesTheOthers : Geometry → Type 0
@@ -69,7 +69,7 @@ pub record IsWorkedOut (geometry : Geometry) : Type 0 where
   pub children : geometry.children ≡ 1
   pub cores : geometry.cores ≡ 2
   pub frames : geometry.frames ≡ 512
-  pub happens : Happens geometry
+  pub happens : TwoRoundsHappen geometry
   pub taken : NoneTakesTheOthers geometry
   pub given : NoneGivesTheNewer geometry
   pub left_out : NoneIsLeftOut geometry

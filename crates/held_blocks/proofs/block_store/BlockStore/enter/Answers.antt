@@ -1,6 +1,6 @@
 use Rattle.std.proofs.Common.{arith, refl}
 use Rattle.held_blocks.specs.Slots.{held}
-use Rattle.held_blocks.proofs.PageLemmas.{begins_here, number_le}
+use Rattle.held_blocks.proofs.PageLemmas.{here_counts, number_le}
 use Rattle.held_blocks.proofs.Slots.{length-held}
 use Rattle.held_blocks.proofs.StoreLemmas.{fits_same}
 use Rattle.held_blocks.proofs.block_store.BlockStore.enter.Goals as goal
@@ -17,4 +17,4 @@ enter-requires-clause-few c =
     omega (arith, c.requires.counts c.args.frame, number_le (held slots.items) c.args.frame, length-held slots.items, slots.ok, slots.small)
 
 pub returns-clause-page : goal.returns-clause-page
-returns-clause-page c = omega (arith, c.enter.ensures.numbers c.args.frame, begins_here c.args.frame c.args.frame refl)
+returns-clause-page c = omega (arith, c.enter.ensures.numbers c.args.frame, here_counts c.args.frame c.args.frame refl)
