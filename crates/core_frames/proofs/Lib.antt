@@ -8,6 +8,7 @@ pub mod Carried
 pub mod KeptFrames
 pub mod Exhausted
 mod Missed
+mod WorkedMisses
 pub mod AloneSearch
 pub mod SureSteps
 pub mod SearchSteps

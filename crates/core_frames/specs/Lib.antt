@@ -5,6 +5,7 @@ pub mod PlainState
 pub mod Search
 pub mod Alone
 pub mod Missed
+pub mod WorkedMisses
 pub mod Searches
 pub mod Splits
 pub mod Joins

@@ -9,11 +9,16 @@ ghost use Rattle.core_frames.specs.Uses.{GivesFreeTheirBlock};
 ghost use Rattle.core_frames.specs.Refusals.{OrderIsLawful, OrderIsUnlawful, MovesTooLittle};
 ghost use Rattle.core_frames.specs.Refusals.{LossIsUntold, DeskIsRefused, LeftIsRefused};
 ghost use Rattle.core_frames.specs.Refusals.{RangesAreRefused, ClosingIsRefused, NumberIsAnother};
+ghost use Rattle.core_frames.specs.WorkedMisses.{MissesAHugeFrame, AreSearched, LooksAtAHugeFrame};
+ghost use Rattle.core_frames.specs.WorkedMisses.{FindsAHugeFrame, ReservingWithholds, PayingWithholds};
+ghost use Rattle.core_frames.specs.WorkedMisses.{ChargingWithholds, AllRestAtFirst};
 ghost use Rattle.core_frames.specs.WrongAnswers.{TakenPastTheEnd, KeptIsClearAtClosing};
 ghost use Rattle.core_frames.specs.WrongAnswers.{KeptOverlapAtClosing, KeptIsLostAtClosing};
 ghost use Rattle.core_frames.specs.WrongAnswers.{KeptIsClearAtStop, KeptOverlapAtStop};
 ghost use Rattle.core_frames.specs.WrongAnswers.{KeptIsLostAtStop, SeatIsElsewhere};
 ghost use Rattle.core_frames.specs.WrongAnswers.{SplitIsWrong, JoinIsWrong, CountIsWrong, DeskLends};
+
+use frame_model::every_run_from_an_opening_fits;
 
 /// The bounds on moves are these numbers, so that no part of their formulas can grow unseen; and no call
 /// at a desk makes more than its own.
@@ -34,6 +39,27 @@ pub fn bounds_are_these()
 pub fn searches_miss_what_is_withheld()
     ensures withheld { MissesTheWithheld }
     ensures at_rest { NobodyWithholds }
+{}
+
+/// Two seats that stopped after their charges withhold the free huge frame of which they have a part, by
+/// the law on searches. What a search has looked at then, by each of its reasons.
+pub fn worked_searches_miss_a_block()
+    ensures missed { MissesAHugeFrame }
+    ensures searched { AreSearched }
+    ensures huge { LooksAtAHugeFrame }
+    ensures not_searched { FindsAHugeFrame }
+{
+    every_run_from_an_opening_fits();
+    searches_miss_what_is_withheld();
+}
+
+/// A view withholds blocks of its tree or its child and no others, by each of its parts; and who has
+/// nothing in flight is at rest.
+pub fn worked_views_withhold()
+    ensures reserving { ReservingWithholds }
+    ensures paying { PayingWithholds }
+    ensures charging { ChargingWithholds }
+    ensures at_rest { AllRestAtFirst }
 {}
 
 /// No take that is refused says what is wrong: none that the order is bad but one above 9, and each of

@@ -19,7 +19,8 @@ pub use held_blocks::{Label, LabelledBlock, LabelledBlocks};
 pub use joins::join_by;
 pub use laws::{
     bounds_are_these, gives_free_their_block, searches_miss_what_is_withheld,
-    wrong_answers_are_not_told, wrong_halves_and_counts_are_not_told, wrong_refusals_are_not_told,
+    worked_searches_miss_a_block, worked_views_withhold, wrong_answers_are_not_told,
+    wrong_halves_and_counts_are_not_told, wrong_refusals_are_not_told,
     wrong_refused_takes_are_not_told,
 };
 pub use plain::PlainAllocator;

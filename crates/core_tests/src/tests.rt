@@ -10,4 +10,5 @@ mod scripted;
 mod shared;
 mod stops;
 mod tree_takes;
+mod withheld;
 mod words;

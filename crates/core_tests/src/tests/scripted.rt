@@ -92,7 +92,7 @@ fn open_used(alloc: Global, in_use: bool) -> Result<PlainMoves, Fail>
 }
 
 // The caller goes on by a script.
-fn script(alloc: Global, plain: PlainMoves, cues: &[Cue]) -> Result<ScriptMoves, Fail>
+pub(super) fn script(alloc: Global, plain: PlainMoves, cues: &[Cue]) -> Result<ScriptMoves, Fail>
     requires company { IsByItself plain }
     requires begins { MayBegin 0 (⟦<PlainMoves as Moves>⟧.at plain) }
     ensures { IfOk result (λ m. MayBegin 0 (⟦<ScriptMoves as Moves>⟧.at m)) }
