@@ -1,5 +1,5 @@
 -- Refusals that would be wrong, and numbers of cores that would be.
-use Rattle.std.specs.Prelude.{◌≢◌, ℕ, ◌+◌, ◌<◌, ◌≤◌, List, length, slice_index_or}
+use Rattle.std.specs.Prelude.{◌≡◌, ◌≢◌, ℕ, ◌+◌, ◌<◌, ◌≤◌, List, length, slice_index_or, Some}
 use Rattle.frame_words.specs.Geometry.{huge_order}
 use Rattle.frame_words.specs.declared.fault.Fault.TheVariants as fault
 use Rattle.frame_words.specs.declared.geometry.Geometry.{Geometry}
@@ -8,9 +8,12 @@ use Rattle.frame_model.specs.declared.block.FrameBlock.{FrameBlock}
 use Rattle.frame_model.specs.Key.{tree_count}
 use Rattle.frame_table.specs.Closing.{IsUnclosedFor}
 use Rattle.frame_table.specs.Openings.{IsLeft}
+use Rattle.low_frames.specs.Alone.{IsFreeIn}
 use Rattle.core_frames.specs.declared.shared.allocator.Allocator.{Allocator}
 use Rattle.core_frames.specs.declared.shared.allocator.Core.{Core}
-use Rattle.core_frames.specs.Cores.{memory_of, number_of, view_in, moves_by, losses_by, AreNumbered}
+use Rattle.core_frames.specs.Cores.{memory_of, number_of, view_in, moves_by, losses_by, known_by}
+use Rattle.core_frames.specs.Cores.{StepsAlone, AreNumbered}
+use Rattle.core_frames.specs.Search.{IsBlockOf}
 use Rattle.core_frames.specs.Left.{IsUnadoptedFor}
 use Rattle.core_frames.specs.Ranges.{IsUnopenedFor, MayHoldBack}
 use Rattle.core_frames.specs.Uses.{IsRefusedFor, IsRefusedAtDesk}
@@ -36,6 +39,12 @@ abbrev pub LossIsUntold : Type 0
 LossIsUntold = (a : Allocator) (n : ℕ) (c d : Core)
     → (losses_by d ≤ losses_by c → ¬ IsRefusedFor a n c d Contended)
     × (losses_by c < losses_by d → ¬ IsRefusedFor a n c d NoBlock)
+
+-- no core that steps alone and knows the words is refused a block of an order of which one is free
+abbrev pub FreeIsRefused : Type 0
+FreeIsRefused = (a : Allocator) (n : ℕ) (c d : Core) (words : List ℕ) (b : FrameBlock)
+    → StepsAlone a c → known_by c ≡ Some words → IsBlockOf (memory_of a) n b → IsFreeIn (memory_of a) words b
+    → (¬ IsRefusedFor a n c d NoBlock) × (¬ IsRefusedFor a n c d Contended)
 
 -- no desk says what its allocator may not, nor that memory is wanting after a step
 abbrev pub DeskIsRefused : Type 0

@@ -31,6 +31,12 @@ abbrev pub TakenPastTheEnd : Type 0
 TakenPastTheEnd = (a : Allocator) (n : ℕ) (b : Block) (c d : Core)
     → (memory_of a).frames < (block_in b).frame + 2 ^ (block_in b).order → ¬ HasTaken a n b c d
 
+-- no core that steps alone and knows the words takes a block of which a frame is held
+abbrev pub TakenWasHeld : Type 0
+TakenWasHeld = (a : Allocator) (n : ℕ) (b : Block) (c d : Core) (words : List ℕ) (x : ℕ)
+    → StepsAlone a c → known_by c ≡ Some words → covers (block_in b) x ≡ 1 → held_at (memory_of a) words x ≢ 0
+    → ¬ HasTaken a n b c d
+
 -- no image of a closing has a frame clear that one of the seats keeps
 abbrev pub KeptIsClearAtClosing : Type 0
 KeptIsClearAtClosing = (key : Key) (seats : List CoreSeat) (image : Contents) (b : FrameBlock) (x : ℕ)

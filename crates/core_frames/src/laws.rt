@@ -7,12 +7,12 @@ ghost use Rattle.core_frames.specs.BoundNumbers.{DeskMovesTooMuch};
 ghost use Rattle.core_frames.specs.Missed.{MissesTheWithheld, NobodyWithholds};
 ghost use Rattle.core_frames.specs.Uses.{GivesFreeTheirBlock};
 ghost use Rattle.core_frames.specs.Refusals.{OrderIsLawful, OrderIsUnlawful, MovesTooLittle};
-ghost use Rattle.core_frames.specs.Refusals.{LossIsUntold, DeskIsRefused, LeftIsRefused};
+ghost use Rattle.core_frames.specs.Refusals.{LossIsUntold, FreeIsRefused, DeskIsRefused, LeftIsRefused};
 ghost use Rattle.core_frames.specs.Refusals.{RangesAreRefused, ClosingIsRefused, NumberIsAnother};
 ghost use Rattle.core_frames.specs.WorkedMisses.{MissesAHugeFrame, AreSearched, LooksAtAHugeFrame};
 ghost use Rattle.core_frames.specs.WorkedMisses.{FindsAHugeFrame, ReservingWithholds, PayingWithholds};
 ghost use Rattle.core_frames.specs.WorkedMisses.{ChargingWithholds, AllRestAtFirst};
-ghost use Rattle.core_frames.specs.WrongAnswers.{TakenPastTheEnd, KeptIsClearAtClosing};
+ghost use Rattle.core_frames.specs.WrongAnswers.{TakenPastTheEnd, TakenWasHeld, KeptIsClearAtClosing};
 ghost use Rattle.core_frames.specs.WrongAnswers.{KeptOverlapAtClosing, KeptIsLostAtClosing};
 ghost use Rattle.core_frames.specs.WrongAnswers.{KeptIsClearAtStop, KeptOverlapAtStop};
 ghost use Rattle.core_frames.specs.WrongAnswers.{KeptIsLostAtStop, SeatIsElsewhere};
@@ -64,12 +64,14 @@ pub fn worked_views_withhold()
 
 /// No take that is refused says what is wrong: none that the order is bad but one above 9, and each of
 /// those; none that it found no block, without as many moves as there are trees, or that it was
-/// contended, without a loss; and none through a desk either.
+/// contended, without a loss; none to one core of all that knows a free one; and none through a desk
+/// either.
 pub fn wrong_refused_takes_are_not_told()
     ensures order_is_lawful { OrderIsLawful }
     ensures order_is_unlawful { OrderIsUnlawful }
     ensures moves { MovesTooLittle }
     ensures losses { LossIsUntold }
+    ensures free { FreeIsRefused }
     ensures desk { DeskIsRefused }
 {}
 
@@ -83,12 +85,13 @@ pub fn wrong_refusals_are_not_told()
     ensures numbers { NumberIsAnother }
 {}
 
-/// No call answers what is wrong: no take a block that ends past the memory; no closing an image in
-/// which a kept block is not held, shares a frame with another, or is lost once the image is rebuilt; no
-/// stop one in which this is so of a block that the last core keeps, or one whose words fit nothing that
-/// this core has.
+/// No call answers what is wrong: no take a block that ends past the memory, or, to one core of all, one
+/// that was held; no closing an image in which a kept block is not held, shares a frame with another, or
+/// is lost once the image is rebuilt; no stop one in which this is so of a block that the last core
+/// keeps, or one whose words fit nothing that this core has.
 pub fn wrong_answers_are_not_told()
     ensures past_the_end { TakenPastTheEnd }
+    ensures held { TakenWasHeld }
     ensures clear { KeptIsClearAtClosing }
     ensures overlap { KeptOverlapAtClosing }
     ensures lost { KeptIsLostAtClosing }

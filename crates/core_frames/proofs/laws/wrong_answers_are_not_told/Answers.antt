@@ -1,14 +1,24 @@
-use Rattle.std.proofs.Common.{arith}
+use Rattle.std.proofs.Common.{ℕ, List, Option, Some, subst, arith}
 use Rattle.std.proofs.lemmas.List.Elements.{All-contains}
 use Rattle.frame_table.specs.Closing.{kept_through, IsHeldIn}
 use Rattle.frame_model.specs.Openings.{held_blocks}
 use Rattle.frame_table.specs.Openings.{unsealed_key, IsLeft}
-use Rattle.frame_table.specs.Seats.{view_of}
+use Rattle.frame_table.specs.Seats.{block_in, view_of}
+use Rattle.low_frames.specs.Alone.{WordsTake}
+use Rattle.core_frames.specs.Cores.{memory_of, known_by}
+use Rattle.core_frames.specs.WrongAnswers.{TakenWasHeld}
 use Rattle.core_frames.proofs.laws.wrong_answers_are_not_told.Goals as goal
+
+taken_was_held : TakenWasHeld
+taken_was_held a n b c d words x alone known covered held taken =
+    let found : WordsTake (memory_of a) (Some words) (known_by d) (block_in b) =
+    subst (λ (o : Option (List ℕ)). WordsTake (memory_of a) o (known_by d) (block_in b)) known (taken.alone alone) in
+    held (found.1.1.was_free x covered)
 
 pub returns : goal.returns
 returns c = record {
   past_the_end = λ a n b d e past taken. absurd (omega (arith, past, taken.inside));
+  held = taken_was_held;
   clear = λ key seats image b x kept covered clear closing.
       clear (All-contains (IsHeldIn key image.words) (kept_through seats) b closing.tells.kept_held kept x covered);
   overlap = λ key seats image x twice closing. absurd (omega (arith, twice, closing.tells.kept_apart.disjoint x));
