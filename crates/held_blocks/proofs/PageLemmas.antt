@@ -73,17 +73,41 @@ number_some slots i e stands =
 pub keeps_page : {old new : SlotPages} → KeepsPages old new → (f : ℕ) → HasPage old f → HasPage new f
 keeps_page kept f page = omega (arith, kept.numbers f, page)
 
--- another page in its place: the numbers of the other children stay
-pub number_set : (pages : List (Option SlotPage)) (here f : ℕ) (page : SlotPage)
+-- what the pages count, after the page of one child has come, changed or gone
+pub number_set : (pages : List (Option SlotPage)) (here f : ℕ) (page : Option SlotPage)
     → here / 512 < length pages
-    → ((f / 512 ≡ here / 512) × (blocks_in (page_in (set pages (here / 512) (Some page)) (f / 512)) ≡ page.blocks)
-    × (in_one_child here f ≡ 1))
-    ⊎ ((blocks_in (page_in (set pages (here / 512) (Some page)) (f / 512)) ≡ blocks_in (page_in pages (f / 512)))
+    → ((blocks_in (page_in (set pages (here / 512) page) (f / 512)) ≡ blocks_in page)
+    × (blocks_in (page_in pages (f / 512)) ≡ blocks_in (page_in pages (here / 512))) × (in_one_child here f ≡ 1))
+    ⊎ ((blocks_in (page_in (set pages (here / 512) page) (f / 512)) ≡ blocks_in (page_in pages (f / 512)))
     × (in_one_child here f ≡ 0))
 number_set pages here f page within =
     elim (cases_eq (f / 512) (here / 512)) [
       | inl same ↦
-          inl (same, rw same (ap blocks_in (get_or-set_same pages (here / 512) (Some page) None within)), here_counts here f same)
+          inl (
+            rw same (ap blocks_in (get_or-set_same pages (here / 512) page None within)),
+            ap (λ k. blocks_in (page_in pages k)) same,
+            here_counts here f same,
+          )
       | inr other ↦
-          inr (ap blocks_in (get_or-set_other pages (here / 512) (f / 512) (Some page) None other), elsewhere_counts_not here f other)
+          inr (ap blocks_in (get_or-set_other pages (here / 512) (f / 512) page None other), elsewhere_counts_not here f other)
+    ]
+
+-- one block more in the child
+pub one_more : (pages : List (Option SlotPage)) (here f : ℕ) (page : Option SlotPage) → here / 512 < length pages
+    → blocks_in page ≡ blocks_in (page_in pages (here / 512)) + 1
+    → blocks_in (page_in (set pages (here / 512) page) (f / 512)) ≡ blocks_in (page_in pages (f / 512)) + in_one_child here f
+one_more pages here f page within more =
+    elim (number_set pages here f page within) [
+      | inl w ↦ omega (arith, w.0, w.1, w.2, more)
+      | inr w ↦ omega (arith, w.0, w.1)
+    ]
+
+-- one block less
+pub one_less : (pages : List (Option SlotPage)) (here f : ℕ) (page : Option SlotPage) → here / 512 < length pages
+    → blocks_in page + 1 ≡ blocks_in (page_in pages (here / 512))
+    → blocks_in (page_in (set pages (here / 512) page) (f / 512)) + in_one_child here f ≡ blocks_in (page_in pages (f / 512))
+one_less pages here f page within less =
+    elim (number_set pages here f page within) [
+      | inl w ↦ omega (arith, w.0, w.1, w.2, less)
+      | inr w ↦ omega (arith, w.0, w.1)
     ]

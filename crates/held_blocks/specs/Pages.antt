@@ -1,5 +1,5 @@
 -- The lists of a table of pages. No public clause cites this module.
-use Rattle.std.specs.Prelude.{ℕ, List, Option, Some, None, slice_index_or}
+use Rattle.std.specs.Prelude.{ℕ, ◌≡◌, ◌<◌, List, Option, Some, None, slice_index_or}
 use Rattle.held_blocks.specs.declared.slot_page.SlotPage.{SlotPage}
 
 -- the page of a child, if it has one
@@ -10,6 +10,10 @@ page_in pages child = slice_index_or pages child None
 abbrev pub blocks_in : Option SlotPage → ℕ
 blocks_in None = 0
 blocks_in (Some page) = page.blocks
+
+-- a block begins in each child that has a page
+abbrev pub EachIsNeeded : List (Option SlotPage) → Type 0
+EachIsNeeded pages = (child : ℕ) (page : SlotPage) → page_in pages child ≡ Some page → 0 < page.blocks
 
 -- the slot that stands in a page
 abbrev pub slot_in : Option SlotPage → ℕ → ℕ

@@ -27,13 +27,13 @@ impl SlotPage {
         Ok(SlotPage { slots, blocks: 0 })
     }
 
-    /// The page of no block.
-    pub(crate) fn cleared(self) -> SlotPage
-        ensures { result.blocks ≡ 0 }
+    /// The page of one block.
+    pub(crate) fn of_one_block(self) -> SlotPage
+        ensures { result.blocks ≡ 1 }
     {
         SlotPage {
             slots: self.slots,
-            blocks: 0,
+            blocks: 1,
         }
     }
 
@@ -46,14 +46,12 @@ impl SlotPage {
         self.blocks += 1;
     }
 
-    /// Counts one block less; how many are left.
-    pub(crate) fn leave(&mut self) -> usize
+    /// Counts one block less.
+    pub(crate) fn leave(&mut self)
         requires { 0 < self.old.blocks }
         ensures blocks { self.new.blocks + 1 ≡ self.old.blocks }
-        ensures left { result ≡ self.new.blocks }
         ensures slots { self.new.slots ≡ self.old.slots }
     {
         self.blocks -= 1;
-        self.blocks
     }
 }

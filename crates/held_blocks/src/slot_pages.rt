@@ -2,8 +2,8 @@
 //! Nothing is ever wiped out: its owner knows which frames mean something.
 
 ghost use Rattle.std.specs.Prelude.{◌≡◌, ◌≤◌, ◌+◌, ℕ, length, OnOk};
-ghost use Rattle.frame_words.specs.Geometry.{most_children};
-ghost use Rattle.held_blocks.specs.Pages.{blocks_in, page_in};
+ghost use Rattle.frame_words.specs.Geometry.{child_frames, most_children};
+ghost use Rattle.held_blocks.specs.Pages.{EachIsNeeded, page_in};
 
 use crate::slot_page::{PAGE_SLOTS, SlotPage};
 use frame_words::MOST_CHILDREN;
@@ -21,10 +21,11 @@ pub(crate) struct SlotPages {
     pages: Vec<Option<SlotPage>>,
     spares: Vec<SlotPage>,
     alloc: Global,
+    pub ghost needed: { EachIsNeeded pages.items },
 }
 
 impl SlotPages {
-    ghost use Rattle.std.specs.Prelude.{◌≢◌, ◌<◌, ◌^◌, IfSome, IfNone, IsSome, None};
+    ghost use Rattle.std.specs.Prelude.{◌≢◌, ◌<◌, ◌^◌, IfSome, IfNone, None, ◌/◌};
     ghost use Rattle.held_blocks.specs.SlotPages.{HasPage, HasSpare, slot_at};
     ghost use Rattle.held_blocks.specs.SlotPages.{KeepsPages, KeepsSlots};
     ghost use Rattle.held_blocks.specs.SlotPages.{counted_at, in_one_child};
@@ -64,7 +65,8 @@ impl SlotPages {
     {
         let child = frame as usize / PAGE_SLOTS;
         if self.pages[child].is_none() {
-            self.give_page(child);
+            self.give_page(frame);
+            return;
         }
         match &mut self.pages[child] {
             Some(page) => page.enter(),
@@ -72,23 +74,21 @@ impl SlotPages {
         }
     }
 
-    // Gives a child that has no page one of no block.
-    fn give_page(&mut self, child: usize)
+    // Gives the child of a frame, which has no page, one of one block.
+    fn give_page(&mut self, frame: u32)
         requires spare { HasSpare self.old }
-        requires low { child < most_children }
-        requires none { page_in self.old.pages.items child ≡ None }
-        ensures page { IsSome (page_in self.new.pages.items child) }
-        ensures numbers { (f : ℕ) → counted_at self.new f ≡ counted_at self.old f }
+        requires low { frame < 2 ^ 21 }
+        requires none { page_in self.old.pages.items (frame / child_frames) ≡ None }
+        ensures numbers { (f : ℕ) → counted_at self.new f ≡ counted_at self.old f + in_one_child frame f }
         ensures slots { KeepsSlots self.old self.new }
-        ensures kept { length self.new.pages.items ≡ length self.old.pages.items }
     {
         let Some(page) = self.spares.pop() else {
             unreachable!();
         };
-        self.pages[child] = Some(page.cleared());
+        self.pages[frame as usize / PAGE_SLOTS] = Some(page.of_one_block());
     }
 
-    /// Counts no more a block that begins at a frame. A page of no block leaves its child.
+    /// Counts no more a block that begins at a frame. The last block of a child takes its page with it.
     pub(crate) fn leave(&mut self, frame: u32)
         requires { HasPage self.old frame }
         ensures numbers { (f : ℕ) → counted_at self.new f + in_one_child frame f ≡ counted_at self.old f }
@@ -96,26 +96,29 @@ impl SlotPages {
         ensures spare { HasSpare self.old → HasSpare self.new }
     {
         let child = frame as usize / PAGE_SLOTS;
-        let blocks = match &mut self.pages[child] {
-            Some(page) => page.leave(),
+        let blocks = match &self.pages[child] {
+            Some(page) => page.blocks,
             None => unreachable!(),
         };
-        if blocks == 0 {
-            self.let_go(child);
+        if blocks == 1 {
+            self.let_go(frame);
+            return;
+        }
+        match &mut self.pages[child] {
+            Some(page) => page.leave(),
+            None => unreachable!(),
         }
     }
 
-    // Lets the page of a child go, in which no block begins.
-    fn let_go(&mut self, child: usize)
-        requires low { child < length self.old.pages.items }
-        requires none { blocks_in (page_in self.old.pages.items child) ≡ 0 }
-        ensures page { page_in self.new.pages.items child ≡ None }
-        ensures numbers { (f : ℕ) → counted_at self.new f ≡ counted_at self.old f }
-        ensures slots { KeepsSlots self.old self.new }
+    // Lets the page of the child of a frame go, with the one block that it counts.
+    fn let_go(&mut self, frame: u32)
+        requires { counted_at self.old frame ≡ 1 }
+        ensures numbers { (f : ℕ) → counted_at self.new f + in_one_child frame f ≡ counted_at self.old f }
+        ensures slots { (f : ℕ) → HasPage self.new f → slot_at self.new f ≡ slot_at self.old f }
         ensures spare { HasSpare self.old → HasSpare self.new }
     {
-        let Some(page) = self.pages[child].take() else {
-            return;
+        let Some(page) = self.pages[frame as usize / PAGE_SLOTS].take() else {
+            unreachable!();
         };
         if self.spares.len() < FEW_PAGES {
             let _ = self.spares.push(page);

@@ -1,32 +1,11 @@
-use Rattle.std.proofs.Common.{◌≡◌, ◌/◌, ap, arith, inl, inr}
-use Rattle.held_blocks.specs.Pages.{blocks_in, page_in}
-use Rattle.held_blocks.specs.SlotPages.{counted_at}
-use Rattle.held_blocks.proofs.PageLemmas.{number_set, paged_within, read_page}
+use Rattle.std.proofs.Common.{◌/◌, arith, Some}
+use Rattle.held_blocks.proofs.PageLemmas.{one_less, paged_within, read_page}
 use Rattle.held_blocks.proofs.slot_pages.SlotPages.leave.Goals as goal
 
-pub returns-then-blocks-eq0-clause-numbers : goal.returns-then-blocks-eq0-clause-numbers
-returns-then-blocks-eq0-clause-numbers c f =
+pub returns-clause-numbers : goal.returns-clause-numbers
+returns-clause-numbers c f =
+    let pages = c.args.self.now.pages.items in
     let frame = c.args.frame in
-    let table = c.args.self.now in
-    let page = c.in-Some.page in
-    let within = paged_within table.pages.items (frame / 512) c.requires in
-    let was : counted_at table frame ≡ page.blocks =
-    read_page table.pages.items (frame / 512) c.index_mut.result.now page within c.index_mut.ensures.value c.in-Some.is in
-    let kept = c.let_go.ensures.numbers f in
-    elim (number_set table.pages.items frame f c.leave-blocks.new.self within) [
-      | inl w ↦ omega (arith, kept, w.1, w.2, c.leave-blocks.ensures.blocks, was, c.requires, ap (λ n. blocks_in (page_in table.pages.items n)) w.0)
-      | inr w ↦ omega (arith, kept, w.0, w.1)
-    ]
-
-pub returns-else-blocks-eq0-clause-numbers : goal.returns-else-blocks-eq0-clause-numbers
-returns-else-blocks-eq0-clause-numbers c f =
-    let frame = c.args.frame in
-    let table = c.args.self.now in
-    let page = c.in-Some.page in
-    let within = paged_within table.pages.items (frame / 512) c.requires in
-    let was : counted_at table frame ≡ page.blocks =
-    read_page table.pages.items (frame / 512) c.index_mut.result.now page within c.index_mut.ensures.value c.in-Some.is in
-    elim (number_set table.pages.items frame f c.leave-blocks.new.self within) [
-      | inl w ↦ omega (arith, w.1, w.2, c.leave-blocks.ensures.blocks, was, c.requires, ap (λ n. blocks_in (page_in table.pages.items n)) w.0)
-      | inr w ↦ omega (arith, w.0, w.1)
-    ]
+    let within = paged_within pages (frame / 512) c.requires in
+    let was = read_page pages (frame / 512) c.index_mut.result.now c.in-Some-index_mut.page within c.index_mut.ensures.value c.in-Some-index_mut.is in
+    one_less pages frame f (Some c.leave.new.self) within (omega (arith, was, c.leave.ensures.blocks))
