@@ -1,6 +1,6 @@
 -- Answers that would be wrong: blocks past the end, images in which what is kept is free or lost, halves
 -- that are none, and counts of more than there is.
-use Rattle.std.specs.Prelude.{◌≡◌, ◌≢◌, ℕ, pos, ◌+◌, ◌*◌, ◌^◌, ◌+ℤ◌, ◌-ℤ◌, ◌<◌, ◌≤◌, List, Contains}
+use Rattle.std.specs.Prelude.{◌≡◌, ◌≢◌, ℕ, pos, ◌+◌, ◌*◌, ◌^◌, ◌+ℤ◌, ◌-ℤ◌, ◌<◌, ◌≤◌, List, Some, Contains}
 use Rattle.frame_words.specs.Geometry.{child_frames}
 use Rattle.frame_model.specs.declared.block.FrameBlock.{FrameBlock}
 use Rattle.frame_model.specs.declared.key.Key.{Key}
@@ -21,7 +21,7 @@ use Rattle.frame_table.specs.declared.seats.CoreSeat.{CoreSeat}
 use Rattle.core_frames.specs.declared.shared.allocator.Allocator.{Allocator}
 use Rattle.core_frames.specs.declared.shared.allocator.Core.{Core}
 use Rattle.core_frames.specs.declared.free_counts.FreeCounts.{FreeCounts}
-use Rattle.core_frames.specs.Cores.{memory_of, seat_of, lent_by, IsOutOf}
+use Rattle.core_frames.specs.Cores.{memory_of, seat_of, lent_by, known_by, StepsAlone, IsOutOf}
 use Rattle.core_frames.specs.FreeCounts.{frames_read, huge_read, AreCountsOf}
 use Rattle.core_frames.specs.Joins.{AreBuddies}
 use Rattle.core_frames.specs.Uses.{HasTaken, HasSplit, HasJoined, LendsAsMany}
