@@ -73,8 +73,8 @@ enum llfree_status LLFREE_STATUS_TYPE {
     LLFREE_BAD_GEOMETRY = 6,  /* not 1 to 2147483648 frames (for one thread 1 to 2097152), not 1 to 64 cores,
                                  or not a lawful list of zones */
     LLFREE_OPEN_HANDLE = 7,   /* the handle is open already, or the struct holds a block */
-    LLFREE_CONTENDED = 8,     /* lost a race with other cores; or (never seen) the library's list had no
-                                 place for the block; retry */
+    LLFREE_CONTENDED = 8,     /* lost a race with other cores; or (tested: never seen) the library's list
+                                 had no place for the block; retry */
     LLFREE_BAD_RANGE = 9,     /* more than 1024 ranges; or one is empty, begins before the end of the one
                                  before it, or has a frame in a hole or past the end; or no such zone */
     LLFREE_NO_ROOM = 10,      /* the buffer is too small for the image */
@@ -196,8 +196,8 @@ enum llfree_status llfree_reopen_zones(llfree_core *handles, size_t cores, const
  * held. A take never locks or waits.
  *  - NO_BLOCK: after at least one step in each zone for each of its trees (4096 frames), and without losing an
  *    exchange to another core.
- *  - CONTENDED: after as many steps, and an exchange was lost. Or (never seen with cores of llfree_open) the
- *    library's list had no place for the block, which is free again.
+ *  - CONTENDED: after as many steps, and an exchange was lost. Or (tested: never seen) the library's list had
+ *    no place for the block, which is free again.
  *  - BAD_ORDER, CLOSED_HANDLE.
  *
  * Neither NO_BLOCK nor CONTENDED says that no block of the order is free. While a core searches a tree, it has
@@ -228,7 +228,7 @@ enum llfree_status llfree_give(llfree_core *handle, uint32_t frame, uint8_t orde
 /* Splits exactly this block into its halves, whichever core took it. From then on each half is given or split
  * by itself: (frame, order - 1) and (frame + 2^(order - 1), order - 1). A split never locks or waits.
  *  - NOT_HELD (as for a give), CLOSED_HANDLE, BAD_ORDER (order 0, held or not): nothing changes.
- *  - CONTENDED: the library's list had no place for a half, which is free again (never seen). */
+ *  - CONTENDED: the library's list had no place for a half, which is free again (tested: never seen). */
 LLFREE_NODISCARD
 enum llfree_status llfree_split(llfree_core *handle, uint32_t frame, uint8_t order);
 
