@@ -196,8 +196,8 @@ enum llfree_status llfree_reopen_zones(llfree_core *handles, size_t cores, const
  * held. A take never locks or waits.
  *  - NO_BLOCK: after at least one step in each zone for each of its trees (4096 frames), and without losing an
  *    exchange to another core.
- *  - CONTENDED: after as many steps, and an exchange was lost. Or (tested: never seen) the library's list had
- *    no place for the block, which is free again.
+ *  - CONTENDED: after as many steps, and an exchange was lost. Or the library's list had no place for the
+ *    block, which is free again (with cores of llfree_open tested: never seen).
  *  - BAD_ORDER, CLOSED_HANDLE.
  *
  * Neither NO_BLOCK nor CONTENDED says that no block of the order is free. While a core searches a tree, it has
