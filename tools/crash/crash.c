@@ -192,21 +192,6 @@ static size_t claim_lost(uint64_t *const *words, llfree_claim *claims, size_t co
     return count;
 }
 
-/* One run of frames from 0 on is opened as such. */
-static uint32_t open_fresh(void)
-{
-    if (m.zones == 1 && m.range[0].first == 0)
-        return llfree_open(handles, CORES, m.frames, NULL, 0);
-    return llfree_open_zones(handles, CORES, m.range, m.zones, NULL, 0);
-}
-
-static uint32_t open_again(const uint64_t *numbers, const llfree_claim *claims, size_t count)
-{
-    if (m.zones == 1 && m.range[0].first == 0)
-        return llfree_reopen(handles, CORES, m.frames, numbers, m.numbers, claims, count);
-    return llfree_reopen_zones(handles, CORES, m.range, m.zones, numbers, m.numbers, claims, count);
-}
-
 static void check_recovered(uint64_t *const *words, uint64_t *numbers, const uint64_t *expected)
 {
     const char *wrong = wrong_at_rest(&m, words);
@@ -254,7 +239,7 @@ static size_t recover(llfree_claim *claims)
     }
     head->phase = OPENING;
     keep_words_in(&m, file + region_at[next]);
-    uint32_t status = old ? open_again(numbers, claims, claimed) : open_fresh();
+    uint32_t status = old ? open_again(&m, handles, numbers, claims, claimed) : open_fresh(&m, handles);
     if (status != LLFREE_OK)
         fail("an opening was refused", 0, status);
     if (!kept_words(words))

@@ -71,6 +71,29 @@ size_t place_of(const memory *m, uint32_t frame, uint8_t order)
     return m->places;
 }
 
+bool is_one_run(const memory *m)
+{
+    for (uint32_t z = 0; z < m->zones; z++)
+        if (m->range[z].first != z * ZONE_FRAMES || (z + 1 < m->zones && m->range[z].frames != ZONE_FRAMES))
+            return false;
+    return true;
+}
+
+uint32_t open_fresh(const memory *m, llfree_core *handles)
+{
+    if (is_one_run(m))
+        return llfree_open(handles, m->cores, m->frames, NULL, 0);
+    return llfree_open_zones(handles, m->cores, m->range, m->zones, NULL, 0);
+}
+
+uint32_t open_again(const memory *m, llfree_core *handles, const uint64_t *numbers, const llfree_claim *claims,
+                    size_t count)
+{
+    if (is_one_run(m))
+        return llfree_reopen(handles, m->cores, m->frames, numbers, m->numbers, claims, count);
+    return llfree_reopen_zones(handles, m->cores, m->range, m->zones, numbers, m->numbers, claims, count);
+}
+
 uint32_t entry_at(const layout *l, const uint64_t *words, uint32_t child)
 {
     (void)l;

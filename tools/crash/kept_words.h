@@ -7,7 +7,15 @@
 #include <stddef.h>
 #include <stdint.h>
 
-enum { CHILD = 512, TREE_CHILDREN = 8, FLAG = 32768, HUGE_ORDER = 9, LINE = 64, MOST_ZONES = 1024 };
+enum {
+    CHILD = 512,
+    TREE_CHILDREN = 8,
+    FLAG = 32768,
+    HUGE_ORDER = 9,
+    LINE = 64,
+    MOST_ZONES = 1024,
+    ZONE_FRAMES = 2097152
+};
 
 /* Where each word of a zone stands (crates/frame_core/src/layout.rt). A word is a plain 64-bit number
  * of the processor, one behind the other: word i is at byte 8 * i. */
@@ -35,6 +43,12 @@ uint32_t frame_at(const memory *m, size_t place);
 
 /* The place of the first frame of a block that lies in one zone; past all places if it does not. */
 size_t place_of(const memory *m, uint32_t frame, uint8_t order);
+
+/* Are they those that llfree_open makes of so many frames? Such a memory is opened by that. */
+bool is_one_run(const memory *m);
+uint32_t open_fresh(const memory *m, llfree_core *handles);
+uint32_t open_again(const memory *m, llfree_core *handles, const uint64_t *numbers, const llfree_claim *claims,
+                    size_t count);
 
 /* Readers of words of a zone as they stand. Frames and children count from its first one. */
 uint32_t entry_at(const layout *l, const uint64_t *words, uint32_t child); /* free | FLAG */

@@ -173,10 +173,7 @@ static void child(uint32_t calls, uint64_t random)
 
     held = calloc(m.frames + 1ull, sizeof *held);
     keep_words_in(&m, region);
-    uint32_t status = m.zones == 1 && m.range[0].first == 0
-                          ? llfree_open(handles, CORES, m.frames, NULL, 0)
-                          : llfree_open_zones(handles, CORES, m.range, m.zones, NULL, 0);
-    if (status != LLFREE_OK || !kept_words(words))
+    if (open_fresh(&m, handles) != LLFREE_OK || !kept_words(words))
         exit(2);
     for (uint32_t z = 0; z < m.zones; z++)
         shared->words_at[z] = (unsigned char *)words[z] - region;
@@ -204,13 +201,6 @@ static uint32_t may_be_back(void)
     uint32_t most = shared->doing == DRAINING ? MOST_RESTING : shared->doing == GIVING ? BACK : 0;
 
     return shared->resting < most ? shared->resting : most;
-}
-
-static uint32_t open_again(llfree_core *cores, const uint64_t *numbers, const llfree_claim *claims, size_t claimed)
-{
-    if (m.zones == 1 && m.range[0].first == 0)
-        return llfree_reopen(cores, CORES, m.frames, numbers, m.numbers, claims, claimed);
-    return llfree_reopen_zones(cores, CORES, m.range, m.zones, numbers, m.numbers, claims, claimed);
 }
 
 static void compare_held(uint64_t *const *before, uint64_t *const *now)
@@ -254,7 +244,7 @@ static uint32_t check(uint64_t *const *words, llfree_claim *claims, uint64_t *nu
         fail("less is lost than rests", lost, shared->resting);
     image_of_words(&m, words, numbers);
     keep_words_in(&m, region + region_bytes(&m));
-    uint32_t status = open_again(cores, numbers, claims, claimed);
+    uint32_t status = open_again(&m, cores, numbers, claims, claimed);
     if (status != LLFREE_OK)
         fail("the opening was refused", status, 0);
     bool found = kept_words(now);
