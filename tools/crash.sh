@@ -2,10 +2,10 @@
 # Kills programs that use the library for C, and looks at what is left (tools/crash/crash.c, steps.c, sweep.c): the
 # words of the allocator, a journal and the pages of its frames lie in files that outlive the process.
 #     tools/crash.sh [KILLS]
-# kills so many times in each way to recover (150), and as often where single frames rest with their cores, and over
-# zones with holes; 20 times over more than 8 GiB; stops behind each instruction of 300 calls, and of 600 with frames
-# that rest, in one zone and in three; and has to find eight wrong programs. It needs a C compiler and python3, and
-# builds the library where it has to. The last line counts.
+# kills so many times in each way to recover (150), and as often where blocks are in structs and single frames rest, and
+# over zones with holes; 20 times over more than 8 GiB; stops behind each instruction of 300 calls, and of 600 with
+# frames that rest, in one zone and in three; and has to find eight wrong programs. It needs a C compiler and python3,
+# and builds the library where it has to. The last line counts.
 set -u
 unset CDPATH MAKEFLAGS MFLAGS
 root=$(cd "$(dirname "$0")/.." && pwd)
@@ -98,7 +98,7 @@ wrong 'a journal that is cleared after the give' crash.c \
     '    uint32_t status = give(t, &b);
     journal[b.place] = 0;' crash $many
 wrong 'a journal that keeps what rests' crash.c '    journal[b.place] = 0;' \
-    '    if (!b.single.live)
+    '    if (!b.right.live || b.order > 0)
         journal[b.place] = 0;' crash $many resting
 wrong 'one region for old words and new ones' crash.c 'head->current == 1 ? 2 : 1' '1' crash $many
 wrong 'a region that counts before the opening has answered' crash.c '    head->phase = OPENING;' \

@@ -2,8 +2,8 @@
  * and the pages of its frames lie in files that it maps shared. Its parent kills it at random moments, also
  * while it recovers, checks what is left, and starts it again:
  *     crash FILES KILLS [hold|reclaim|journal|claim] [frames or zones] [bytes a page] [seed] [resting]
- * Zones are such as 0+6000,8192+512, by first frame and frames. With the last word single frames that are taken
- * rest with their core when they are given.
+ * Zones are such as 0+6000,8192+512, by first frame and frames. With the last word blocks are taken into structs,
+ * and single frames rest with their core when they are given.
  *
  * The journal says what the worker knows that it holds: it is written after a take is answered and the pages
  * are written, and removed before a give is asked for. */
@@ -147,7 +147,7 @@ struct held {
     uint8_t order;
     size_t place;
     uint64_t serial;
-    llfree_block single; /* the right to it, if it is a frame that may rest */
+    llfree_block right; /* to it, if it was not taken by number */
 };
 
 static struct thread {
@@ -278,10 +278,10 @@ static uint32_t take(struct thread *t, uint8_t order, struct held *b)
 {
     llfree_core *core = &cores[t->number].core;
 
-    if (!head->rests || order > 0)
+    if (!head->rests)
         return llfree_take(core, order, &b->frame);
-    uint32_t status = llfree_take_frame(core, &b->single);
-    b->frame = b->single.frame;
+    uint32_t status = order > 0 ? llfree_take_block(core, order, &b->right) : llfree_take_frame(core, &b->right);
+    b->frame = b->right.frame;
     head->resting[LINE / 4 * t->number] = llfree_resting(core);
     return status;
 }
@@ -290,9 +290,9 @@ static uint32_t give(struct thread *t, struct held *b)
 {
     llfree_core *core = &cores[t->number].core;
 
-    if (!b->single.live)
+    if (!b->right.live)
         return llfree_give(core, b->frame, b->order);
-    uint32_t status = llfree_give_frame(core, &b->single);
+    uint32_t status = b->order > 0 ? llfree_give_block(core, &b->right) : llfree_give_frame(core, &b->right);
     head->resting[LINE / 4 * t->number] = llfree_resting(core);
     return status;
 }
@@ -340,16 +340,19 @@ static void give_one(struct thread *t, size_t i)
 
 static void split_one(struct thread *t, struct held *b)
 {
+    llfree_core *core = &cores[t->number].core;
     _Atomic uint32_t *doing = &head->doing[LINE / 4 * t->number];
+    uint32_t half = 1u << b->order >> 1;
+    struct held upper = { b->frame + half, b->order - 1, b->place + half, b->serial, LLFREE_EMPTY };
 
     *doing = SPLITTING;
-    uint32_t status = llfree_split(&cores[t->number].core, b->frame, b->order);
+    uint32_t status =
+        b->right.live ? llfree_split_block(core, &b->right, &upper.right) : llfree_split(core, b->frame, b->order);
     if (status != LLFREE_OK)
         fail("a split was refused", b->frame, status);
     *doing = SPLIT;
     b->order--;
-    t->frames -= 1u << b->order; /* the upper half is added below */
-    struct held upper = { b->frame + (1u << b->order), b->order, b->place + (1u << b->order), b->serial, LLFREE_EMPTY };
+    t->frames -= half; /* the upper half is added below */
     journal[upper.place] = entry_of(b->serial, b->order);
     journal[b->place] = entry_of(b->serial, b->order);
     *doing = NOTHING;

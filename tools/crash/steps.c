@@ -2,8 +2,8 @@
  * memory; its parent steps it instruction by instruction. Wherever words or journal differ from what they
  * were before, the parent opens an allocator at them as they stand, and checks it:
  *     steps CALLS [frames or zones] [seed] [resting]
- * Zones are such as 0+2000,4096+512, by first frame and frames. With the last word most takes are of single
- * frames, which rest with their core when they are given. */
+ * Zones are such as 0+2000,4096+512, by first frame and frames. With the last word blocks are taken into structs,
+ * most of them single frames, which rest with their core when they are given. */
 #include "journal.h"
 #include <signal.h>
 #include <stdio.h>
@@ -53,7 +53,7 @@ struct held {
     uint32_t frame;
     uint8_t order;
     size_t place;
-    llfree_block single; /* the right to it, if it is a frame that may rest */
+    llfree_block right; /* to it, if it was not taken by number */
 };
 
 static llfree_core handles[CORES];
@@ -70,19 +70,19 @@ static void count_resting(void)
 static uint32_t take(llfree_core *core, uint8_t order, struct held *to)
 {
     *to = (struct held){ .order = order };
-    if (!shared->rests || order > 0)
+    if (!shared->rests)
         return llfree_take(core, order, &to->frame);
-    uint32_t status = llfree_take_frame(core, &to->single);
-    to->frame = to->single.frame;
+    uint32_t status = order > 0 ? llfree_take_block(core, order, &to->right) : llfree_take_frame(core, &to->right);
+    to->frame = to->right.frame;
     count_resting();
     return status;
 }
 
 static uint32_t give(llfree_core *core, struct held *from)
 {
-    if (!from->single.live)
+    if (!from->right.live)
         return llfree_give(core, from->frame, from->order);
-    uint32_t status = llfree_give_frame(core, &from->single);
+    uint32_t status = from->order > 0 ? llfree_give_block(core, &from->right) : llfree_give_frame(core, &from->right);
     count_resting();
     return status;
 }
@@ -105,14 +105,17 @@ static uint32_t give_one(llfree_core *core, size_t at)
 
 static uint32_t split_one(llfree_core *core, struct held *lower)
 {
+    uint32_t half = 1u << lower->order >> 1;
+    struct held *upper = &held[count];
+
+    *upper = (struct held){ lower->frame + half, lower->order - 1, lower->place + half, LLFREE_EMPTY };
     shared->order = lower->order;
     shared->doing = SPLITTING;
-    uint32_t status = llfree_split(core, lower->frame, lower->order);
+    uint32_t status = lower->right.live ? llfree_split_block(core, &lower->right, &upper->right)
+                                        : llfree_split(core, lower->frame, lower->order);
     shared->doing = SPLIT;
     lower->order--;
-    uint32_t half = 1u << lower->order;
-    held[count] = (struct held){ lower->frame + half, lower->order, lower->place + half, LLFREE_EMPTY };
-    shared->journal[held[count].place] = entry_of(1, lower->order);
+    shared->journal[upper->place] = entry_of(1, lower->order);
     shared->journal[lower->place] = entry_of(1, lower->order);
     shared->doing = NOTHING;
     count++;
