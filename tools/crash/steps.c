@@ -1,8 +1,9 @@
 /* A stop behind each machine instruction. One thread takes, gives and splits through several cores of a small
  * memory; its parent steps it instruction by instruction. Wherever words or journal differ from what they
  * were before, the parent opens an allocator at them as they stand, and checks it:
- *     steps CALLS [frames] [seed] [resting]
- * With the last word most takes are of single frames, which rest with their core when they are given. */
+ *     steps CALLS [frames or zones] [seed] [resting]
+ * Zones are such as 0+2000,4096+512, by first frame and frames. With the last word blocks are taken into structs,
+ * most of them single frames, which rest with their core when they are given. */
 #include "journal.h"
 #include <signal.h>
 #include <stdio.h>
@@ -18,13 +19,13 @@ enum { CORES = 3, MOST_RESTING = 128, BACK = 64 /* where so many rest already */
 enum doing { NOTHING, TAKING, TAKEN, GIVING, SPLITTING, SPLIT, DRAINING, DOINGS };
 
 static struct shared {
-    _Atomic uint64_t words_at;
+    _Atomic uint64_t words_at[MOST_ZONES];
     _Atomic uint32_t doing, calls, done, order, refused;
     _Atomic uint32_t rests, resting; /* with all cores, after the last call */
     _Alignas(LINE) journal_entry journal[];
 } * shared;
 
-static layout l;
+static memory m;
 static unsigned char *region;
 
 static _Noreturn void fail(const char *what, uint32_t a, uint32_t b)
@@ -34,9 +35,9 @@ static _Noreturn void fail(const char *what, uint32_t a, uint32_t b)
     exit(1);
 }
 
-static bool anybody(uint32_t frame, uint8_t order, uint64_t serial)
+static bool anybody(size_t place, uint8_t order, uint64_t serial)
 {
-    (void)frame, (void)order, (void)serial;
+    (void)place, (void)order, (void)serial;
     return true;
 }
 
@@ -51,7 +52,8 @@ static uint64_t draw(uint64_t *state)
 struct held {
     uint32_t frame;
     uint8_t order;
-    llfree_block single; /* the right to it, if it is a frame that may rest */
+    size_t place;
+    llfree_block right; /* to it, if it was not taken by number */
 };
 
 static llfree_core handles[CORES];
@@ -68,100 +70,127 @@ static void count_resting(void)
 static uint32_t take(llfree_core *core, uint8_t order, struct held *to)
 {
     *to = (struct held){ .order = order };
-    if (!shared->rests || order > 0)
+    if (!shared->rests)
         return llfree_take(core, order, &to->frame);
-    uint32_t status = llfree_take_frame(core, &to->single);
-    to->frame = to->single.frame;
+    uint32_t status = order > 0 ? llfree_take_block(core, order, &to->right) : llfree_take_frame(core, &to->right);
+    to->frame = to->right.frame;
     count_resting();
     return status;
 }
 
 static uint32_t give(llfree_core *core, struct held *from)
 {
-    if (!from->single.live)
+    if (!from->right.live)
         return llfree_give(core, from->frame, from->order);
-    uint32_t status = llfree_give_frame(core, &from->single);
+    uint32_t status = from->order > 0 ? llfree_give_block(core, &from->right) : llfree_give_frame(core, &from->right);
     count_resting();
     return status;
 }
 
+/* What the child holds. */
+static struct held *held;
+static size_t count, held_now;
+
+static uint32_t give_one(llfree_core *core, size_t at)
+{
+    shared->order = held[at].order;
+    shared->doing = GIVING;
+    shared->journal[held[at].place] = 0;
+    uint32_t status = give(core, &held[at]);
+    shared->doing = NOTHING;
+    held_now -= 1u << held[at].order;
+    held[at] = held[--count];
+    return status;
+}
+
+static uint32_t split_one(llfree_core *core, struct held *lower)
+{
+    uint32_t half = 1u << lower->order >> 1;
+    struct held *upper = &held[count];
+
+    *upper = (struct held){ lower->frame + half, lower->order - 1, lower->place + half, LLFREE_EMPTY };
+    shared->order = lower->order;
+    shared->doing = SPLITTING;
+    uint32_t status = lower->right.live ? llfree_split_block(core, &lower->right, &upper->right)
+                                        : llfree_split(core, lower->frame, lower->order);
+    shared->doing = SPLIT;
+    lower->order--;
+    shared->journal[upper->place] = entry_of(1, lower->order);
+    shared->journal[lower->place] = entry_of(1, lower->order);
+    shared->doing = NOTHING;
+    count++;
+    return status;
+}
+
+static void take_one(llfree_core *core, uint8_t order)
+{
+    shared->order = order;
+    shared->doing = TAKING;
+    if (take(core, order, &held[count]) == LLFREE_OK) {
+        shared->doing = TAKEN;
+        held[count].place = place_of(&m, held[count].frame, order);
+        shared->journal[held[count++].place] = entry_of(1, order);
+        held_now += 1u << order;
+    } else
+        shared->refused++;
+    shared->doing = NOTHING;
+}
+
+static void call(uint32_t i, uint64_t r)
+{
+    llfree_core *core = &handles[r / 7 % CORES];
+    bool full = held_now > m.frames / 10 * (1 + i / 100 % 10);
+    uint32_t gives = full ? 75 : 25, status = LLFREE_OK;
+    size_t at = count ? r / 1024 % count : 0;
+
+    if (shared->rests) {
+        /* most with one core, which by turns takes and gives */
+        core = &handles[r / 7 % 16 ? 0 : r / 112 % CORES];
+        full = i / 256 % 2;
+        gives = full ? 95 : 5;
+    }
+    if (m.zones > 1 && (r >> 56) % 16 == 0)
+        status = llfree_set_home(core, (r >> 52) % m.zones);
+    if (status != LLFREE_OK)
+        exit(4);
+    if (shared->rests && !full && (r >> 48) % 32 == 0) {
+        shared->doing = DRAINING;
+        llfree_drain(core);
+        count_resting();
+        shared->doing = NOTHING;
+        return;
+    }
+    if (count > 0 && r % 100 < gives)
+        status = give_one(core, at);
+    else if (count > 0 && held[at].order > 0 && r % 100 < (full ? 100 : 45))
+        status = split_one(core, &held[at]);
+    else
+        take_one(core, shared->rests && r >> 40 & 15 ? 0 : r / 1048576 % 10);
+    if (status != LLFREE_OK)
+        exit(4);
+}
+
 static void child(uint32_t calls, uint64_t random)
 {
-    struct held *held = calloc(l.frames + 1, sizeof *held);
-    size_t count = 0, held_now = 0;
+    static uint64_t *words[MOST_ZONES];
 
-    keep_words_in(&l, region);
-    if (llfree_open(handles, CORES, l.frames, NULL, 0) != LLFREE_OK)
+    held = calloc(m.frames + 1ull, sizeof *held);
+    keep_words_in(&m, region);
+    if (open_fresh(&m, handles) != LLFREE_OK || !kept_words(words))
         exit(2);
-    uint64_t *words = kept_words();
-    if (!words)
-        exit(2);
-    shared->words_at = (unsigned char *)words - region;
+    for (uint32_t z = 0; z < m.zones; z++)
+        shared->words_at[z] = (unsigned char *)words[z] - region;
     ptrace(PTRACE_TRACEME, 0, NULL, NULL);
     raise(SIGSTOP);
     for (uint32_t i = 0; i < calls; i++) {
-        uint64_t r = draw(&random);
-        llfree_core *core = &handles[r / 7 % CORES];
-        bool full = held_now > l.frames / 10 * (1 + i / 100 % 10);
-        uint32_t gives = full ? 75 : 25;
-        uint32_t status;
-        size_t at = count ? r / 1024 % count : 0;
-
         shared->calls = i;
-        if (shared->rests) {
-            /* most with one core, which by turns takes and gives */
-            core = &handles[r / 7 % 16 ? 0 : r / 112 % CORES];
-            full = i / 256 % 2;
-            gives = full ? 95 : 5;
-        }
-        if (shared->rests && !full && (r >> 48) % 32 == 0) {
-            shared->doing = DRAINING;
-            llfree_drain(core);
-            count_resting();
-            shared->doing = NOTHING;
-            continue;
-        }
-        if (count > 0 && r % 100 < gives) {
-            shared->order = held[at].order;
-            shared->doing = GIVING;
-            shared->journal[held[at].frame] = 0;
-            status = give(core, &held[at]);
-            shared->doing = NOTHING;
-            held_now -= 1u << held[at].order;
-            held[at] = held[--count];
-        } else if (count > 0 && held[at].order > 0 && r % 100 < (full ? 100 : 45)) {
-            shared->order = held[at].order;
-            shared->doing = SPLITTING;
-            status = llfree_split(core, held[at].frame, held[at].order);
-            shared->doing = SPLIT;
-            held[at].order--;
-            held[count] = (struct held){ held[at].frame + (1u << held[at].order), held[at].order, LLFREE_EMPTY };
-            shared->journal[held[count].frame] = entry_of(1, held[at].order);
-            shared->journal[held[at].frame] = entry_of(1, held[at].order);
-            shared->doing = NOTHING;
-            count++;
-        } else {
-            shared->order = shared->rests && r >> 40 & 15 ? 0 : r / 1048576 % 10;
-            shared->doing = TAKING;
-            status = take(core, shared->order, &held[count]);
-            if (status == LLFREE_OK) {
-                shared->doing = TAKEN;
-                shared->journal[held[count++].frame] = entry_of(1, shared->order);
-                held_now += 1u << shared->order;
-            } else {
-                shared->refused++;
-                status = LLFREE_OK;
-            }
-            shared->doing = NOTHING;
-        }
-        if (status != LLFREE_OK)
-            exit(4);
+        call(i, draw(&random));
     }
     shared->done = 1;
     _exit(0);
 }
 
-static uint32_t most_lost, most_resting, times_back;
+static uint32_t most_lost, most_resting, times_back, zones_used;
 static struct seen seen;
 
 /* How many frames a stop here may lose beside what rests, and how many of these a call may have given back. */
@@ -177,40 +206,59 @@ static uint32_t may_be_back(void)
     return shared->resting < most ? shared->resting : most;
 }
 
+static void compare_held(uint64_t *const *before, uint64_t *const *now)
+{
+    for (uint32_t z = 0; z < m.zones; z++)
+        for (uint32_t x = 0; x < CHILD * m.zone[z].children; x++)
+            if (is_held(&m.zone[z], before[z], x) != is_held(&m.zone[z], now[z], x))
+                fail("a frame is held that was not, or is not that was", m.range[z].first + x, z);
+}
+
+static void note_zones(const llfree_claim *claims, size_t claimed)
+{
+    static bool was_used[MOST_ZONES];
+
+    for (size_t i = 0; i < claimed && zones_used < m.zones; i++)
+        for (uint32_t z = 0; z < m.zones; z++)
+            if (!was_used[z] && claims[i].frame - m.range[z].first < m.range[z].frames) {
+                was_used[z] = true;
+                zones_used++;
+            }
+}
+
 /* What the child would have left, had it been killed here. */
-static uint32_t check(const uint64_t *words, llfree_claim *claims, uint64_t *numbers)
+static uint32_t check(uint64_t *const *words, llfree_claim *claims, uint64_t *numbers)
 {
     static llfree_core cores[CORES];
-    size_t many = llfree_image_words(l.frames);
-    const char *wrong = wrong_at_a_stop(&l, words);
+    static uint64_t *now[MOST_ZONES];
+    const char *wrong = wrong_at_a_stop(&m, words);
     uint32_t where = 0;
 
     if (wrong)
         fail(wrong, 0, 0);
-    size_t count = claims_in(&l, words, shared->journal, false, anybody, claims, &seen, &wrong, &where);
+    size_t claimed = claims_in(&m, words, shared->journal, false, anybody, claims, &seen, &wrong, &where);
     if (wrong)
         fail(wrong, where, 0);
-    uint32_t lost = held_frames(&l, words) - frames_of(claims, count);
+    note_zones(claims, claimed);
+    uint32_t lost = held_frames(&m, words) - frames_of(claims, claimed);
     if (lost > shared->resting + may_lose())
         fail("one core lost too much", lost, shared->resting);
     if (lost < shared->resting - may_be_back())
         fail("less is lost than rests", lost, shared->resting);
-    image_of_words(&l, words, numbers);
-    keep_words_in(&l, region + region_bytes(&l));
-    uint32_t status = llfree_reopen(cores, CORES, l.frames, numbers, many, claims, count);
+    image_of_words(&m, words, numbers);
+    keep_words_in(&m, region + region_bytes(&m));
+    uint32_t status = open_again(&m, cores, numbers, claims, claimed);
     if (status != LLFREE_OK)
         fail("the opening was refused", status, 0);
-    uint64_t *now = kept_words();
-    if (!now || (wrong = wrong_at_rest(&l, now)))
-        fail(now ? wrong : "no words", 1, 0);
-    for (uint32_t x = 0; x < CHILD * l.children; x++)
-        if (is_held(&l, words, x) != is_held(&l, now, x))
-            fail("a frame is held that was not, or is not that was", x, 0);
-    for (size_t i = 0; i < count; i++)
+    bool found = kept_words(now);
+    if (!found || (wrong = wrong_at_rest(&m, now)))
+        fail(found ? wrong : "no words", 1, 0);
+    compare_held(words, now);
+    for (size_t i = 0; i < claimed; i++)
         if (llfree_give(&cores[i % CORES], claims[i].frame, claims[i].order) != LLFREE_OK)
             fail("a known block is not given", claims[i].frame, claims[i].order);
-    if (held_frames(&l, now) != lost || (wrong = wrong_at_rest(&l, now)))
-        fail("what is left is not what was lost", held_frames(&l, now), lost);
+    if (held_frames(&m, now) != lost || (wrong = wrong_at_rest(&m, now)))
+        fail("what is left is not what was lost", held_frames(&m, now), lost);
     for (int k = 0; k < CORES; k++)
         llfree_close(&cores[k]);
     if (lost > most_lost)
@@ -220,66 +268,78 @@ static uint32_t check(const uint64_t *words, llfree_claim *claims, uint64_t *num
     return lost;
 }
 
-int main(int argc, char **argv)
+static uint64_t steps[DOINGS], states[DOINGS], losing[DOINGS];
+
+/* Steps the child to its end. Returns how it ended. */
+static int step_through(pid_t pid)
 {
-    if (argc < 2) {
-        fputs("steps CALLS [frames] [seed] [resting]\n", stderr);
-        return 2;
-    }
-    uint32_t calls = atoi(argv[1]), frames = argc > 2 ? atoi(argv[2]) : 4000;
-    uint64_t seed = argc > 3 ? strtoull(argv[3], NULL, 10) : 1;
-    l = layout_of(frames, CORES);
-    size_t head = (sizeof *shared + 8 * (size_t)frames + 63) / 64 * 64, bytes = head + 2 * region_bytes(&l);
-    shared = mmap(NULL, bytes, PROT_READ | PROT_WRITE, MAP_SHARED | MAP_ANONYMOUS, -1, 0);
-    region = (unsigned char *)shared + head;
-    shared->rests = argc > 4 && strcmp(argv[4], "resting") == 0;
-    llfree_claim *claims = malloc(sizeof *claims * (frames + 1));
-    uint64_t *numbers = malloc(8 * llfree_image_words(frames)), *before = calloc(l.count, 8);
-    uint64_t *journal_before = calloc(frames, 8);
-    uint64_t steps[DOINGS] = { 0 }, states[DOINGS] = { 0 }, losing[DOINGS] = { 0 };
+    static uint64_t *words[MOST_ZONES];
+    llfree_claim *claims = malloc(sizeof *claims * (m.frames + 1ull));
+    uint64_t *numbers = malloc(8 * m.numbers);
+    size_t bytes = region_bytes(&m), entries = 8 * m.places;
+    unsigned char *before = calloc(bytes, 1), *journal_before = calloc(entries, 1);
     uint32_t resting_before = 0;
     int status;
 
-    pid_t pid = fork();
-    if (pid == 0)
-        child(calls, seed * 0x9e3779b97f4a7c15ull | 1);
     waitpid(pid, &status, 0);
-    const uint64_t *words = (const uint64_t *)(region + shared->words_at);
-    for (;;) {
-        if (ptrace(PTRACE_SINGLESTEP, pid, NULL, NULL) != 0)
-            break;
+    for (uint32_t z = 0; z < m.zones; z++)
+        words[z] = (uint64_t *)(region + shared->words_at[z]);
+    while (ptrace(PTRACE_SINGLESTEP, pid, NULL, NULL) == 0) {
         waitpid(pid, &status, 0);
         if (!WIFSTOPPED(status))
             break;
         uint32_t doing = shared->doing;
         steps[doing]++;
-        if (memcmp(before, words, 8 * l.count) == 0 &&
-            memcmp(journal_before, (void *)shared->journal, 8 * frames) == 0 && shared->resting == resting_before)
+        if (memcmp(before, region, bytes) == 0 && memcmp(journal_before, (void *)shared->journal, entries) == 0 &&
+            shared->resting == resting_before)
             continue;
         times_back += doing == GIVING && resting_before - shared->resting == BACK - 1;
         resting_before = shared->resting;
-        memcpy(before, words, 8 * l.count);
-        memcpy(journal_before, (void *)shared->journal, 8 * frames);
+        memcpy(before, region, bytes);
+        memcpy(journal_before, (void *)shared->journal, entries);
         uint32_t lost = check(words, claims, numbers);
         states[doing]++;
         losing[doing] += lost > 0;
     }
+    return status;
+}
+
+int main(int argc, char **argv)
+{
+    static const char *const names[] = { "between calls", "in a take",  "taken, not in the journal",
+                                         "in a give",     "in a split", "split, not in the journal",
+                                         "in a drain" };
+    if (argc < 2 || !memory_in(&m, argc > 2 ? argv[2] : "4000", CORES)) {
+        fputs("steps CALLS [frames or zones] [seed] [resting]\n", stderr);
+        return 2;
+    }
+    uint32_t calls = atoi(argv[1]);
+    uint64_t seed = argc > 3 ? strtoull(argv[3], NULL, 10) : 1;
+    size_t head = (sizeof *shared + 8 * m.places + LINE - 1) / LINE * LINE, bytes = head + 2 * region_bytes(&m);
+    shared = mmap(NULL, bytes, PROT_READ | PROT_WRITE, MAP_SHARED | MAP_ANONYMOUS, -1, 0);
+    region = (unsigned char *)shared + head;
+    shared->rests = argc > 4 && strcmp(argv[4], "resting") == 0;
+
+    pid_t pid = fork();
+    if (pid == 0)
+        child(calls, seed * 0x9e3779b97f4a7c15ull | 1);
+    int status = step_through(pid);
     if (!WIFEXITED(status) || WEXITSTATUS(status) != 0 || !shared->done) {
         fprintf(stderr, "the child ended with %x\n", status);
         return 1;
     }
     if (shared->rests && times_back == 0)
         fail("too little came to rest", most_resting, 0);
-    static const char *const names[] = { "between calls", "in a take",  "taken, not in the journal",
-                                         "in a give",     "in a split", "split, not in the journal",
-                                         "in a drain" };
-    printf("%u frames, %u cores, one thread, %u calls (%u refused takes)\n", frames, CORES, calls, shared->refused);
+    printf("%u frames in %u zones, %u cores, one thread, %u calls (%u refused takes)\n", m.frames, m.zones, CORES,
+           calls, shared->refused);
     for (int d = 0; d < DOINGS; d++)
         printf("  %-28s %9llu instructions, %6llu states opened, %6llu with lost frames\n", names[d],
                (unsigned long long)steps[d], (unsigned long long)states[d], (unsigned long long)losing[d]);
     printf("  at most %u frames lost at one stop (bound 512 and what rests); found: a huge split under way %u, "
-           "ended %u, halves %u\n",
-           most_lost, seen.filled, seen.split, seen.halves);
+           "ended %u, halves %u; known blocks in %u zones\n",
+           most_lost, seen.filled, seen.split, seen.halves, zones_used);
+    if (zones_used < m.zones)
+        fail("a zone was never used", zones_used, 0);
     if (shared->rests)
         printf("  at most %u frames rested; %u times %u of a core went back at a give\n", most_resting, times_back,
                BACK);
