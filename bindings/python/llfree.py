@@ -71,7 +71,8 @@ for _name, _answer, *_arguments in (
         ('open_zones', _u32, _to(Handle), _size, _to(Range), _size, _to(Range), _size),
         ('reopen', _u32, _to(Handle), _size, _u32, _to(_u64), _size, _to(Claim), _size),
         ('take', _u32, _to(Handle), _u8, _to(_u32)), ('give', _u32, _to(Handle), _u32, _u8),
-        ('split', _u32, _to(Handle), _u32, _u8), ('take_frame', _u32, _to(Handle), _to(Block)),
+        ('split', _u32, _to(Handle), _u32, _u8), ('split_to', _u32, _to(Handle), _u32, _u8, _u8),
+        ('take_frame', _u32, _to(Handle), _to(Block)),
         ('give_frame', _u32, _to(Handle), _to(Block)),
         ('take_frames', _u32, _to(Handle), _to(Block), _size, _to(_size)),
         ('give_frames', _u32, _to(Handle), _to(Block), _size), ('drain', None, _to(Handle)), ('resting', _u32, _to(Handle)),
@@ -134,6 +135,11 @@ class Core:
     def split(self, frame, order):
         """From then on each half is given by itself."""
         _checked(self._call('split', _fits(frame, 32, Status.NOT_HELD), _fits(order, 8, Status.NOT_HELD)))
+
+    def split_to(self, frame, order, to):
+        """From then on each of its blocks of order to is given by itself."""
+        numbers = _fits(frame, 32, Status.NOT_HELD), _fits(order, 8, Status.BAD_ORDER), _fits(to, 8, Status.BAD_ORDER)
+        _checked(self._call('split_to', *numbers))
 
     def take_frame(self, tries=1):
         """A single frame, or Refused: the one that came to rest with this core last, if any. give_frame gives it."""

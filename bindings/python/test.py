@@ -43,6 +43,18 @@ class Calls(unittest.TestCase):
         second.give(frame, 2)
         self.assertEqual((second.frames(), second.free_frames(), second.free_huge()), (64 * MIB, 64 * MIB, 32))
 
+    def test_a_block_is_split_into_all_its_parts(self):
+        first, second = llfree.open(64 * MIB, cores=2)
+        huge = first.take(9)
+        for order, to in ((9, 10), (10, 3), (3, 4), (9, 256), (9, -1)):
+            self.refused(llfree.Status.BAD_ORDER, first.split_to, huge, order, to)
+        self.refused(llfree.Status.NOT_HELD, first.split_to, huge, 8, 3)
+        second.split_to(huge, 9, 3)
+        self.refused(llfree.Status.NOT_HELD, first.split_to, huge, 9, 3)
+        for frame in range(huge, huge + 512, 8):
+            second.give(frame, 3)
+        self.assertEqual(first.free_huge(), 32)
+
     def test_numbers_that_c_has_no_room_for(self):
         core, = llfree.open(1024)
         status = llfree.Status

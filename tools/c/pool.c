@@ -68,9 +68,12 @@ static void *work(void *number)
             orders[held++] = order;
             taken++;
         } else if (held > 0 && held < HELD && r & 2 && orders[held - 1] > 0) {
-            CHECK(llfree_pool_split(desks, DESKS, frames[held - 1], orders[held - 1]) == LLFREE_OK);
-            orders[held] = --orders[held - 1];
-            frames[held] = frames[held - 1] + (1u << orders[held]);
+            /* into halves, by both calls in turn */
+            uint8_t half = orders[held - 1] - 1;
+            CHECK((r & 64 ? llfree_pool_split(desks, DESKS, frames[held - 1], orders[held - 1]) :
+                            llfree_pool_split_to(desks, DESKS, frames[held - 1], orders[held - 1], half)) == LLFREE_OK);
+            orders[held] = orders[held - 1] = half;
+            frames[held] = frames[held - 1] + (1u << half);
             held++;
         } else if (held > 0) {
             held--;

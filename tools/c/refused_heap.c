@@ -238,6 +238,9 @@ static void no_calls(void)
         CHECK(llfree_split(&cores[1], frame, order) == LLFREE_OK);
         CHECK(llfree_give(&cores[2], frame, order) == LLFREE_NOT_HELD);
         CHECK(llfree_give(&cores[2], frame, order - 1) == LLFREE_OK);
+        CHECK(llfree_split_to(&cores[0], frame + (1u << (order - 1)), order - 1, 0) == LLFREE_OK);
+        for (uint32_t f = frame + (1u << (order - 1)); f < frame + (1u << order); f++)
+            CHECK(llfree_give(&cores[1], f, 0) == LLFREE_OK);
         CHECK(llfree_take_block(&cores[1], order, &block) == LLFREE_OK);
         CHECK(llfree_split_block(&cores[2], &block, &upper) == LLFREE_OK);
         CHECK(llfree_give_block(&cores[0], &block) == LLFREE_OK);

@@ -21,6 +21,7 @@ static void statuses(void)
     CHECK(llfree_take(&h[0], 0, &f) == LLFREE_CLOSED_HANDLE && f == 77);
     CHECK(llfree_give(&h[0], 0, 0) == LLFREE_CLOSED_HANDLE);
     CHECK(llfree_split(&h[0], 0, 1) == LLFREE_CLOSED_HANDLE);
+    CHECK(llfree_split_to(&h[0], 0, 1, 0) == LLFREE_CLOSED_HANDLE);
     llfree_close(&h[0]);
     CHECK(llfree_open(h, 0, 3 * 512, NULL, 0) == LLFREE_BAD_GEOMETRY);
     CHECK(llfree_open(many, 65, 3 * 512, NULL, 0) == LLFREE_BAD_GEOMETRY);
@@ -41,6 +42,17 @@ static void statuses(void)
     CHECK(llfree_give(&h[1], UINT32_MAX, 3) == LLFREE_NOT_HELD);
     CHECK(llfree_split(&h[1], f, 2) == LLFREE_NOT_HELD);
     CHECK(llfree_split(&h[1], f, 0) == LLFREE_BAD_ORDER);
+    for (int order = 0; order < 256; order++)
+        for (int to = 0; to < 256; to++) {
+            bool has_parts = order <= LARGEST && to <= order;
+            CHECK(order == 3 || llfree_split_to(&h[1], f, (uint8_t)order, (uint8_t)to) ==
+                                    (has_parts ? LLFREE_NOT_HELD : LLFREE_BAD_ORDER));
+            CHECK(llfree_split_to(&h[1], f + 8, (uint8_t)order, (uint8_t)to) ==
+                  (has_parts ? LLFREE_NOT_HELD : LLFREE_BAD_ORDER));
+        }
+    CHECK(llfree_split_to(&h[1], f, 3, 4) == LLFREE_BAD_ORDER);
+    CHECK(llfree_split_to(&h[1], f, 3, 3) == LLFREE_OK);
+    CHECK(llfree_split_to(&h[1], UINT32_MAX, 3, 0) == LLFREE_NOT_HELD);
     CHECK(llfree_take(&h[1], LARGEST, &g) == LLFREE_OK && g % 512 == 0);
     CHECK(llfree_give(&h[1], f, 3) == LLFREE_OK);
     CHECK(llfree_give(&h[0], f, 3) == LLFREE_NOT_HELD);
@@ -240,6 +252,41 @@ static void splits(void)
     llfree_close(&h[1]);
 }
 
+/* A block of each order is split into all its blocks of each order below: just these are held then, and any core gives
+ * each of them once, or splits it on. At the end all is free. */
+static void splits_to(void)
+{
+    llfree_core h[2] = { LLFREE_CLOSED, LLFREE_CLOSED };
+    uint32_t f = 0, g = 0;
+
+    CHECK(llfree_open(h, 2, 2 * 512, NULL, 0) == LLFREE_OK);
+    for (uint8_t order = 0; order <= LARGEST; order++)
+        for (uint8_t to = 0; to <= order; to++) {
+            CHECK(llfree_take(&h[0], order, &f) == LLFREE_OK);
+            CHECK(llfree_split_to(&h[1], f, order, to) == LLFREE_OK);
+            CHECK(llfree_free_frames(&h[0]) == 2 * 512 - (1u << order));
+            for (uint8_t of = 0; of <= LARGEST; of++)
+                if (of != to)
+                    for (g = f; g < f + (1u << order); g++)
+                        CHECK(llfree_give(&h[0], g, of) == LLFREE_NOT_HELD);
+            for (g = f; g < f + (1u << order); g++)
+                if ((g - f) % (1u << to) != 0)
+                    CHECK(llfree_give(&h[0], g, to) == LLFREE_NOT_HELD);
+            CHECK(llfree_split_to(&h[0], f, order, to) == (order == to ? LLFREE_OK : LLFREE_NOT_HELD));
+            for (g = f; g < f + (1u << order); g += 1u << to) {
+                uint8_t least = (uint8_t)(g / (1u << to) % (to + 1));
+                CHECK(llfree_split_to(&h[1], g, to, least) == LLFREE_OK);
+                for (uint32_t i = g; i < g + (1u << to); i += 1u << least) {
+                    CHECK(llfree_give(&h[i % 2], i, least) == LLFREE_OK);
+                    CHECK(llfree_give(&h[i % 2], i, least) == LLFREE_NOT_HELD);
+                }
+            }
+            CHECK(llfree_free_frames(&h[1]) == 2 * 512 && llfree_free_huge(&h[0]) == 2);
+        }
+    llfree_close(&h[0]);
+    llfree_close(&h[1]);
+}
+
 static void mark(uint32_t f, uint8_t order, unsigned char from)
 {
     CHECK(order <= LARGEST && f % (1u << order) == 0 && f + (1u << order) <= FRAMES);
@@ -343,7 +390,7 @@ static void threads(void)
 
 static _Atomic int given, split, arrived;
 static uint32_t target;
-static bool splitting;
+static int splitting, turn; /* not at all, into halves, or into single frames; by whom */
 
 static void *race(void *handle)
 {
@@ -351,10 +398,12 @@ static void *race(void *handle)
     atomic_fetch_add(&arrived, 1);
     while (atomic_load(&arrived) < CORES)
         ;
-    if (splitting && (llfree_core *)handle - cores < CORES / 2)
+    if (splitting == 0 || ((llfree_core *)handle - cores + turn) % 2)
+        atomic_fetch_add(&given, llfree_give(handle, target, 4) == LLFREE_OK);
+    else if (splitting == 1)
         atomic_fetch_add(&split, llfree_split(handle, target, 4) == LLFREE_OK);
     else
-        atomic_fetch_add(&given, llfree_give(handle, target, 4) == LLFREE_OK);
+        atomic_fetch_add(&split, llfree_split_to(handle, target, 4, 0) == LLFREE_OK);
     return NULL;
 }
 
@@ -362,19 +411,24 @@ static void *race(void *handle)
 static void races(void)
 {
     static uint64_t words[9 * CHILDREN];
+    int splits[3] = { 0, 0, 0 };
 
     for (int i = 0; i < RACES; i++) {
-        splitting = i % 2;
+        splitting = i % 3;
+        turn = i;
         given = split = arrived = 0;
         CHECK(llfree_take(&cores[i % CORES], 4, &target) == LLFREE_OK);
         on_threads(race);
         CHECK(given + split == 1);
-        if (split == 1) {
-            CHECK(llfree_give(&cores[0], target, 3) == LLFREE_OK);
-            CHECK(llfree_give(&cores[1], target + 8, 3) == LLFREE_OK);
-        }
-        CHECK(llfree_give(&cores[2], target, 4) == LLFREE_NOT_HELD);
+        splits[splitting] += split;
+        uint32_t size = splitting == 2 ? 1 : 8;
+        for (uint32_t f = target; split == 1 && f < target + 16; f += size)
+            CHECK(llfree_give(&cores[f / size % CORES], f, size == 1 ? 0 : 3) == LLFREE_OK);
+        for (uint32_t f = target; f < target + 16; f++)
+            for (uint8_t order = 0; order <= 4; order++)
+                CHECK(llfree_give(&cores[2], f, order) == LLFREE_NOT_HELD);
     }
+    CHECK(splits[0] == 0 && splits[1] > 0 && splits[2] > 0);
     for (int i = 1; i < CORES; i++)
         llfree_close(&cores[i]);
     CHECK(llfree_close_image(&cores[0], words, 9 * CHILDREN) == LLFREE_OK);
@@ -442,6 +496,7 @@ int main(void)
     every_frame_once();
     sizes();
     splits();
+    splits_to();
     random_numbers();
     threads();
     races();

@@ -212,12 +212,16 @@ static void holes(void)
         for (size_t k = 0; k < sizeof none / sizeof *none; k++) {
             CHECK(llfree_give(&h[i], none[k], 0) == LLFREE_NOT_HELD);
             CHECK(llfree_split(&h[i], none[k], 1) == LLFREE_NOT_HELD);
+            CHECK(llfree_split_to(&h[i], none[k], 1, 0) == LLFREE_NOT_HELD);
         }
         CHECK(llfree_give(&h[i], 8192 - f, LARGEST) == LLFREE_NOT_HELD);
         CHECK(llfree_give(&h[i], f, 8) == LLFREE_NOT_HELD);
     }
     CHECK(llfree_split(&h[1], f, LARGEST) == LLFREE_OK);
-    CHECK(llfree_give(&h[2], f + 256, 8) == LLFREE_OK && llfree_give(&h[0], f, 8) == LLFREE_OK);
+    CHECK(llfree_split_to(&h[2], f, 8, 6) == LLFREE_OK);
+    for (uint32_t part = 0; part < 4; part++)
+        CHECK(llfree_give(&h[part % 3], f + 64 * part, 6) == LLFREE_OK);
+    CHECK(llfree_give(&h[2], f + 256, 8) == LLFREE_OK);
     CHECK(llfree_free_frames(&h[1]) == 2203);
     close_all(h, 3);
 }

@@ -266,7 +266,44 @@ impl Core<Checked> {
         })?;
         Ok(hands_out(cores, claims, claimed))
     }
+
+    /// Splits a block into all its blocks of an order, its own at most, in one call. What is refused comes back.
+    pub fn split_to(&mut self, block: Block, order: u8) -> Result<Parts, (Refused, Block)> {
+        let block = self.own(block)?;
+        // SAFETY: a handle behind `&mut`; any number is safe.
+        match unsafe { sys::llfree_split_to(&mut self.handle, block.frame(), block.order(), order) } {
+            0 => Ok(Parts { frame: block.frame(), order, left: block.frames() >> order, memory: self.memory }),
+            status => Err(comes_back(status, block)),
+        }
+    }
 }
+
+/// What [`Core::split_to`] made of a block, in the order of their frames.
+#[derive(Debug)]
+#[must_use = "a block that is dropped stays held until its memory is closed"]
+pub struct Parts {
+    frame: u32,
+    order: u8,
+    left: u32,
+    memory: u64,
+}
+
+impl Iterator for Parts {
+    type Item = Block;
+
+    fn next(&mut self) -> Option<Block> {
+        self.left = self.left.checked_sub(1)?;
+        let claim = Claim { frame: self.frame, order: self.order };
+        self.frame += 1 << self.order;
+        Some(Block { right: Checked::right_of(claim), memory: self.memory })
+    }
+
+    fn size_hint(&self) -> (usize, Option<usize>) {
+        (self.left as usize, Some(self.left as usize))
+    }
+}
+
+impl ExactSizeIterator for Parts {}
 
 impl<F: Form> Core<F> {
     /// Closes the last core of a memory and writes its image, as many numbers as [`image_words`] says of its zones.

@@ -31,7 +31,7 @@ mod pool;
 mod refused;
 mod sys;
 
-pub use cores::{image_words, Block, Core};
+pub use cores::{image_words, Block, Core, Parts};
 pub use form::{Checked, Form, Unchecked};
 pub use pool::{Frames, Pool, Processor};
 pub use refused::Refused;

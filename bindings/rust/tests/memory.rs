@@ -181,6 +181,27 @@ fn what_is_refused() {
     refuses::<Unchecked>();
 }
 
+#[test]
+fn parts_of_a_block() {
+    let [mut a, mut b]: [Core; 2] = Core::open(1024, &[]).expect("a memory");
+    let [mut other]: [Core; 1] = Core::open(512, &[]).expect("another memory");
+    let huge = a.take(9).expect("half of it");
+    let first = huge.frame();
+    let (refused, huge) = other.split_to(huge, 3).expect_err("of another memory");
+    assert_eq!(refused, Refused::OtherMemory);
+    let (refused, huge) = b.split_to(huge, 10).expect_err("no such parts");
+    assert_eq!((refused, huge.order()), (Refused::BadOrder, 9));
+    let parts = b.split_to(huge, 3).map_err(|(refused, _)| refused).expect("parts");
+    assert_eq!((parts.len(), a.free_frames()), (64, 512));
+    for (i, part) in (0..).zip(parts) {
+        assert_eq!((part.frame(), part.order()), (first + 8 * i, 3));
+        let core = if i % 2 == 0 { &mut a } else { &mut b };
+        let frames = core.split_to(part, 0).map_err(|(refused, _)| refused).expect("frames");
+        frames.for_each(|frame| core.give(frame).expect("given"));
+    }
+    assert_eq!((a.free_frames(), b.free_huge()), (1024, 2));
+}
+
 fn rest(core: &mut Core<Unchecked>, block: Block<Unchecked>) {
     core.give_frame(block).map_err(|(refused, _)| refused).expect("a frame rests");
 }

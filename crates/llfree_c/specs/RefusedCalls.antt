@@ -1,6 +1,7 @@
 -- Why takes and splits of several threads were refused, by the status that each answered.
 use Rattle.std.specs.Prelude.{◌≡◌, ◌⊎◌, ℕ, ◌<◌, true, false}
 use Rattle.zone_slots.specs.Calls.{zones_of, LosesFor, IsContendedFor, CountsNone, CountsOne, KeepsCore}
+use Rattle.zone_slots.specs.Parts.{HasPartsOf}
 use Rattle.zone_slots.specs.Uses.{FindsNothingAnywhere}
 use Rattle.zone_slots.specs.declared.core_state.CoreState.{CoreState}
 use Rattle.llfree_c.specs.Status.{no_block, bad_order, not_held, not_closed, contended}
@@ -34,6 +35,14 @@ RefusesSplitAs order status s t =
     ((status ≡ bad_order) × (order ≡ 0) × KeepsCore s t × CountsNone s t)
     ⊎ ((status ≡ not_held) × (0 < order) × KeepsCore s t × CountsNone s t)
     ⊎ ((status ≡ contended) × (0 < order) × CountsOne s t)
+
+-- why a split of a block of the order into blocks of another one by numbers was refused: it has no such parts; or
+-- it is not held; or a part found no slot, which alone is counted
+abbrev pub RefusesSplitToAs : (order to status : ℕ) → CoreState → CoreState → Type 0
+RefusesSplitToAs order to status s t =
+    ((status ≡ bad_order) × (¬ HasPartsOf order to) × KeepsCore s t × CountsNone s t)
+    ⊎ ((status ≡ not_held) × HasPartsOf order to × KeepsCore s t × CountsNone s t)
+    ⊎ ((status ≡ contended) × HasPartsOf order to × CountsOne s t)
 
 -- why what a struct carries was not split into it and the other one: it has no halves; or none is carried; or
 -- the other one carries one

@@ -1,9 +1,9 @@
 //! The calls on a core, by numbers.
 
 ghost use Rattle.std.specs.Prelude.{◌≡◌, ◌≢◌, ◌⊎◌, ◌≤◌};
-ghost use Rattle.llfree_c.specs.RefusedCalls.{RefusesTakeAs, RefusesSplitAs};
+ghost use Rattle.llfree_c.specs.RefusedCalls.{RefusesTakeAs, RefusesSplitAs, RefusesSplitToAs};
 ghost use Rattle.llfree_c.specs.Status.{ok, bad_order, not_held, contended};
-ghost use Rattle.zone_slots.specs.Calls.{SharesOne, TakesFor, GivesFor, SplitsFor, KeepsCore};
+ghost use Rattle.zone_slots.specs.Calls.{SharesOne, TakesFor, GivesFor, SplitsFor, SplitsToFor, KeepsCore};
 
 use crate::statuses::{BAD_ORDER, CONTENDED, NO_BLOCK, NOT_HELD, OK};
 use frame_words::TakeFault;
@@ -48,7 +48,22 @@ pub(crate) fn split(state: &mut CoreState, frame: u32, order: u8) -> u32
 {
     match state.split(frame, order) {
         Ok(()) => OK,
-        Err(Refusal::NoHalves) => BAD_ORDER,
+        Err(Refusal::NoParts) => BAD_ORDER,
+        Err(Refusal::NotHeld) => NOT_HELD,
+        Err(Refusal::NoSlot) => CONTENDED,
+    }
+}
+
+pub(crate) fn split_to(state: &mut CoreState, frame: u32, order: u8, to: u8) -> u32
+    ensures shared { SharesOne state.old state.new }
+    ensures split { result ≡ ok → SplitsToFor order to frame state.old state.new }
+    ensures refused { result ≢ ok → RefusesSplitToAs order to result state.old state.new }
+    ensures known { (result ≡ ok) ⊎ (result ≡ bad_order) ⊎ (result ≡ not_held)
+        ⊎ (result ≡ contended) }
+{
+    match state.split_to(frame, order, to) {
+        Ok(()) => OK,
+        Err(Refusal::NoParts) => BAD_ORDER,
         Err(Refusal::NotHeld) => NOT_HELD,
         Err(Refusal::NoSlot) => CONTENDED,
     }

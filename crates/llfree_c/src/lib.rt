@@ -24,6 +24,7 @@ mod home_calls;
 mod images;
 mod laws;
 mod loose;
+mod place_calls;
 mod plain;
 mod ranges;
 mod raw_core;

@@ -13,3 +13,4 @@ pub mod Reopened
 pub mod KeptHomes
 pub mod Rested
 pub mod Batches
+pub mod Parted

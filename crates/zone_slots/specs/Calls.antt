@@ -9,8 +9,10 @@ use Rattle.frame_zones.specs.Zones.{zone_count}
 use Rattle.frame_zones.specs.declared.zones.Zones.{Zones}
 use Rattle.zone_slots.specs.ImageParts.{numbers_before}
 use Rattle.zone_slots.specs.Memories.{block_laid, block_given}
+use Rattle.zone_slots.specs.Parts.{parts_laid, parts_of, SplitsToByNumber, IsRefusedSplitTo}
 use Rattle.zone_slots.specs.Uses.{TakesByNumber, GivesByNumber, SplitsByNumber, LoseSome, FindsNoSlot, IsRefusedBlock, IsRefusedTake, one_more}
 use Rattle.zone_slots.specs.declared.core_state.CoreState.{CoreState}
+use Rattle.zone_slots.specs.declared.refusal.Refusal.{Refusal}
 
 -- the zones that the core belongs to
 abbrev pub zones_of : CoreState → Zones
@@ -55,6 +57,20 @@ pub record SplitsFor (order frame : ℕ) (s t : CoreState) : Type 0 where
   pub split : SplitsByNumber (zones_of s) order frame s.core t.core
   pub laid : last_halves t
       ≡ Some (block frame (order - 1), block (frame + 2 ^ (order - 1)) (order - 1))
+
+-- what the last split into all parts of one order through the core laid down at their slots, side by side
+abbrev pub last_parts : CoreState → Option (FrameBlock × ℕ)
+last_parts s = option_map (parts_laid (zones_of s)) s.parts
+
+-- the block was split through the core into all its blocks of an order, and these very ones were laid down
+-- at their slots
+pub record SplitsToFor (order to frame : ℕ) (s t : CoreState) : Type 0 where
+  pub split : SplitsToByNumber (zones_of s) order to frame s.core t.core
+  pub laid : last_parts t ≡ Some (parts_of frame order to)
+
+-- why a split of a block of the order into blocks of another one through the core was refused
+abbrev pub RefusesSplitTo : (order to : ℕ) → CoreState → CoreState → Refusal → Type 0
+RefusesSplitTo n to s t refusal = IsRefusedSplitTo n to s.slotless t.slotless refusal
 
 -- the core is as it was in each zone
 abbrev pub KeepsCore : CoreState → CoreState → Type 0

@@ -6,6 +6,7 @@ pub mod ZoneSpans
 pub mod Memories
 pub mod Rights
 pub mod Uses
+pub mod Parts
 pub mod Resting
 pub mod Calls
 pub mod Refusals

@@ -130,7 +130,7 @@ impl Memory {
         ensures refused { IfErr result (IsRefusedSplit order slotless.old slotless.new) }
     {
         if order == 0 {
-            return Err(Refusal::NoHalves);
+            return Err(Refusal::NoParts);
         }
         let Some(held) = self.fetch(known, core.home, frame, order) else {
             return Err(Refusal::NotHeld);
@@ -153,9 +153,9 @@ impl Memory {
         }
     }
 
-    // Lays the block down at its slot. Where one rests there, or there is none, the block is given back.
+    /// Lays the block down at its slot. Where one rests there, or there is none, the block is given back.
     #[inline]
-    fn lay_down(&self, core: &mut ZoneCore, held: ZoneBlock) -> Option<ZoneReceipt>
+    pub(crate) fn lay_down(&self, core: &mut ZoneCore, held: ZoneBlock) -> Option<ZoneReceipt>
         requires out { IsOutOfItsZone self.now.zones held }
         requires core { AreCoresOf self.now.zones core.old }
         ensures core { AreCoresOf self.now.zones core.new }

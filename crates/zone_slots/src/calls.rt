@@ -1,7 +1,7 @@
 //! What a core is asked for by frame and order.
 
 ghost use Rattle.std.specs.Prelude.{◌≡◌, ◌≢◌, IfOk, IfErr};
-ghost use Rattle.zone_slots.specs.Calls.{frames_by, SharesOne, TakesFor, GivesFor, SplitsFor, CountsNone, RemembersLast, KeepsCore, RefusesTake};
+ghost use Rattle.zone_slots.specs.Calls.{frames_by, SharesOne, TakesFor, GivesFor, SplitsFor, SplitsToFor, RefusesSplitTo, CountsNone, RemembersLast, KeepsCore, RefusesTake};
 ghost use Rattle.zone_slots.specs.Refusals.{RefusesSplit};
 
 use crate::core_state::CoreState;
@@ -71,6 +71,28 @@ impl CoreState {
             order,
         )?;
         self.halves = Some(halves);
+        Ok(())
+    }
+
+    /// Splits exactly this block into all its blocks of an order, where it is held, whichever core took it;
+    /// any core gives each of them then. No memory is needed, and nobody waits.
+    pub fn split_to(&mut self, frame: u32, order: u8, to: u8) -> Result<(), Refusal>
+        ensures shared { SharesOne self.old self.new }
+        ensures split { IfOk result (λ _. SplitsToFor order to frame self.old self.new) }
+        ensures same { IfErr result (λ e. e ≢ Refusal.NoSlot → KeepsCore self.old self.new) }
+        ensures counted { IfOk result (λ _. CountsNone self.old self.new) }
+        ensures refused { IfErr result (RefusesSplitTo order to self.old self.new) }
+        ensures last { RemembersLast self.old self.new }
+    {
+        let parts = self.shared.split_to_at_slot(
+            self.first,
+            &mut self.core,
+            &mut self.slotless,
+            frame,
+            order,
+            to,
+        )?;
+        self.parts = Some(parts);
         Ok(())
     }
 }

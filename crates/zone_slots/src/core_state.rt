@@ -8,6 +8,7 @@ ghost use Rattle.zone_slots.specs.Resting.{AreSingles};
 use crate::first_zone::FirstZone;
 use crate::frame_list::FrameList;
 use crate::memory::Memory;
+use crate::parts::Parts;
 use crate::zone_receipt::ZoneReceipt;
 use frame_zones::{GivenBlock, ZoneCore};
 use std::alloc::Global;
@@ -26,6 +27,8 @@ pub struct CoreState {
     pub(crate) given: Option<GivenBlock>,
     // Of the halves that its last split laid down, the lower first.
     pub(crate) halves: Option<(ZoneReceipt, ZoneReceipt)>,
+    // Of the parts that its last split into all parts of one order laid down.
+    pub(crate) parts: Option<Parts>,
     pub(crate) first: FirstZone,
     // Single frames that were given to the core, and rest with it.
     pub(crate) rest: FrameList,

@@ -223,6 +223,7 @@ pub(crate) fn state_over(
         last: None,
         given: None,
         halves: None,
+        parts: None,
         first,
         rest,
         apart: [0; 14],

@@ -8,10 +8,10 @@ pub enum Refusal {
     /// No block of these numbers is held; nothing changed.
     #[error("not held")]
     NotHeld,
-    /// A block of order 0 has no halves; nothing changed.
-    #[error("no halves")]
-    NoHalves,
-    /// A half found no slot and is free again.
+    /// A block of order 0 has no halves, and no block has parts of an order above its own; nothing changed.
+    #[error("no parts")]
+    NoParts,
+    /// A half or a part found no slot and is free again.
     #[error("no slot")]
     NoSlot,
 }

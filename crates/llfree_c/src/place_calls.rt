@@ -1,0 +1,40 @@
+//! What C calls of blocks where they lie.
+
+ghost use Rattle.std.specs.Prelude.{◌≡◌, ◌≢◌, ◌⊎◌, false};
+ghost use Rattle.zone_slots.specs.Calls.{SharesOne, SplitsToFor};
+ghost use Rattle.llfree_c.specs.RefusedCalls.{RefusesSplitToAs};
+ghost use Rattle.llfree_c.specs.Status.{ok, bad_order, not_held, closed, contended};
+ghost use Rattle.llfree_c.specs.SeenCores.{OnCores};
+
+use crate::core_handle::CoreHandle;
+use crate::core_steps::split_to;
+use crate::statuses::CLOSED;
+use std::alloc::Global;
+
+/// Splits exactly this block into all its blocks of an order, where it is held; any core gives each by itself
+/// then.
+#[unsafe(no_mangle)]
+pub extern "C" fn llfree_split_to(
+    handle: &mut CoreHandle,
+    heap: Global,
+    frame: u32,
+    order: u8,
+    to: u8,
+) -> u32
+    ensures split { result ≡ ok
+        → OnCores (SplitsToFor order to frame) handle.old.state.value handle.new.state.value }
+    ensures refused { result ≢ ok → result ≢ closed
+        → OnCores (RefusesSplitToAs order to result) handle.old.state.value handle.new.state.value }
+    ensures shared { result ≢ closed
+        → OnCores SharesOne handle.old.state.value handle.new.state.value }
+    ensures closed { result ≡ closed → (handle.old.live ≡ false) × (handle.new ≡ handle.old) }
+    ensures known { (result ≡ ok) ⊎ (result ≡ bad_order) ⊎ (result ≡ not_held)
+        ⊎ (result ≡ closed) ⊎ (result ≡ contended) }
+{
+    let Some(mut state) = handle.lift_out(heap) else {
+        return CLOSED;
+    };
+    let status = split_to(&mut state, frame, order, to);
+    handle.put_back(state);
+    status
+}
