@@ -1,11 +1,10 @@
 -- Held frames and clear blocks, counted from halves and from parts.
-use Rattle.std.proofs.Common.{◌≡◌, ◌∙◌, ⊎_elim, ℕ, zero, suc, ◌+◌, ◌-◌, ◌*◌, ◌/◌, ◌%◌, ◌^◌, ◌<◌}
+use Rattle.std.proofs.Common.{◌≡◌, ◌∙◌, below_more, ℕ, zero, suc, ◌+◌, ◌-◌, ◌*◌, ◌/◌, ◌%◌, ◌^◌, ◌<◌}
 use Rattle.std.proofs.Common.{◌≤◌, List, length, get_or, map, replicate, set, min, max, refl, ap}
 use Rattle.std.proofs.Common.{sym, arith}
 use Rattle.std.specs.Prelude.{nat_eq, slice_index, if◌then◌else◌}
 use Rattle.std.specs.List.{sum_by, range_with_len}
 use Rattle.std.specs.Int.{bit_at}
-use Rattle.std.proofs.lemmas.Bool.{cases_eq}
 use Rattle.std.proofs.lemmas.Bool.Decides.{nat_tests}
 use Rattle.std.proofs.lemmas.Nat.{pow-add, pow_pos, shr-shr}
 use Rattle.std.proofs.lemmas.Nat.Bits.{bit_at-lt}
@@ -139,11 +138,9 @@ module _ (key : Key) (ws : List ℕ) where
       → ((i : ℕ) → i < n → get_or told i 0 ≡ clear_at key ws (block (512 * c + i) 0))
       → t ≡ clear_at key ws (block (512 * c + n) 0)
       → (i : ℕ) → i < n + 1 → get_or (set told n t) i 0 ≡ clear_at key ws (block (512 * c + i) 0)
-  told_more c n told t room before here i h =
-      ⊎_elim
-      (λ (e : i ≡ n). rw e (get_or-set_same told n t 0 room ∙ here))
-      (λ ne. get_or-set_other told n i t 0 ne ∙ before i (omega arith))
-      (cases_eq i n)
+  told_more c n told t room before here =
+      below_more (λ i. get_or (set told n t) i 0 ≡ clear_at key ws (block (512 * c + i) 0)) n
+      (λ i h. get_or-set_other told n i t 0 (λ e. omega arith) ∙ before i h) (get_or-set_same told n t 0 room ∙ here)
 
   clear_within_is : (o from n : ℕ) → clear_within key ws o from n
       ≡ sum_by (λ i. clear_at key ws (block (from + 2 ^ o * i) o)) (range_with_len 0 (n / 2 ^ o))
@@ -360,8 +357,7 @@ halved blocks o e = ap (λ n. n / 2) e ∙ shr-shr 512 o 1
 pub counted_more : (f : ℕ → ℕ) (numbers : List ℕ) (o n : ℕ) → 2 + o < length numbers
     → ((p : ℕ) → p < o → get_or numbers (2 + p) 0 ≡ f p) → n ≡ f o
     → (p : ℕ) → p < o + 1 → get_or (set numbers (2 + o) n) (2 + p) 0 ≡ f p
-counted_more f numbers o n room before here p h =
-    ⊎_elim
-    (λ (e : p ≡ o). rw e (get_or-set_same numbers (2 + o) n 0 room ∙ here))
-    (λ ne. get_or-set_other numbers (2 + o) (2 + p) n 0 (λ z. ne (omega arith)) ∙ before p (omega arith))
-    (cases_eq p o)
+counted_more f numbers o n room before here =
+    below_more (λ p. get_or (set numbers (2 + o) n) (2 + p) 0 ≡ f p) o
+    (λ p h. get_or-set_other numbers (2 + o) (2 + p) n 0 (λ z. omega arith) ∙ before p h)
+    (get_or-set_same numbers (2 + o) n 0 room ∙ here)

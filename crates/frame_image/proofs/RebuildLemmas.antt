@@ -1,7 +1,7 @@
 -- How rebuilding goes on child by child and tree by tree.
 use Rattle.std.proofs.Common.{◌≡◌, ◌≢◌, ◌∙◌, ⊎_elim, ℕ, zero, suc, ◌+◌, ◌-◌, ◌*◌, ◌/◌, ◌^◌, ◌<◌}
 use Rattle.std.proofs.Common.{◌≤◌, List, length, get_or, map, replicate, refl, ap, sym, subst}
-use Rattle.std.proofs.Common.{arith}
+use Rattle.std.proofs.Common.{arith, below_more}
 use Rattle.std.specs.List.{sum_by, range_with_len}
 use Rattle.std.proofs.lemmas.Bool.{cases_eq}
 use Rattle.std.proofs.lemmas.List.FromFn.{get_or-map-range_with_len, length-map-range_with_len}
@@ -22,11 +22,6 @@ use Rattle.frame_core.proofs.ImageLemmas.{child_written, IsImage-with_tree}
 use Rattle.frame_text.specs.ImageText.{child_bits}
 use Rattle.frame_image.specs.Rebuilding.{IsRebuiltBelow, RebuildsJust, rebuilt_child}
 use Rattle.frame_text.proofs.PastEnd.{word_past, whole_past, huge_whole}
-
--- a value at one number more
-one_more : (f g : ℕ → ℕ) (c : ℕ) → ((d : ℕ) → d < c → f d ≡ g d) → f c ≡ g c → (d : ℕ) → d < c + 1 → f d ≡ g d
-one_more f g c below here d h =
-    ⊎_elim (λ (e : d ≡ c). rw e here) (λ ne. below d (omega arith)) (cases_eq d c)
 
 pub map_same : (f g : ℕ → ℕ) (a n : ℕ) → ((d : ℕ) → a ≤ d → d < a + n → f d ≡ g d)
     → map f (range_with_len a n) ≡ map g (range_with_len a n)
@@ -136,9 +131,9 @@ module _ (key : Key) (old : List ℕ) (image : IsImage key old) where
       (w.words_here (v - 8 * c) (omega arith) ∙ child_at c (v - 8 * c) (omega arith)) in
       record {
         image = w.image;
-        huge = one_more (huge_of next) (huge_of old) c (λ d q. w.huge_else d (omega arith) (λ z. omega arith) ∙ so.huge d q)
+        huge = below_more (λ n. huge_of next n ≡ huge_of old n) c (λ d q. w.huge_else d (omega arith) (λ z. omega arith) ∙ so.huge d q)
             (w.huge_here ∙ up);
-        free = one_more (free_of next) (rebuilt_free key old) c (λ d q. w.free_else d (omega arith) (λ z. omega arith) ∙ so.free d q)
+        free = below_more (λ n. free_of next n ≡ rebuilt_free key old n) c (λ d q. w.free_else d (omega arith) (λ z. omega arith) ∙ so.free d q)
             (w.free_here ∙ free);
         bits = λ v q. ⊎_elim (λ z. at v z) (λ ne. w.words_else v ne ∙ so.bits v (omega arith)) (cases_eq (v / 8) c);
         trees = λ t q. absurd (omega arith);
@@ -164,7 +159,7 @@ module _ (key : Key) (old : List ℕ) (image : IsImage key old) where
         huge = λ c q. w.huge c q ∙ so.huge c q;
         free = λ c q. w.free c q ∙ so.free c q;
         bits = λ v q. bit_word_of-with_tree key new t n v h ∙ so.bits v q;
-        trees = one_more (tree_free_of key next) (rebuilt_in_tree key old) t (λ u q. w.free_else u (λ z. omega arith) ∙ so.trees u q)
+        trees = below_more (λ v. tree_free_of key next v ≡ rebuilt_in_tree key old v) t (λ u q. w.free_else u (λ z. omega arith) ∙ so.trees u q)
             (w.free_here ∙ counts ∙ sum ∙ exact);
         unreserved = λ u q. ⊎_elim (λ (e : u ≡ t). rw e (w.reserved_here ∙ down)) (λ ne. w.reserved_else u ne ∙ so.unreserved u q)
             (cases_eq u t);

@@ -3,7 +3,7 @@ use Rattle.std.proofs.Common.{◌≡◌, ◌≢◌, ◌+◌, ℕ, List, [], ◌�
 use Rattle.std.proofs.lemmas.Bool.Decides.{nat_tests}
 use Rattle.csv.specs.Records.{field_at}
 use Rattle.frame_model.specs.declared.key.Key.{Key}
-use Rattle.frame_text.specs.ImageText.{fields_with, header_said, named_sizes, part_count, part_with, parts_from}
+use Rattle.frame_text.specs.ImageText.{part_count, part_with, parts_from}
 
 -- five fields, one after another, are all of a row of five
 pub all_of_five : (xs : List (List ℕ)) (a b c d e : List ℕ) → length xs ≡ 5
@@ -13,29 +13,7 @@ unfolding field_at
 all_of_five (x ∷ y ∷ z ∷ w ∷ v ∷ []) a b c d e five p q r s t = cc
 all_of_five _ a b c d e five p q r s t = absurd (omega arith)
 
--- a row of another length is no first record
-pub header_of_other : (xs : List (List ℕ)) → length xs ≢ 5 → header_said xs ≡ None
-unfolding header_said
-header_of_other (a ∷ b ∷ c ∷ d ∷ e ∷ []) h = absurd (h refl)
-header_of_other _ h = refl
-
-pub header_of_five : (xs : List (List ℕ)) (a b c d e : List ℕ)
-    → xs ≡ a ∷ b ∷ c ∷ d ∷ e ∷ [] → header_said xs ≡ named_sizes a b c d e
-unfolding header_said
-header_of_five xs a b c d e is = rw is refl
-
 module _ (key : Key) (part : ℕ) (words : List ℕ) where
-  -- nor a part
-  pub part_of_other : (xs : List (List ℕ)) → length xs ≢ 5 → part_with key part words xs ≡ None
-  unfolding part_with
-  part_of_other (a ∷ b ∷ c ∷ d ∷ e ∷ []) h = absurd (h refl)
-  part_of_other _ h = refl
-
-  pub part_of_five : (xs : List (List ℕ)) (a b c d e : List ℕ)
-      → xs ≡ a ∷ b ∷ c ∷ d ∷ e ∷ [] → part_with key part words xs ≡ fields_with key part words a b c d e
-  unfolding part_with
-  part_of_five xs a b c d e is = rw is refl
-
   -- a record that says the part
   pub parts_more : (row : List (List ℕ)) (rows : List (List (List ℕ))) (next : List ℕ)
       → part_with key part words row ≡ Some next

@@ -1,6 +1,6 @@
 -- Facts about all numbers of a range.
 use Rattle.std.proofs.Common.{◌≡◌, ◌≢◌, ◌^◌, ⊎_elim, ℕ, zero, suc, ◌+◌, ◌-◌, ◌/◌, ◌%◌, ◌<◌, ◌≤◌}
-use Rattle.std.proofs.Common.{List, Bool, true, false, refl, sym, arith, ◌∙◌}
+use Rattle.std.proofs.Common.{List, Bool, true, false, refl, sym, arith, below_more, ◌∙◌}
 use Rattle.std.specs.Prelude.{slice_index, bit_and}
 use Rattle.std.specs.Int.{bit_at}
 use Rattle.std.specs.List.{list_all, range_with_len}
@@ -56,10 +56,7 @@ pub set_so_far : (first frame : ℕ) (bits : List ℕ)
     → bit_and (slice_index bits (frame / 64) / 2 ^ (frame % 64)) 1 ≢ 0
     → (d : ℕ) → first ≤ d → d < frame + 1 → bit_at (slice_index bits (d / 64)) (d % 64) ≡ 1
 set_so_far first frame bits before ne d l h =
-    ⊎_elim
-    (λ (same : d ≡ frame).
     let here = shr_and_one (slice_index bits (frame / 64)) (frame % 64) in
     let one : bit_at (slice_index bits (frame / 64)) (frame % 64) ≡ 1 =
-    omega (arith, here, ne, bit_at-lt (slice_index bits (frame / 64)) (frame % 64)) in rw same one)
-    (λ other. before d l (omega arith))
-    (cases_eq d frame)
+    omega (arith, here, ne, bit_at-lt (slice_index bits (frame / 64)) (frame % 64)) in
+    below_more (λ k. first ≤ k → bit_at (slice_index bits (k / 64)) (k % 64) ≡ 1) frame (λ k h l. before k l h) (λ _. one) d h l

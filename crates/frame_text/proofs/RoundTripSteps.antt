@@ -1,5 +1,5 @@
 -- Each record that is read makes the words say one part more as the image says it.
-use Rattle.std.proofs.Common.{◌≡◌, ◌∙◌, ⊎_elim, ℕ, ◌+◌, ◌-◌, ◌*◌, ◌/◌, ◌^◌, ◌<◌, List, length, get_or, refl, ap, sym, subst, arith}
+use Rattle.std.proofs.Common.{◌≡◌, ◌∙◌, ⊎_elim, ℕ, ◌+◌, ◌-◌, ◌*◌, ◌/◌, ◌^◌, ◌<◌, List, length, get_or, refl, ap, sym, subst, arith, below_more}
 use Rattle.std.specs.Option.{ForSome}
 use Rattle.std.proofs.lemmas.Bool.{cases_eq}
 use Rattle.std.proofs.lemmas.List.FromFn.{get_or-map-range_with_len, length-map-range_with_len}
@@ -20,11 +20,6 @@ use Rattle.frame_text.proofs.PastEnd.{child_past}
 pub record ReadSo (key : Key) (ws words : List ℕ) (child tree core : ℕ) : Type 0 where
   pub image : IsImage key words
   pub same : SaysSame key ws words child tree core
-
--- a value at one number more
-one_more : (f g : ℕ → ℕ) (c : ℕ) → ((d : ℕ) → d < c → f d ≡ g d) → f c ≡ g c → (d : ℕ) → d < c + 1 → f d ≡ g d
-one_more f g c below here d h =
-    ⊎_elim (λ (e : d ≡ c). rw e here) (λ ne. below d (omega arith)) (cases_eq d c)
 
 module _ (key : Key) (ws : List ℕ) (image : IsImage key ws) where
   bits_at : (c i : ℕ) → i < 8 → get_or (child_bits key ws c) i 0 ≡ bit_word_of key ws (8 * c + i)
@@ -56,9 +51,9 @@ module _ (key : Key) (ws : List ℕ) (image : IsImage key ws) where
       record {
         image = w.image;
         same = record {
-          free = one_more (free_of new) (free_of ws) c (λ d q. w.free_else d (omega arith) (λ z. omega arith) ∙ so.same.free d q)
+          free = below_more (λ n. free_of new n ≡ free_of ws n) c (λ d q. w.free_else d (omega arith) (λ z. omega arith) ∙ so.same.free d q)
               (w.free_here ∙ free);
-          huge = one_more (huge_of new) (huge_of ws) c (λ d q. w.huge_else d (omega arith) (λ z. omega arith) ∙ so.same.huge d q)
+          huge = below_more (λ n. huge_of new n ≡ huge_of ws n) c (λ d q. w.huge_else d (omega arith) (λ z. omega arith) ∙ so.same.huge d q)
               (w.huge_here ∙ up);
           bits = λ v q. ⊎_elim (λ z. at v z) (λ ne. w.words_else v ne ∙ so.same.bits v (omega arith)) (cases_eq (v / 8) c);
           trees = λ t q. omega arith;
@@ -84,9 +79,9 @@ module _ (key : Key) (ws : List ℕ) (image : IsImage key ws) where
           free = λ c q. w.free c q ∙ so.same.free c q;
           huge = λ c q. w.huge c q ∙ so.same.huge c q;
           bits = λ v q. bit_word_of-with_tree key words t n v h ∙ so.same.bits v q;
-          trees = one_more (tree_free_of key new) (tree_free_of key ws) t (λ u q. w.free_else u (λ z. omega arith) ∙ so.same.trees u q)
+          trees = below_more (λ n. tree_free_of key new n ≡ tree_free_of key ws n) t (λ u q. w.free_else u (λ z. omega arith) ∙ so.same.trees u q)
               (w.free_here ∙ free);
-          reserved = one_more (reserved_of key new) (reserved_of key ws) t
+          reserved = below_more (λ n. reserved_of key new n ≡ reserved_of key ws n) t
               (λ u q. w.reserved_else u (λ z. omega arith) ∙ so.same.reserved u q) (w.reserved_here ∙ up);
           rests = λ k q. absurd (omega arith);
         };

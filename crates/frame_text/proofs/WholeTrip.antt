@@ -15,6 +15,7 @@ use Rattle.frame_model.specs.Key.{key_of, tree_count, frame_count, AreSizes}
 use Rattle.frame_model.specs.Words.{rest_of}
 use Rattle.frame_core.specs.Image.{Contents, IsImage, key_in, blank_words}
 use Rattle.frame_core.proofs.Blank.{blank_image}
+use Rattle.frame_core.specs.Movers.{sizes_of}
 use Rattle.frame_text.specs.Records.{records_of}
 use Rattle.frame_text.specs.ImageText.{drawn, part_count, parts_from, key_with, frames_said}
 use Rattle.frame_text.specs.ImageText.{sizes_said, named_sizes, header_said, header_row}
@@ -125,16 +126,6 @@ module _ (key : Key) (ws : List ℕ) (image : IsImage key ws) (sizes : AreSizes 
 -- The first record.
 
 module _ (g : Geometry) where
-  are_sizes : AreSizes (key_of g)
-  are_sizes = record {
-    some_children = omega arith;
-    few_children = omega arith;
-    some_cores = omega arith;
-    few_cores = omega arith;
-    last_child = omega arith;
-    inside = omega arith;
-  }
-
   key_told : key_with g.children g.cores g.frames ≡ Some (key_of g)
   unfolding key_with
   key_told =
@@ -260,7 +251,7 @@ pub image_in-rows_of : (image : Contents) → IsImage (key_in image) image.words
     → image_in (rows_of (drawn image)) ≡ Ok (drawn image)
 unfolding rows_of image_in image_behind
 image_in-rows_of image is =
-    rw (header_told image.geometry, parts_read (key_in image) image.words is (are_sizes image.geometry)) refl
+    rw (header_told image.geometry, parts_read (key_in image) image.words is (sizes_of (key_in image) image.geometry (refl, refl, refl))) refl
 
 pub image_of-picture_of : (image : Contents) → IsImage (key_in image) image.words
     → image_of (picture_of (drawn image)) ≡ Ok (drawn image)

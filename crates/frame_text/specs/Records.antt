@@ -2,7 +2,6 @@
 use Rattle.std.specs.Prelude.{◌≡◌, ℕ, ◌+◌, Bool, false, List, [], ◌∷◌, length}
 use Rattle.std.specs.Prelude.{Option, Some, None, unwrap_or, Result, Ok, Err}
 use Rattle.std.specs.Borrow.{Bor}
-use Rattle.csv.specs.Machine.{ends_at_end}
 use Rattle.csv.specs.Reading.{Ready, default_config, records, records_from, source_of, strip_bom}
 use Rattle.csv.specs.Writing.{default_writer, fields_written, has_written, writer_setup}
 use Rattle.csv.specs.declared.reader.Reader.{Reader}
@@ -45,10 +44,9 @@ bytes_left r = unwrap_or (source_of (λ s. Some s.now) r) []
 unfoldable pub records_left : Reader (Bor (List ℕ)) → List (List (List ℕ))
 records_left r = records_from default_config (length (bytes_left r) + 1) r.state (bytes_left r)
 
--- a reader over memory, with csv's defaults and no header, that stands between two records
+-- a reader over memory, with csv's defaults and no header
 pub record IsReading (r : Reader (Bor (List ℕ))) : Type 0 where
   pub trim : r.trim ≡ trim.None
   pub ready : Ready r
   pub config : r.config ≡ default_config
   pub known : source_of (λ s. Some s.now) r ≡ Some (bytes_left r)
-  pub between : ends_at_end r.state ≡ false

@@ -12,6 +12,7 @@ use csv::ByteRecord;
 use frame_words::{CHILD_FRAMES, Geometry, MOST_CHILDREN, MOST_CORES, MOST_FRAMES};
 
 // The sizes that the first record of an image says.
+#[tactic(auto, unfolding(crate::specs::ImageText::header_said))]
 pub(crate) fn header_said(row: &ByteRecord) -> Option<Geometry>
     ensures { option_map (λ g. key_of g) result ≡ Spec.header_said (fields_of row.now) }
 {

@@ -101,6 +101,7 @@ fn part_count(geometry: Geometry) -> u32
 }
 
 // Writes a part of the image as a record says it; `false` where the record is no such part.
+#[tactic(auto, unfolding(crate::specs::ImageText::part_with))]
 fn read_part(image: &mut Image, part: u32, row: &ByteRecord) -> bool
     ensures read { OnTrue result
         (Spec.part_with (key_in image.old) part image.old.words (fields_of row.now)

@@ -98,6 +98,7 @@ impl RecordWriter {
     }
 
     // Adds the records of all children.
+    #[tactic(auto, using(crate::proofs::Writing::text_more))]
     fn add_children(&mut self, image: &Image) -> Result<(), Fault>
         ensures text { OnOk result (self.new ≡ self.old
             ++ text_of (child_rows (key_in image.now) image.now.words
@@ -128,6 +129,7 @@ impl RecordWriter {
     }
 
     // Adds the records of all trees.
+    #[tactic(auto, using(crate::proofs::Writing::text_more))]
     fn add_trees(&mut self, image: &Image) -> Result<(), Fault>
         ensures text { OnOk result (self.new ≡ self.old
             ++ text_of (tree_rows (key_in image.now) image.now.words
@@ -192,6 +194,7 @@ impl RecordWriter {
 }
 
 // A flag as its digit.
+#[tactic(auto, using(std::proofs::lemmas::Fmt::decimal_digit))]
 fn flag_text(up: bool) -> [u8; 1]
     ensures { result ≡ decimal (flag up) }
 {

@@ -32,6 +32,7 @@ impl<'a> Model for RecordReader<'a> {
 
 impl<'a> RecordReader<'a> {
     /// All records of the text.
+    #[tactic(auto, using(crate::proofs::Reading::left_first))]
     pub fn new(alloc: Global, text: &'a [u8]) -> RecordReader<'a>
         ensures rows { result.rows ≡ records_of text.now }
         ensures fresh { result.failed ≡ false }
@@ -77,6 +78,7 @@ impl<'a> RecordReader<'a> {
 }
 
 // Reads the next record of a text.
+#[tactic(auto, using(crate::proofs::Reading::left_more, crate::proofs::Reading::left_none))]
 fn read_next(reader: &mut Reader<&[u8]>, row: &mut ByteRecord) -> Result<bool, Fault>
     requires { IsReading reader.old }
     ensures found { IfOk result (λ found. found ≡ true → IsReading reader.new

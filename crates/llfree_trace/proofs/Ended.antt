@@ -1,5 +1,5 @@
 -- What desks hold at the end of a run is just what the closed memory holds.
-use Rattle.std.proofs.Common.{◌≡◌, ◌+◌, ◌≤◌, ◌∙◌, max, ℕ, zero, suc, pos, List, []}
+use Rattle.std.proofs.Common.{◌≡◌, ◌+◌, ◌≤◌, ◌∙◌, ℕ, zero, suc, pos, List, []}
 use Rattle.std.proofs.Common.{◌∷◌, ◌++◌, Bool, true, false, map, replicate, refl, sym, ap}
 use Rattle.std.proofs.Common.{subst, arith}
 use Rattle.std.specs.List.{All, sum_by}
@@ -21,7 +21,7 @@ use Rattle.frame_core.specs.Moves.{HasSizes}
 use Rattle.frame_core.specs.Mover.{IsApart}
 use Rattle.frame_model.specs.Report.{held_at}
 use Rattle.frame_model.specs.View.{boot_blocks}
-use Rattle.frame_model.specs.Words.{bit_of, huge_of}
+use Rattle.frame_model.specs.Words.{bit_of}
 use Rattle.frame_core.proofs.Apart.{apart_of}
 use Rattle.frame_model.proofs.Safe.{holders_are}
 use Rattle.frame_model.proofs.Stopping.Known.{holders_both}
@@ -55,23 +55,15 @@ lent_same ds = ap lent_through (seats_are ds)
     seats_are [] = refl
     seats_are (d ∷ ds) = ap (λ (l : List CoreSeat). seat_of (core_of d) ∷ l) (seats_are ds)
 
-kept_none : kept_through [] ≡ []
-unfolding kept_through
-kept_none = refl
-
-kept_cons : (s : CoreSeat) (seats : List CoreSeat) → kept_through (s ∷ seats) ≡ (view_of s).kept ++ kept_through seats
-unfolding kept_through
-kept_cons s seats = refl
-
 -- the lists have just the blocks that the cores keep
 kept_same : (a : Allocator) (f : FrameBlock → ℕ) (ds : List Desk) → All (IsDeskOf a) ds
     → sum_by f (all_blocks (lists_at ds)) ≡ sum_by f (kept_through (seats_at ds))
-kept_same a f [] all = ap (sum_by f) (sym kept_none)
+unfolding kept_through
+kept_same a f [] all = refl
 kept_same a f (d ∷ ds) all =
     omega (
       arith,
       sum_by-append f (blocks_of (list_of d)) (all_blocks (lists_at ds)),
-      ap (sum_by f) (kept_cons (seat_of (core_of d)) (seats_at ds)),
       sum_by-append f (view_of (seat_of (core_of d))).kept (kept_through (seats_at ds)),
       (All-head (IsDeskOf a) d ds all).keeps f,
       kept_same a f ds (All-tail (IsDeskOf a) d ds all),
@@ -111,20 +103,6 @@ module _ (key : Key) (seats : List CoreSeat) (ws : List ℕ) (closed : IsClosed 
         closed.gathered.wholes (child_of x),
       )
 
-held_max : (key : Key) (ws : List ℕ) (x : ℕ) → held_at key ws x ≡ max (bit_of key ws x) (huge_of ws (child_of x))
-unfolding held_at
-held_max key ws x = refl
-
-smalls_same : (a : Allocator) (x : ℕ) (ds : List Desk) → All (IsDeskOf a) ds
-    → smalls x (all_blocks (lists_at ds)) ≡ smalls x (kept_through (seats_at ds))
-unfolding smalls
-smalls_same a x ds all = kept_same a (small_at x) ds all
-
-wholes_same : (a : Allocator) (c : ℕ) (ds : List Desk) → All (IsDeskOf a) ds
-    → wholes c (all_blocks (lists_at ds)) ≡ wholes c (kept_through (seats_at ds))
-unfolding wholes
-wholes_same a c ds all = kept_same a (whole_at c) ds all
-
 -- The memory was closed with the cores of desks that lend nothing together.
 module _ (a : Allocator) (ds : List Desk) (image : Contents) (sealed : (memory_of a).sealed ≡ true) (all : All (IsDeskOf a) ds)
     (closing : IsClosingOf (memory_of a) (seats_at ds) image) (none : lent_by_desks ds ≡ pos 0) where
@@ -133,12 +111,13 @@ module _ (a : Allocator) (ds : List Desk) (image : Contents) (sealed : (memory_o
 
   lists_hold : (x : ℕ) → holders x (all_blocks (lists_at ds))
       ≡ smalls x (kept_through (seats_at ds)) + wholes (child_of x) (kept_through (seats_at ds))
+  unfolding smalls wholes
   lists_hold x =
       omega (
         arith,
         holders_are (memory_of a) x (all_blocks (lists_at ds)) (lists_lawful a ds all),
-        smalls_same a x ds all,
-        wholes_same a (child_of x) ds all,
+        kept_same a (small_at x) ds all,
+        kept_same a (whole_at (child_of x)) ds all,
       )
 
   pub lists_apart : IsHolding (memory_of a) (all_blocks (lists_at ds))
@@ -153,6 +132,7 @@ module _ (a : Allocator) (ds : List Desk) (image : Contents) (sealed : (memory_o
   }
 
   pub holds_lists : HoldsFrames (memory_of a) image.words (all_blocks (lists_at ds) ++ boot_blocks (memory_of a))
+  unfolding held_at
   holds_lists x within = by (is_boot_frame (memory_of a) x) refl
     where
       -- as often as it is a boot frame
@@ -166,7 +146,6 @@ module _ (a : Allocator) (ds : List Desk) (image : Contents) (sealed : (memory_o
             boot,
             bit,
             few,
-            held_max (memory_of a) image.words x,
             just.huge (child_of x) (omega (arith, within)),
             holders_both x (all_blocks (lists_at ds)) (boot_blocks (memory_of a)),
             lists_hold x,
@@ -188,33 +167,29 @@ module _ (a : Allocator) (ds : List Desk) (image : Contents) (sealed : (memory_o
       let sizes : HasSizes (sealed_key geometry ranges) image.geometry = subst (λ (k : Key). HasSizes k image.geometry) is closing.sizes in
       same_sizes image.geometry geometry sizes.0 sizes.1 sizes.2
 
+  -- and the key of the memory is that of its records
+  key_is : (geometry : Geometry) (lines : List Line) → memory_of a ≡ sealed_key geometry (ranges_in lines)
+      → memory_of a ≡ key_under lines image
+  key_is geometry lines is =
+      is ∙ ap (λ (g : Geometry). sealed_key g (ranges_in lines)) (sym (image_is geometry (ranges_in lines) is))
+
   -- its counters add up
   pub adds_up : (geometry : Geometry) (lines : List Line) → memory_of a ≡ sealed_key geometry (ranges_in lines)
       → AddsUp (key_under lines image) image.words
-  adds_up geometry lines is =
-      let same : image.geometry ≡ geometry = image_is geometry (ranges_in lines) is in
-      let under : memory_of a ≡ key_under lines image = is ∙ ap (λ (g : Geometry). sealed_key g (ranges_in lines)) (sym same) in
-      subst (λ (k : Key). AddsUp k image.words) under closing.tells.adds_up
+  adds_up geometry lines is = subst (λ (k : Key). AddsUp k image.words) (key_is geometry lines is) closing.tells.adds_up
 
   -- so the answers of a run of the records are theirs
-  pub runs_answered : (geometry : Geometry) (lines : List Line) (old : List Desk) (answers : List Answer)
-      → memory_of a ≡ sealed_key geometry (ranges_in lines)
-      → Runs MayRefuse (memory_of a) 1 (lists_at old) lines answers (lists_at ds) → lists_at old ≡ replicate geometry.cores []
-      → IsAnsweredBy MayRefuse lines answers image
-  runs_answered geometry lines old answers is runs begins =
-      let same : image.geometry ≡ geometry = image_is geometry (ranges_in lines) is in
-      let under : memory_of a ≡ key_under lines image = is ∙ ap (λ (g : Geometry). sealed_key g (ranges_in lines)) (sym same) in
-      record {
-        lists = lists_at ds;
-        runs = subst (λ (k : Key). Runs MayRefuse k 1 (replicate image.geometry.cores []) lines answers (lists_at ds)) under
-            (rw (same, ← begins) runs);
-        disjoint = subst (λ (k : Key). IsHolding k (all_blocks (lists_at ds))) under lists_apart;
-        holds = subst (λ (k : Key). HoldsFrames k image.words (all_blocks (lists_at ds) ++ boot_blocks k)) under holds_lists;
-      }
-
   pub is_answered : (geometry : Geometry) (lines : List Line) (old new : Progress) → memory_of a ≡ sealed_key geometry (ranges_in lines)
       → GoesOn a 1 lines old new → new.desks.items ≡ ds → old.answers.items ≡ [] → lists_at old.desks.items ≡ replicate geometry.cores []
       → IsAnsweredBy MayRefuse lines new.answers.items image
   is_answered geometry lines old new is goes end empty begins =
+      let same : image.geometry ≡ geometry = image_is geometry (ranges_in lines) is in
       let answers : new.answers.items ≡ goes.answers = goes.grows ∙ ap (λ (l : List Answer). l ++ goes.answers) empty in
-      runs_answered geometry lines old.desks.items new.answers.items is (rw (answers, ← end) goes.runs) begins
+      let under = key_is geometry lines is in
+      record {
+        lists = lists_at ds;
+        runs = subst (λ (k : Key). Runs MayRefuse k 1 (replicate image.geometry.cores []) lines new.answers.items (lists_at ds)) under
+            (rw (same, ← begins, answers, ← end) goes.runs);
+        disjoint = subst (λ (k : Key). IsHolding k (all_blocks (lists_at ds))) under lists_apart;
+        holds = subst (λ (k : Key). HoldsFrames k image.words (all_blocks (lists_at ds) ++ boot_blocks k)) under holds_lists;
+      }

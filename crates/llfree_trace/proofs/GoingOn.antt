@@ -22,18 +22,6 @@ use Rattle.llfree_trace.proofs.Running.{runs_append}
 pub rest_of : (n : ℕ) (lines : List Line) → take (length lines - n) (drop n lines) ≡ drop n lines
 rest_of n lines = take_all (length lines - n) (drop n lines) (omega (arith, length-drop n lines))
 
--- by no records
-pub stands_still : (a : Allocator) (n : ℕ) (p : Progress) → All (IsDeskOf a) p.desks.items → GoesOn a n [] p p
-unfolding Runs
-stands_still a n p is = record {
-  answers = [];
-  grows = sym (append-nil p.answers.items);
-  runs = refl;
-  desks = is;
-  width = refl;
-  lent = refl;
-}
-
 -- by some records, and then by more
 pub goes_both : (a : Allocator) (n m : ℕ) (xs ys : List Line) (p q r : Progress) → n + length xs ≡ m
     → GoesOn a n xs p q → GoesOn a m ys q r → GoesOn a n (xs ++ ys) p r
@@ -87,11 +75,11 @@ goes_move a n p q core label to given inside number own moves grows = record {
   lent = moves.lent;
 }
 
--- by a record without an answer
-pub goes_unanswered : (a : Allocator) (n : ℕ) (l : Line) (p : Progress) → All (IsDeskOf a) p.desks.items
-    → Runs MayRefuse (memory_of a) n (lists_at p.desks.items) (l ∷ []) [] (lists_at p.desks.items)
-    → GoesOn a n (l ∷ []) p p
-goes_unanswered a n l p is run = record {
+-- by records without an answer
+pub goes_unanswered : (a : Allocator) (n : ℕ) (lines : List Line) (p : Progress) → All (IsDeskOf a) p.desks.items
+    → Runs MayRefuse (memory_of a) n (lists_at p.desks.items) lines [] (lists_at p.desks.items)
+    → GoesOn a n lines p p
+goes_unanswered a n lines p is run = record {
   answers = [];
   grows = sym (append-nil p.answers.items);
   runs = run;

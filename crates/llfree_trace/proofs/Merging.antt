@@ -9,7 +9,7 @@ use Rattle.std.proofs.lemmas.Bool.Decides.{nat_tests, eqb_tells}
 use Rattle.std.proofs.lemmas.Grind.{get_or-set_at, common_steps}
 use Rattle.std.proofs.lemmas.List.{append-nil, append_assoc, get_or_default, get_or-set_other}
 use Rattle.std.proofs.lemmas.List.{length-map, map-append, take_more, take-append-drop}
-use Rattle.std.proofs.lemmas.List.Elements.{filter_more, filter-append}
+use Rattle.std.proofs.lemmas.List.Elements.{filter-append}
 use Rattle.held_blocks.specs.declared.labelled_block.LabelledBlock.{LabelledBlock}
 use Rattle.core_frames.specs.Desks.{list_of}
 use Rattle.frame_table.specs.Closing.{lent_through}
@@ -19,7 +19,7 @@ use Rattle.core_frames.specs.declared.shared.desk.Desk.{Desk}
 use Rattle.frame_model.specs.declared.key.Key.{Key}
 use Rattle.trace_text.specs.declared.reply.Answer.{Answer}
 use Rattle.llfree_trace.specs.declared.lines.Done.{Done}
-use Rattle.llfree_trace.proofs.Workers.{ask_core_is, ask_count}
+use Rattle.llfree_trace.proofs.Workers.{ask_core_is, ask_count, other_lines, own_lines}
 use Rattle.trace_text.specs.declared.line.Line.{Line}
 use Rattle.trace_text.specs.declared.line.Request.TheVariants as request
 use Rattle.llfree_trace.specs.Rounds.{IsAsk, ask_core, asks_from, Ask, DeskRun, Fitting, Merged}
@@ -34,19 +34,7 @@ pub record Merging (lines : List Ask) (done : List Done) (i : ℕ) (next : List 
   pub each : (k : ℕ) (d : Done) → k < length done → answers_by k all
       ≡ take (length (asks_by k (take i lines))) (get_or done k d).answers.items
 
--- the lines of a core among the first i + 1, and its answers among those with one more
-own_lines : (k : ℕ) (lines : List Ask) (i : ℕ) (d : Ask) → i < length lines → (get_or lines i d).core ≡ k
-    → asks_by k (take (i + 1) lines) ≡ asks_by k (take i lines) ++ get_or lines i d ∷ []
-own_lines k lines i d lt own =
-    let test : ((get_or lines i d).core == k) ≡ true = grind (arith, nat_tests) in
-    rw (filter_more (λ (l : Ask). l.core == k) lines i d lt, test) refl
-
-other_lines : (k : ℕ) (lines : List Ask) (i : ℕ) (d : Ask) → i < length lines → (get_or lines i d).core ≢ k
-    → asks_by k (take (i + 1) lines) ≡ asks_by k (take i lines)
-other_lines k lines i d lt other =
-    let test : ((get_or lines i d).core == k) ≡ false = grind (arith, nat_tests) in
-    rw (filter_more (λ (l : Ask). l.core == k) lines i d lt, test) (append-nil (asks_by k (take i lines)))
-
+-- the answers of a core among those with one more
 own_answer : (k : ℕ) (all : List Answer) (a : Answer) → a.core ≡ k → answers_by k (all ++ a ∷ []) ≡ answers_by k all ++ a ∷ []
 own_answer k all a own =
     let test : (a.core == k) ≡ true = grind (arith, nat_tests) in

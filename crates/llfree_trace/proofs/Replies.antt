@@ -48,17 +48,6 @@ unfolding TakesUnder
 leaves_boot key old label order (Ok b) new sealed step none = boot_free key (block b.0 b.1) sealed step.is_block none
 leaves_boot key old label order (Err f) new sealed step none = tt
 
--- a take at a desk, as a step
-pub taken_step : (key : Key) (old : List LabelledBlock) (label : List ℕ) (order : ℕ)
-    (outcome : Result (ℕ × ℕ) Fault) (r : Reply) (new : List LabelledBlock) → key.sealed ≡ true
-    → IsTakenReply outcome r → TakesUnder MayFail key old label order outcome new
-    → IfOk outcome (λ b. HasNoBootFrame key (block b.0 b.1))
-    → DeskStep MayRefuse key old (request.Take label order) r new
-unfolding DeskStep
-taken_step key old label order outcome r new sealed says step none =
-    rw says.0 (says_taken (λ o. TakesUnder MayRefuse key old label order o new × LeavesBootFrames key o) outcome
-    (may_be key old label order outcome new says.1 step, leaves_boot key old label order outcome new sealed step none))
-
 -- a give of the oldest, as a step
 pub given_step : (key : Key) (old : List LabelledBlock) (label : List ℕ)
     (outcome : Result (ℕ × ℕ) Fault) (r : Reply) (new : List LabelledBlock) → r ≡ given_reply outcome
@@ -82,8 +71,10 @@ pub taken_if : (key : Key) (old : List LabelledBlock) (label : List ℕ) (order 
     → IfOk r (IsTakenReply outcome) → TakesUnder MayFail key old label order outcome new
     → IfOk outcome (λ b. HasNoBootFrame key (block b.0 b.1))
     → IfOk r (λ x. DeskStep MayRefuse key old (request.Take label order) x new)
+unfolding DeskStep
 taken_if key old label order outcome (Ok x) new sealed says step none =
-    taken_step key old label order outcome x new sealed says step none
+    rw says.0 (says_taken (λ o. TakesUnder MayRefuse key old label order o new × LeavesBootFrames key o) outcome
+    (may_be key old label order outcome new says.1 step, leaves_boot key old label order outcome new sealed step none))
 taken_if key old label order outcome (Err e) new sealed says step none = tt
 
 -- a refusal, as the reply to a take
@@ -91,3 +82,6 @@ pub refused_if : (outcome : Result (ℕ × ℕ) Fault) (f : Fault) (r : Result R
     → IfOk r (λ x. (x ≡ reply.Refused f) × (f ≢ fault.NoMemory)) → IfOk r (IsTakenReply outcome)
 refused_if outcome f (Err e) is says = tt
 refused_if outcome f (Ok x) is says = rw is (says.0, (λ same. says.1 (cc)))
+
+-- what a desk answers, as a step
+pub ruleset steps = (given_step, given_at_step, taken_if)

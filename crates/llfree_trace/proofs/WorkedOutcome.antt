@@ -1,5 +1,5 @@
 -- An outcome of two cores in numerals, and why others beside it are none.
-use Rattle.std.proofs.Common.{◌≡◌, ◌≤◌, ◌<◌, ◌+◌, ◌∙◌, ℕ, List, [], ◌∷◌, ◌++◌, Bool, true, false, zero, suc}
+use Rattle.std.proofs.Common.{◌≡◌, ◌≤◌, ◌<◌, ◌+◌, ◌∙◌, ℕ, [], ◌∷◌, ◌++◌, Bool, true, false, zero, suc}
 use Rattle.std.proofs.Common.{refl, sym, ap, arith, length, ⊎_elim}
 use Rattle.std.specs.Prelude.{nat_eq, ◌&&◌}
 use Rattle.std.specs.List.{list_all, range_with_len}
@@ -26,7 +26,8 @@ use Rattle.llfree_trace.specs.WorkedOutcome.{TwoCoresAreWorkedOut, a, image_with
 use Rattle.frame_words.specs.declared.geometry.Geometry.{Geometry}
 use Rattle.llfree_trace.specs.WrongRuns.{answered_from}
 use Rattle.llfree_trace.proofs.WrongEnds.{other_frames, other_is_answered}
-use Rattle.llfree_trace.proofs.WrongRecords.{first_is_one}
+use Rattle.llfree_trace.proofs.Running.{none_lawful}
+use Rattle.llfree_trace.proofs.WrongRecords.{first_is_one, head_first}
 use Rattle.trace_text.specs.Trace.{core_count, ranges_in}
 
 -- the memory
@@ -76,10 +77,6 @@ holds_one x below =
 
 -- Holdings.
 
-is_empty : IsHolding key []
-unfolding holders
-is_empty = record { blocks = All-nil (IsBlock key); disjoint = λ x. omega arith }
-
 is_first : IsBlock key (block 0 0)
 is_first = record { order = omega arith; aligned = refl; inside = omega arith }
 
@@ -95,18 +92,13 @@ unfolding holders covers
 apart x h = grind (arith, nat_tests, common_steps)
 
 holds_first : IsHolding key (block 0 0 ∷ [])
-holds_first = more_lawful key [] (entry (block 0 0)) is_empty is_first (free_of_none (block 0 0))
+holds_first = more_lawful key [] (entry (block 0 0)) (none_lawful key) is_first (free_of_none (block 0 0))
 
 holds_pair : IsHolding key (block 2 1 ∷ [])
-holds_pair = more_lawful key [] (entry (block 2 1)) is_empty is_pair (free_of_none (block 2 1))
+holds_pair = more_lawful key [] (entry (block 2 1)) (none_lawful key) is_pair (free_of_none (block 2 1))
 
 holds_both : IsHolding key (block 2 1 ∷ block 0 0 ∷ [])
 holds_both = more_lawful key (entry (block 2 1) ∷ []) (entry (block 0 0)) holds_pair is_first apart
-
--- the first entry under the label is the oldest
-leaves_first : {b : FrameBlock} (others : List LabelledBlock) → TakesFirst (IsUnder a) (entry b ∷ others) (entry b) others
-leaves_first others =
-    record { front = []; back = others; was = refl; stays = refl; holds = refl; first = All-nil (λ x. ¬ IsUnder a x) }
 
 happens : TwoRoundsHappen memory
 unfolding Runs DeskStep TakesUnder Moves GivesFirst ranges_in
@@ -137,10 +129,10 @@ happens =
             refl,
             refl,
             [] ∷ (pair ∷ first ∷ []) ∷ [],
-            record { entry = first; left = []; is_block = refl; leaves = leaves_first []; goes_last = refl },
-            is_empty,
+            record { entry = first; left = []; is_block = refl; leaves = head_first a 0 0 []; goes_last = refl },
+            none_lawful key,
             holds_both,
-            (refl, refl, first ∷ [], (pair, refl, leaves_first (first ∷ [])), holds_first, refl),
+            (refl, refl, first ∷ [], (pair, refl, head_first a 2 1 (first ∷ [])), holds_first, refl),
           ),
         ),
       );

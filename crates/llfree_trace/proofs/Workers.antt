@@ -38,6 +38,19 @@ run_more key old (l ∷ lines) (b ∷ answers) mid new line a run n k step =
     (run.0, run.1, run.2, run.3, run_more key run.2 lines answers mid new line a run.4 n k step)
 run_more key old _ _ mid new line a run n k step = absurd run
 
+-- the lines of a core among the first i + 1
+pub own_lines : (k : ℕ) (lines : List Ask) (i : ℕ) (d : Ask) → i < length lines → (get_or lines i d).core ≡ k
+    → asks_by k (take (i + 1) lines) ≡ asks_by k (take i lines) ++ get_or lines i d ∷ []
+own_lines k lines i d lt own =
+    let test : ((get_or lines i d).core == k) ≡ true = grind (arith, nat_tests) in
+    rw (filter_more (λ (l : Ask). l.core == k) lines i d lt, test) refl
+
+pub other_lines : (k : ℕ) (lines : List Ask) (i : ℕ) (d : Ask) → i < length lines → (get_or lines i d).core ≢ k
+    → asks_by k (take (i + 1) lines) ≡ asks_by k (take i lines)
+other_lines k lines i d lt other =
+    let test : ((get_or lines i d).core == k) ≡ false = grind (arith, nat_tests) in
+    rw (filter_more (λ (l : Ask). l.core == k) lines i d lt, test) (append-nil (asks_by k (take i lines)))
+
 -- the next line is the core's own
 pub line_ran : (core : ℕ) (lines : List Ask) (i : ℕ) (d : Ask) (key : Key) (old : List LabelledBlock) (answers : List Answer)
     (mid new : List LabelledBlock) (a : Answer)
@@ -45,21 +58,15 @@ pub line_ran : (core : ℕ) (lines : List Ask) (i : ℕ) (d : Ask) (key : Key) (
     → a.line ≡ (get_or lines i d).number → a.core ≡ core → DeskStep MayRefuse key mid (get_or lines i d).request a.reply new
     → DeskRun key old (asks_by core (take (i + 1) lines)) (answers ++ a ∷ []) new
 line_ran core lines i d key old answers mid new a run lt own n k step =
-    let line = get_or lines i d in
-    let test : (line.core == core) ≡ true = grind (arith, nat_tests) in
-    let more = filter_more (λ (l : Ask). l.core == core) lines i d lt in
-    rw (more, test) (run_more key old (asks_by core (take i lines)) answers mid new line a run n (k ∙ sym own) step)
+    rw (own_lines core lines i d lt own)
+    (run_more key old (asks_by core (take i lines)) answers mid new (get_or lines i d) a run n (k ∙ sym own) step)
 
 -- the next line is another core's
 pub line_skipped : (core : ℕ) (lines : List Ask) (i : ℕ) (d : Ask) (key : Key) (old : List LabelledBlock) (answers : List Answer)
     (mid : List LabelledBlock)
     → DeskRun key old (asks_by core (take i lines)) answers mid → i < length lines → (get_or lines i d).core ≢ core
     → DeskRun key old (asks_by core (take (i + 1) lines)) answers mid
-line_skipped core lines i d key old answers mid run lt other =
-    let line = get_or lines i d in
-    let test : (line.core == core) ≡ false = grind (arith, nat_tests) in
-    let more = filter_more (λ (l : Ask). l.core == core) lines i d lt in
-    rw (more, test, append-nil) run
+line_skipped core lines i d key old answers mid run lt other = rw (other_lines core lines i d lt other) run
 
 -- each record is a request
 pub ask_count : (first : ℕ) (lines : List Line) → All IsAsk lines → length (asks_from first lines) ≡ length lines

@@ -5,7 +5,7 @@ use Rattle.std.proofs.Common.{refl, sym, ap, subst, arith, Result, Ok, Err}
 use Rattle.std.proofs.lemmas.Grind.{common_steps}
 use Rattle.std.proofs.lemmas.List.{get_or-replicate, get_or-set_other, get_or-set_same, length-replicate}
 use Rattle.std.proofs.Math.Seq.{lt-length-set}
-use Rattle.std.proofs.lemmas.List.Elements.{All-head, All-tail}
+use Rattle.std.proofs.lemmas.List.Elements.{All-head, All-nil, All-tail}
 use Rattle.frame_model.specs.Block.{block}
 use Rattle.frame_model.specs.Holding.{IsHolding}
 use Rattle.frame_model.specs.declared.block.FrameBlock.{FrameBlock}
@@ -271,13 +271,10 @@ has_list cores core inside =
     let same : length (no_lists cores) ≡ cores = length-replicate cores [] in
     subst (λ n. core < n) (sym same) inside
 
-none_at_all : (P : LabelledBlock → Type 0) → HasNone P []
-none_at_all P k d inside = absurd (omega (arith, inside))
-
 -- one entry stands under the label, in front
-head_first : (label : List ℕ) (frame order : ℕ) (rest : List LabelledBlock)
+pub head_first : (label : List ℕ) (frame order : ℕ) (rest : List LabelledBlock)
     → TakesFirst (IsUnder label) (entry label frame order ∷ rest) (entry label frame order) rest
-head_first label frame order rest = record { front = []; back = rest; was = refl; stays = refl; holds = refl; first = none_at_all (IsUnder label) }
+head_first label frame order rest = record { front = []; back = rest; was = refl; stays = refl; holds = refl; first = All-nil (λ t. ¬ IsUnder label t) }
 
 gives_head : (label : List ℕ) (frame order : ℕ) (rest : List LabelledBlock) (r : Reply) (new : List LabelledBlock)
     → SaysGiven (λ o. GivesOldest (entry label frame order ∷ rest) label o new) r → r ≡ reply.Given frame order
@@ -294,7 +291,7 @@ gives_head label frame order rest _ new step = absurd step
 gives_none : (label : List ℕ) (r : Reply) (new : List LabelledBlock)
     → SaysGiven (λ o. GivesOldest [] label o new) r → r ≡ reply.Refused fault.NotHeld
 unfolding GivesFirst
-gives_none label (reply.Given g q) new step = absurd (not_none (IsUnder label) [] step.0 new step.2 (none_at_all (IsUnder label)))
+gives_none label (reply.Given g q) new step = absurd (not_none (IsUnder label) [] step.0 new step.2 (All-nil (λ t. ¬ IsUnder label t)))
 gives_none label (reply.Refused f) new step = ap (λ (t : Fault). reply.Refused t) (give_refused (IsUnder label) [] f new step).0
 gives_none label _ new step = absurd step
 

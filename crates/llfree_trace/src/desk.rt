@@ -128,6 +128,7 @@ impl PlainDesk {
     }
 
     // Gives the oldest block under a label.
+    #[tactic(auto, unfolding(held_blocks::specs::Desk::GivesFirst))]
     fn give(&mut self, label: &Label) -> Reply
         ensures step { SaysGiven (λ o. GivesOldest self.old.list label.now o self.new.list)
             result }
@@ -141,6 +142,7 @@ impl PlainDesk {
     }
 
     // Gives exactly this block.
+    #[tactic(auto, unfolding(held_blocks::specs::Desk::GivesFirst))]
     fn give_at(&mut self, frame: u32, order: u8) -> Reply
         ensures step { SaysGiven (λ o. GivesExactly self.old.list frame order o self.new.list)
             result }
@@ -176,6 +178,7 @@ impl PlainDesk {
     }
 
     // The words of the memory. Blocks of the list stay held.
+    #[tactic(auto, using(crate::proofs::Desks::held_exactly))]
     pub(crate) fn close(self, alloc: Global) -> Result<Image, Fault>
         ensures geometry { IfOk result (λ i. i.geometry ≡ self.geometry) }
         ensures holds { IfOk result (λ i. HoldsFrames (desk_key self) i.words

@@ -50,6 +50,7 @@ pub(crate) fn run_lines<G: Gate>(
 }
 
 /// Whether a core has requests among records that name so many cores.
+#[tactic(auto, using(crate::proofs::Workers::none_named, crate::proofs::Workers::none_more))]
 pub(crate) fn has_lines(core: u32, named: u32, lines: &[Line]) -> bool
     requires { All (λ l. cores_in l ≤ named) lines.now }
     ensures { OnFalse result (All (IsNoAskOf core) lines.now) }
@@ -107,6 +108,7 @@ fn answer_at<G: Gate>(
 }
 
 // Answers a request. Refused only for lack of memory.
+#[tactic(auto, using(crate::proofs::Replies::steps))]
 fn answer(desk: &mut Desk, allocator: &Allocator, request: &Request) -> Result<Reply, Fault>
     requires desk { IsDeskOf allocator.now desk.old }
     requires sealed { (memory_of allocator.now).sealed ≡ true }
@@ -134,6 +136,7 @@ fn given(outcome: Result<(u32, u8), Fault>) -> Reply
 }
 
 // The reply to a take, but where memory ran out.
+#[tactic(auto, using(crate::proofs::Replies::refused_if))]
 fn taken(outcome: Result<(u32, u8), Fault>) -> Result<Reply, Fault>
     ensures reply { IfOk result (IsTakenReply outcome) }
     ensures fault { IfErr result (λ e. e ≡ Fault.NoMemory) }

@@ -108,6 +108,7 @@ fn run_part<G: Gate, R: Threads + Wait>(
 }
 
 // How many requests come before the first record that is none.
+#[tactic(auto, using(crate::proofs::Workers::ask_more))]
 fn asks_before(lines: &[Line]) -> usize
     ensures within { result ≤ length lines.now }
     ensures asks { All IsAsk (take result lines.now) }

@@ -30,6 +30,7 @@ pub(crate) fn open_desks(
 }
 
 // A desk over each core, which keeps nothing.
+#[tactic(auto, using(crate::proofs::NewDesks::one_more_desk))]
 fn desks_over(alloc: Global, cores: Vec<Core>) -> Result<Vec<Desk>, Fault>
     requires { All (λ c. kept_by c ≡ []) cores.items }
     ensures empty { IfOk result (λ v. All (λ d. list_of d ≡ []) v.items) }

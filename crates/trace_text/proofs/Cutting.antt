@@ -2,91 +2,21 @@
 use Rattle.std.specs.Prelude.{if◌then◌else◌, ◌==◌, ◌||◌, ◌≢◌, slice_get, slice_index, ⊤}
 use Rattle.std.specs.Bool.{MatchBool}
 use Rattle.std.specs.List.{All}
-use Rattle.std.proofs.Common.{◌≡◌, ◌∙◌, ℕ, zero, suc, ◌-◌, ◌<◌, ◌≤◌, Bool, true, false, List, [], ◌∷◌, ◌++◌, length, take}
-use Rattle.std.proofs.Common.{Option, Some, None, refl, ap, sym, arith, append_assoc, add-one}
+use Rattle.std.proofs.Common.{◌≡◌, ◌∙◌, ℕ, suc, ◌-◌, ◌≤◌, Bool, true, false, List, [], ◌∷◌, ◌++◌, length, take}
+use Rattle.std.proofs.Common.{Some, None, refl, ap, sym, arith, append_assoc}
 use Rattle.std.proofs.lemmas.Bool.{ne_eqb}
 use Rattle.std.proofs.Math.Bool.{and-false}
 use Rattle.std.proofs.lemmas.List.Elements.{All-head, All-tail, All-take, All-drop}
-use Rattle.std.proofs.lemmas.List.{length-append, length-take-le, take_all}
+use Rattle.std.proofs.lemmas.List.{length-take-le, take_all}
 use Rattle.std.proofs.Math.Seq.{take-suc}
-use Rattle.csv.specs.Machine.{Read, ends_at_end, field_after, fields_after, in_field, is_end, next_record}
+use Rattle.csv.specs.Machine.{field_after, fields_after, in_field, is_end}
 use Rattle.csv.specs.Machine.{start_field, start_record, step}
-use Rattle.csv.specs.Reading.{default_config, is_bom, records, records_from, records_next, strip_bom}
+use Rattle.csv.specs.Reading.{default_config, is_bom, records, strip_bom}
 use Rattle.csv.specs.declared.parser.Action.{Action}
 use Rattle.csv.specs.declared.parser.State.{State}
 use Rattle.csv.specs.declared.parser.State.TheVariants as st
-use Rattle.csv.specs.Writing.{default_writer, is_blank, row_body, row_text}
-use Rattle.csv.proofs.RoundTrip.{read-write-many}
 use Rattle.frame_text.specs.Records.{records_of}
-
--- the records of a text from a state on, with the fields and the bytes of the field at hand
-rows_onward : State → List (List ℕ) → List ℕ → List ℕ → List (List (List ℕ))
-rows_onward s fields field [] = if ends_at_end s then (fields ++ (field ∷ [])) ∷ [] else []
-rows_onward s fields field (c ∷ rest) =
-    if is_end (step default_config s c).1
-    then fields_after (step default_config s c).1 fields field ∷ rows_onward (step default_config s c).0 [] [] rest
-    else rows_onward (step default_config s c).0 (fields_after (step default_config s c).1 fields field)
-    (field_after (step default_config s c).1 c field) rest
-
--- at the end of a text no records are left
-none_left : (n : ℕ) → records_from default_config n st.StartRecord [] ≡ []
-unfolding records_from next_record
-none_left zero = refl
-none_left (suc n) = refl
-
--- what a read gives by a test is what it gives on either side
-next_if : (b : Bool) (more : State → List ℕ → List (List (List ℕ))) (x y : Option Read) (p q : List (List (List ℕ)))
-    → records_next more x ≡ p → records_next more y ≡ q → records_next more (if b then x else y) ≡ (if b then p else q)
-next_if true more x y p q e f = e
-next_if false more x y p q e f = f
-
--- with a turn for each byte, record after record gives the rows of the text
-rows_by_turns : (n : ℕ) (s : State) (fields : List (List ℕ)) (field xs : List ℕ) → length xs ≤ n
-    → records_next (records_from default_config n) (next_record default_config s fields field xs) ≡ rows_onward s fields field xs
-unfolding rows_onward next_record records_from
-rows_by_turns n s fields field [] h =
-    next_if (ends_at_end s) _ _ _ _ _ (ap (λ (t : List (List (List ℕ))). (fields ++ (field ∷ [])) ∷ t) (none_left n)) refl
-rows_by_turns zero s fields field (c ∷ rest) h = absurd (omega arith)
-rows_by_turns (suc n) s fields field (c ∷ rest) h =
-    next_if (is_end (step default_config s c).1) _ _ _ _ _
-    (ap (λ (t : List (List (List ℕ))). fields_after (step default_config s c).1 fields field ∷ t)
-    (rows_by_turns n (step default_config s c).0 [] [] rest (omega arith)))
-    (rows_by_turns (suc n) (step default_config s c).0 _ _ rest (omega arith))
-
--- the records of a text are its rows from the start
-rows_are_records : (xs : List ℕ) → records default_config xs ≡ rows_onward st.StartRecord [] [] xs
-unfolding records_from
-rows_are_records xs = rw add-one (rows_by_turns (length xs) st.StartRecord [] [] xs (omega arith))
-
--- more turns than bytes read all records of a text
-enough_turns : (n : ℕ) (xs : List ℕ) → length xs < n → records_from default_config n st.StartRecord xs ≡ records default_config xs
-unfolding records_from
-enough_turns zero xs h = absurd (omega arith)
-enough_turns (suc n) xs h = rows_by_turns n st.StartRecord [] [] xs (omega arith) ∙ sym (rows_are_records xs)
-
--- what `csv` writes of a record of several fields is not nothing
-row_is_long : (a b : List ℕ) (others : List (List ℕ)) → 0 < length (row_text default_writer (a ∷ b ∷ others))
-unfolding is_blank
-row_is_long a b others = omega (arith, length-append (row_body default_writer (a ∷ b ∷ others)) (10 ∷ []))
-
--- a text that begins with what `csv` writes of a record of several fields has that record first
-row_first : (a b : List ℕ) (others : List (List ℕ)) (behind : List ℕ)
-    → records default_config (row_text default_writer (a ∷ b ∷ others) ++ behind)
-    ≡ (a ∷ b ∷ others) ∷ records default_config behind
-unfolding records_from
-row_first a b others behind =
-    let text = row_text default_writer (a ∷ b ∷ others) ++ behind in
-    rw (add-one, read-write-many a b others behind)
-    (ap (λ (t : List (List (List ℕ))). (a ∷ b ∷ others) ∷ t)
-    (enough_turns (length text) behind
-    (omega (arith, row_is_long a b others, length-append (row_text default_writer (a ∷ b ∷ others)) behind))))
-
--- so it has where no byte order mark is read over
-pub records_of_row : (a b : List ℕ) (others : List (List ℕ)) (behind : List ℕ)
-    → strip_bom (row_text default_writer (a ∷ b ∷ others) ++ behind) ≡ row_text default_writer (a ∷ b ∷ others) ++ behind
-    → strip_bom behind ≡ behind
-    → records_of (row_text default_writer (a ∷ b ∷ others) ++ behind) ≡ (a ∷ b ∷ others) ∷ records_of behind
-records_of_row a b others behind same unmarked = rw (same, unmarked) (row_first a b others behind)
+use Rattle.frame_text.proofs.Reading.{rows_are_records, rows_onward}
 
 -- a state outside quotes and comments, with no field at hand between two records
 abbrev IsPlain : State → List (List ℕ) → List ℕ → Type 0

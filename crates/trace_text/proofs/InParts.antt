@@ -24,27 +24,18 @@ nothing_read : (cores : ℕ) (lines : List Line) → trace_of cores [] ≡ Ok li
 unfolding trace_of records_from next_record strip_bom read_records
 nothing_read cores lines e = cc
 
--- two parts are read, one behind the other
-parts_read : (cores : ℕ) (first second : List ℕ) (front behind : List Line) → 3 ≤ length first
-    → slice_index first (length first - 1) ≡ line_feed → strip_bom second ≡ second
-    → SaysPlainly cores first front → SaysPlainly cores second behind
-    → length (front ++ behind) ≤ most_records → goes_behind front behind ≡ true
-    → trace_of cores (first ++ second) ≡ Ok (front ++ behind)
-unfolding trace_of
-parts_read cores first second front behind long ended unmarked a b few goes =
-    rw (records_apart first second long a.plain ended unmarked)
-    (read_both cores front behind (records_of first) (records_of second) a.says b.says goes (omega (arith, few, length-append front behind)))
-
--- the same where the first may be nothing
+-- two parts are read, one behind the other, of which the first may be nothing
 either_read : (cores : ℕ) (first second : List ℕ) (front behind : List Line) → EndsLine first → strip_bom second ≡ second
     → SaysPlainly cores first front → SaysPlainly cores second behind
     → length (front ++ behind) ≤ most_records → goes_behind front behind ≡ true
     → trace_of cores (first ++ second) ≡ Ok (front ++ behind)
+unfolding trace_of
 either_read cores first second front behind (inl none) unmarked a b few goes =
     let empty = nothing_read cores front (rw none at a.says) in
     rw (none, empty) b.says
 either_read cores first second front behind (inr ends) unmarked a b few goes =
-    parts_read cores first second front behind ends.0 ends.1 unmarked a b few goes
+    rw (records_apart first second ends.0 a.plain ends.1 unmarked)
+    (read_both cores front behind (records_of first) (records_of second) a.says b.says goes (omega (arith, few, length-append front behind)))
 
 -- a text says the records of its front and then those behind
 say_both : (cores : ℕ) (first second : List ℕ) (front behind lines : List Line) → EndsLine first → strip_bom second ≡ second

@@ -11,6 +11,7 @@ use Rattle.trace_text.specs.declared.line.Line.{Line}
 use Rattle.trace_text.specs.Parts.{goes_behind}
 use Rattle.trace_text.specs.Trace.{most_records}
 use Rattle.trace_text.specs.TraceText.{last_line, line_after, line_of, lines_with, may_follow}
+use Rattle.trace_text.proofs.Parsing.{read_more}
 
 -- where a record was taken, what follows made the value
 from_row : {S : Type 0} → (number : ℕ) (others : S → Result S ℕ) (found : Option S) (out : S)
@@ -55,8 +56,8 @@ was_taken cores lines row line e =
     taken (nat_lt (length lines) most_records) (last_line lines) (line_of cores row) line e
 
 -- a row that is a record, where it may follow, is taken for it
-is_taken : (cores : ℕ) (lines : List Line) (row : List (List ℕ)) (line : Line) → length lines < most_records
-    → line_of cores row ≡ Some line → may_follow (last_line lines) line ≡ true → line_after cores lines row ≡ Some line
+pub is_taken : (cores : ℕ) (lines : List Line) (row : List (List ℕ)) (line : Line) → length lines < most_records
+    → line_of cores row ≡ Some line → may_follow (last_line lines) line ≡ true → Some line ≡ line_after cores lines row
 unfolding line_after
 is_taken cores lines row line few is follows =
     let less : nat_lt (length lines) most_records ≡ true = grind (arith, nat_tests) in
@@ -82,13 +83,6 @@ stepped cores number made out row rows e =
     let more = grown made first.0 (line_after cores made row) first.1 in
     let is = was_taken cores made row more.0 more.1 in
     record { line = more.0; is = is.0; follows = is.1; others = rw more.2 at first.2 }
-
-step_on : (cores number : ℕ) (made out : List Line) (row : List (List ℕ)) (rows : List (List (List ℕ))) (line : Line)
-    → line_after cores made row ≡ Some line
-    → read_records (lines_with cores) (number + 1) (made ++ line ∷ []) rows ≡ Ok out
-    → read_records (lines_with cores) number made (row ∷ rows) ≡ Ok out
-unfolding read_records lines_with
-step_on cores number made out row rows line is others = rw is others
 
 -- the records so far stay the first
 begins : (cores number : ℕ) (made out : List Line) (rows : List (List (List ℕ)))
@@ -128,7 +122,7 @@ read_behind cores number other front made out (row ∷ rows) alike few e =
     let ends : last_line (front ++ (made ++ first.line ∷ [])) ≡ last_line (made ++ first.line ∷ []) =
     rw (← append_assoc front made (first.line ∷ [])) (last_is (front ++ made) first.line ∙ sym (last_is made first.line)) in
     let others = read_behind cores (number + 1) (other + 1) front (made ++ first.line ∷ []) out rows ends few first.others in
-    step_on cores other (front ++ made) (front ++ out) row rows first.line is (rw (append_assoc front made (first.line ∷ [])) others)
+    read_more cores other (front ++ made) row rows first.line is ∙ rw (append_assoc front made (first.line ∷ [])) others
 
 -- the same where no record was made of them before, if the first may follow
 read_anew : (cores number other : ℕ) (front out : List Line) (rows : List (List (List ℕ)))
@@ -146,7 +140,7 @@ read_anew cores number other front out (row ∷ rows) goes few e =
     let room : length front < most_records = omega (arith, few, ap length long.1) in
     let is = is_taken cores front row first.line room first.is follows in
     let others = read_behind cores (number + 1) (other + 1) front (first.line ∷ []) out rows (last_is front first.line ∙ sym (last_is [] first.line)) few first.others in
-    step_on cores other front (front ++ out) row rows first.line is others
+    read_more cores other front row rows first.line is ∙ others
 
 -- the records of two parts, one behind the other
 pub read_both : (cores : ℕ) (front behind : List Line) (rows more : List (List (List ℕ)))

@@ -1,30 +1,30 @@
 -- The text of records reads as these records.
-use Rattle.std.specs.Prelude.{◌≢◌, ◌≤◌, codes, decimal, nat_lt, replicate, ⊤}
+use Rattle.std.specs.Prelude.{◌≤◌, codes, decimal, replicate, ⊤}
 use Rattle.std.specs.List.{All}
 use Rattle.std.proofs.Common.{◌≡◌, ◌∙◌, ◌<◌, ◌+◌, ◌%◌, ◌^◌, ◌∷◌, ◌++◌, [], ℕ, zero, suc, List, Option, None, Some, Ok, ap, append_assoc, append-nil, arith, false, length, refl, sym, true}
 use Rattle.std.proofs.lemmas.Bool.{ne_eqb}
-use Rattle.std.proofs.lemmas.Bool.Decides.{nat_tests}
 use Rattle.std.proofs.lemmas.Fmt.{decimal_by_steps}
 use Rattle.std.proofs.lemmas.List.{get_or-replicate, length_push, length-append, length-replicate}
 use Rattle.std.proofs.lemmas.List.Folds.{list_any-append}
 use Rattle.std.proofs.lemmas.List.Elements.{All-cons, All-head, All-nil, All-tail}
 use Rattle.std.specs.Fmt.{digits}
 use Rattle.csv.specs.Machine.{next_record}
-use Rattle.csv.specs.Reading.{records_from, strip_bom}
-use Rattle.csv.specs.Writing.{default_writer, fields_text, is_blank, needs_byte, needs_quotes, row_text}
+use Rattle.csv.specs.Reading.{default_config, records, records_from, strip_bom}
+use Rattle.csv.specs.Writing.{default_writer, fields_text, is_blank, needs_byte, needs_quotes, read_back, row_text}
 use Rattle.frame_words.specs.Geometry.{most_cores}
 use Rattle.held_blocks.specs.Label.{is_label, is_label_byte, label_of}
 use Rattle.frame_text.specs.Records.{read_records, records_of}
 use Rattle.frame_text.proofs.NumberLemmas.{number_below-decimal}
 use Rattle.trace_text.specs.Spelling.{AreMost, IsRecord, IsSampleSpelled, IsTraceFor, TracesReadBack, fields_of, long_label, sample, spelled}
 use Rattle.trace_text.specs.Trace.{most_records}
-use Rattle.trace_text.specs.TraceText.{ask_of, give_at_of, give_of, last_line, line_after, line_of, lines_with, may_follow, move_of}
+use Rattle.trace_text.specs.TraceText.{ask_of, give_at_of, give_of, last_line, line_of, lines_with, may_follow, move_of}
 use Rattle.trace_text.specs.TraceText.{record_of, request_of, reserve_of, round_of, take_of, trace_of}
 use Rattle.trace_text.specs.declared.line.Line.{Line}
 use Rattle.trace_text.specs.declared.line.Line.TheVariants as line
 use Rattle.trace_text.specs.declared.line.Request.TheVariants as request
-use Rattle.trace_text.proofs.Cutting.{records_of_row}
-use Rattle.trace_text.proofs.Joining.{last_is}
+use Rattle.frame_text.proofs.ReadBack.{row_first}
+use Rattle.trace_text.proofs.Cutting.{no_mark}
+use Rattle.trace_text.proofs.Joining.{is_taken, last_is}
 use Rattle.trace_text.proofs.Parsing.{read_all, read_more}
 
 -- a digit calls for no quotes
@@ -43,18 +43,11 @@ number_is_plain n small =
     (λ m ds high before. rw (list_any-append (needs_byte default_writer) ds ((48 + m % 10) ∷ []), before, digit_is_plain (m % 10)) refl)
     n small
 
--- a text that begins with another byte begins with no byte order mark
-other_byte : (c : ℕ) (cs : List ℕ) → c ≢ 239 → strip_bom (c ∷ cs) ≡ c ∷ cs
-unfolding strip_bom
-other_byte c [] other = refl
-other_byte c (a ∷ []) other = refl
-other_byte c (a ∷ b ∷ cs) other = rw (ne_eqb c 239 other) refl
-
--- nor does one that begins with a number
+-- a text that begins with a number begins with no byte order mark
 number_first : (n : ℕ) → n < 2 ^ 64 → (behind : List ℕ) → strip_bom (decimal n ++ behind) ≡ decimal n ++ behind
 number_first n small =
     decimal_by_steps (λ m ds. (behind : List ℕ) → strip_bom (ds ++ behind) ≡ ds ++ behind)
-    (λ m low behind. other_byte (48 + m) behind (λ e. omega arith))
+    (λ m low behind. no_mark (48 + m) behind (λ e. omega arith))
     (λ m ds high before behind.
     rw (append_assoc ds ((48 + m % 10) ∷ []) behind) (before ((48 + m % 10) ∷ behind)))
     n small
@@ -100,15 +93,6 @@ line_read cores (line.Reserve frame count) few is =
       number_below-decimal (2 ^ 32) count is.1 (omega (arith, is.1)),
     ) refl
 
--- and goes behind others where it may
-line_goes : (cores : ℕ) (front : List Line) (line : Line) → cores ≤ most_cores → IsRecord cores line
-    → length front < most_records → may_follow (last_line front) line ≡ true
-    → Some line ≡ line_after cores front (fields_of line)
-unfolding line_after
-line_goes cores front line few is room may =
-    let low : nat_lt (length front) most_records ≡ true = grind (arith, nat_tests) in
-    rw (low, line_read cores line few is, may) refl
-
 -- no record begins with a byte order mark
 row_unmarked : (cores : ℕ) (line : Line) (behind : List ℕ) → cores ≤ most_cores → IsRecord cores line
     → strip_bom (row_text default_writer (fields_of line) ++ behind) ≡ row_text default_writer (fields_of line) ++ behind
@@ -121,8 +105,8 @@ row_unmarked cores (line.Ask core (request.GiveAt frame order)) behind few is =
     row_with_number core (omega (arith, few, is.0)) (codes "giveat") (decimal frame) (decimal order) behind
 row_unmarked cores (line.Move core label to) behind few is =
     row_with_number core (omega (arith, few, is.0)) (codes "move") label (decimal to) behind
-row_unmarked cores line.Round behind few is = other_byte 44 _ (λ e. omega arith)
-row_unmarked cores (line.Reserve frame count) behind few is = other_byte 44 _ (λ e. omega arith)
+row_unmarked cores line.Round behind few is = no_mark 44 _ (λ e. omega arith)
+row_unmarked cores (line.Reserve frame count) behind few is = no_mark 44 _ (λ e. omega arith)
 
 -- so no text of records does
 text_unmarked : (cores : ℕ) (lines : List Line) → cores ≤ most_cores → All (IsRecord cores) lines
@@ -131,26 +115,23 @@ unfolding spelled strip_bom
 text_unmarked cores [] few each = refl
 text_unmarked cores (line ∷ lines) few each = row_unmarked cores line (spelled lines) few (All-head (IsRecord cores) line lines each)
 
--- the record that a text begins with, and those behind it
-first_of_row : (line : Line) (behind : List ℕ)
-    → strip_bom (row_text default_writer (fields_of line) ++ behind) ≡ row_text default_writer (fields_of line) ++ behind
-    → strip_bom behind ≡ behind
-    → records_of (row_text default_writer (fields_of line) ++ behind) ≡ fields_of line ∷ records_of behind
+-- the row of a record is read as it was written
+row_read : (line : Line) → read_back (fields_of line) ≡ fields_of line
 unfolding fields_of
-first_of_row (line.Ask core (request.Take label order)) behind same unmarked = records_of_row _ _ _ behind same unmarked
-first_of_row (line.Ask core (request.Give label)) behind same unmarked = records_of_row _ _ _ behind same unmarked
-first_of_row (line.Ask core (request.GiveAt frame order)) behind same unmarked = records_of_row _ _ _ behind same unmarked
-first_of_row (line.Move core label to) behind same unmarked = records_of_row _ _ _ behind same unmarked
-first_of_row line.Round behind same unmarked = records_of_row _ _ _ behind same unmarked
-first_of_row (line.Reserve frame count) behind same unmarked = records_of_row _ _ _ behind same unmarked
+row_read (line.Ask core (request.Take label order)) = refl
+row_read (line.Ask core (request.Give label)) = refl
+row_read (line.Ask core (request.GiveAt frame order)) = refl
+row_read (line.Move core label to) = refl
+row_read line.Round = refl
+row_read (line.Reserve frame count) = refl
 
 -- the first record of a text of records, and those behind it
 first_of_text : (cores : ℕ) (line : Line) (lines : List Line) → cores ≤ most_cores → All (IsRecord cores) (line ∷ lines)
     → records_of (spelled (line ∷ lines)) ≡ fields_of line ∷ records_of (spelled lines)
 unfolding spelled
 first_of_text cores line lines few each =
-    first_of_row line (spelled lines) (text_unmarked cores (line ∷ lines) few each)
-    (text_unmarked cores lines few (All-tail (IsRecord cores) line lines each))
+    rw (text_unmarked cores (line ∷ lines) few each, text_unmarked cores lines few (All-tail (IsRecord cores) line lines each))
+    (row_first (fields_of line) (spelled lines) ∙ ap (λ row. row ∷ records default_config (spelled lines)) (row_read line))
 
 -- nothing has no records
 none_in_nothing : records_of [] ≡ []
@@ -167,7 +148,8 @@ read_to_end cores lines front [] few trace whole each =
 read_to_end cores lines front (line ∷ behind) few trace whole each =
     let room : length front < most_records =
     omega (arith, trace.few, ap (λ (t : List Line). length t) whole, length-append front (line ∷ behind)) in
-    let goes = line_goes cores front line few (All-head (IsRecord cores) line behind each) room (trace.order front behind line whole) in
+    let is = line_read cores line few (All-head (IsRecord cores) line behind each) in
+    let goes = is_taken cores front (fields_of line) line room is (trace.order front behind line whole) in
     let more = read_more cores (length front + 1) front (fields_of line) (records_of (spelled behind)) line goes in
     let others = read_to_end cores lines (front ++ line ∷ []) behind few trace
     (whole ∙ sym (append_assoc front (line ∷ []) behind)) (All-tail (IsRecord cores) line behind each) in

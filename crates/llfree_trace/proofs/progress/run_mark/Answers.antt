@@ -1,4 +1,4 @@
-use Rattle.std.proofs.Common.{arith, refl}
+use Rattle.std.proofs.Common.{◌∷◌, [], arith, refl}
 use Rattle.held_blocks.specs.Desk.{MayRefuse}
 use Rattle.core_frames.specs.Cores.{memory_of}
 use Rattle.llfree_trace.specs.Rounds.{lists_at}
@@ -15,6 +15,6 @@ returns-in_ok-push-in-Move-clause-goes c =
 
 pub returns-in-Round-clause-goes : goal.returns-in-Round-clause-goes
 returns-in-Round-clause-goes c =
-    goes_unanswered c.args.allocator.now c.args.number c.args.line.now c.args.progress c.requires.desks
+    goes_unanswered c.args.allocator.now c.args.number (c.args.line.now ∷ []) c.args.progress c.requires.desks
     (unanswered MayRefuse (memory_of c.args.allocator.now) c.args.number (lists_at c.args.progress.desks.items) c.args.line.now
     c.in-Round.is)

@@ -1,13 +1,15 @@
-use Rattle.std.proofs.Common.{◌≡◌, ◌+◌, take, drop, length, arith, rules}
+use Rattle.std.proofs.Common.{◌≡◌, ◌+◌, [], take, drop, length, refl, arith, rules}
 use Rattle.std.proofs.Math.Seq.{take-add}
 use Rattle.std.proofs.lemmas.List.{length-take}
-use Rattle.llfree_trace.proofs.GoingOn.{goes_both, rest_of, stands_still}
+use Rattle.llfree_trace.specs.Outcome.{Runs}
+use Rattle.llfree_trace.proofs.GoingOn.{goes_both, goes_unanswered, rest_of}
 use Rattle.llfree_trace.proofs.progress.run_rounds.Goals as goal
 
 pub loop-done-init : goal.loop-done-init
+unfolding Runs
 loop-done-init g c = record {
   within = omega arith;
-  goes = stands_still c.args.allocator.now 1 c.args.start c.requires.desks;
+  goes = goes_unanswered c.args.allocator.now 1 [] c.args.start c.requires.desks refl;
 }
 
 pub loop-done-preserved : goal.loop-done-preserved

@@ -1,5 +1,3 @@
-use Rattle.std.proofs.Common.{refl, arith}
-use Rattle.held_blocks.specs.Desk.{GivesFirst}
 use Rattle.llfree_trace.proofs.Desks.{agrees_less, is_out}
 use Rattle.llfree_trace.proofs.desk.PlainDesk.give_at.Goals as goal
 
@@ -12,15 +10,3 @@ pub invariant_of-self : goal.invariant_of-self
 invariant_of-self c =
     agrees_less c.self.inside.allocator _ c.self.inside.list.entries c.remove_exact.new.self.entries c.in-Some.held _
     c.self.invariant c.in-Some.ensures.taken c.give_back.ensures.out c.give_back.ensures.kept
-
-pub returns-in-Some-clause-step : goal.returns-in-Some-clause-step
-unfolding GivesFirst
-returns-in-Some-clause-step c =
-    rw (← c.self.view_is, c.give_back.ensures.reply)
-    ((λ high. absurd (omega arith)), (λ _. (c.in-Some.held, refl, c.in-Some.ensures.taken)))
-
-pub returns-in-None-clause-step : goal.returns-in-None-clause-step
-unfolding GivesFirst
-returns-in-None-clause-step c =
-    rw (← c.self.view_is, c.in-None.ensures.unchanged)
-    ((λ high. absurd (omega arith)), (λ _. (c.in-None.ensures.none, refl)))
