@@ -16,23 +16,23 @@ use Rattle.frame_zones.specs.Zones.{core_at, AreCoresOf, IsOutOfItsZone}
 use Rattle.frame_zones.specs.declared.block.ZoneBlock.{ZoneBlock}
 use Rattle.frame_zones.specs.declared.zones.Zones.{Zones}
 use Rattle.frame_zones.specs.declared.zones.ZoneCore.{ZoneCore}
-use Rattle.zone_slots.specs.Parts.{part_count, AreMore, BeginsNext, LaysParts}
+use Rattle.zone_slots.specs.Parts.{parts_in, AreMore, BeginsNext, LaysParts}
 use Rattle.zone_slots.specs.declared.parts.Parts.{Parts}
 
 -- of an order below, a block has twice as many parts as each of its halves
-twice : (order to : ℕ) → to < order → part_count order to ≡ part_count (order - 1) to + part_count (order - 1) to
+twice : (order to : ℕ) → to < order → parts_in order to ≡ parts_in (order - 1) to + parts_in (order - 1) to
 twice order to below =
     let more : order - to ≡ (order - 1 - to) + 1 = omega (arith, below) in
     omega (arith, ap (λ n. 2 ^ n) more, pow-add 2 (order - 1 - to) 1)
 
 -- the parts have the frames of the block
-all_frames : (order to : ℕ) → to ≤ order → part_count order to * 2 ^ to ≡ 2 ^ order
+all_frames : (order to : ℕ) → to ≤ order → parts_in order to * 2 ^ to ≡ 2 ^ order
 all_frames order to few =
     let sum : (order - to) + to ≡ order = omega (arith, few) in
     sym (pow-add 2 (order - to) to) ∙ ap (λ n. 2 ^ n) sum
 
 -- of its own order a block is the only part
-only_one : (order to : ℕ) → order ≡ to → part_count order to ≡ 1
+only_one : (order to : ℕ) → order ≡ to → parts_in order to ≡ 1
 only_one order to same =
     let none : order - to ≡ 0 = omega (arith, same) in
     ap (λ n. 2 ^ n) none
@@ -41,7 +41,7 @@ only_one order to same =
 pub one_laid : (zs : Zones) (b : ZoneBlock) (p q : Parts) (c d : ZoneCore) → IsOutOfItsZone zs b
     → b.block.order ≡ p.order → AreMore 1 p q → d ≡ c → LaysParts zs b p q c d
 one_laid zs b p q c d out same more stays =
-    let one : part_count b.block.order p.order ≡ 1 = only_one b.block.order p.order same in
+    let one : parts_in b.block.order p.order ≡ 1 = only_one b.block.order p.order same in
     subst (λ e. LaysParts zs b p q c e) (sym stays) (record {
       parts = subst (λ n. AreMore n p q) (sym one) more;
       split = record {
@@ -98,7 +98,7 @@ lower_next zs b first second p c d are out split next larger =
 
 pub upper_next : (zs : Zones) (b first second : ZoneBlock) (p q : Parts) (c d : ZoneCore) → AreCoresOf zs c
     → IsOutOfItsZone zs b → HasSplitIn zs b first second c d → BeginsNext p b → ¬ (b.block.order ≡ p.order)
-    → AreMore (part_count first.block.order p.order) p q → BeginsNext q second
+    → AreMore (parts_in first.block.order p.order) p q → BeginsNext q second
 upper_next zs b first second p q c d are out split next larger more =
     let halves = halves_in zs b first second c d are out split in
     let below : p.order < b.block.order = omega (arith, next.order, larger) in
@@ -106,7 +106,7 @@ upper_next zs b first second p q c d are out split next larger more =
     let order : second.block.order ≡ b.block.order - 1 = ap (λ (h : FrameBlock). h.order) halves.upper in
     let frame : second.block.frame ≡ b.block.frame + 2 ^ (b.block.order - 1) =
     ap (λ (h : FrameBlock). h.frame) halves.upper in
-    let half : ℕ = part_count (b.block.order - 1) p.order in
+    let half : ℕ = parts_in (b.block.order - 1) p.order in
     let count : q.count ≡ p.count + half = more.count ∙ ap (λ n. p.count + 2 ^ (n - p.order)) lower in
     let size : half * 2 ^ p.order ≡ 2 ^ (b.block.order - 1) = all_frames (b.block.order - 1) p.order (omega (arith, below)) in
     let there : q.frame + q.count * 2 ^ q.order ≡ p.frame + (p.count + half) * 2 ^ p.order =
@@ -141,8 +141,8 @@ pub both_laid : (zs : Zones) (b first second : ZoneBlock) (p q r : Parts) (c d e
 both_laid zs b first second p q r c d e f are out split others few at larger one two =
     let halves = halves_in zs b first second c d are out split in
     let below : p.order < b.block.order = omega (arith, at, larger) in
-    let half : ℕ = part_count (b.block.order - 1) p.order in
-    let all : part_count b.block.order p.order ≡ half + half = twice b.block.order p.order below in
+    let half : ℕ = parts_in (b.block.order - 1) p.order in
+    let all : parts_in b.block.order p.order ≡ half + half = twice b.block.order p.order below in
     let lower : first.block.order - p.order ≡ b.block.order - 1 - p.order =
     ap (λ (h : FrameBlock). h.order - p.order) halves.lower in
     let upper : second.block.order - q.order ≡ b.block.order - 1 - p.order =
@@ -181,7 +181,7 @@ both_laid zs b first second p q r c d e f are out split others few at larger one
           two.split.moves,
           ap (λ n. most_in_split * (2 ^ n - 1)) lower,
           ap (λ n. most_in_split * (2 ^ n - 1)) upper,
-          moves_twice most_in_split half (part_count b.block.order p.order) all (pow_pos (b.block.order - 1 - p.order)),
+          moves_twice most_in_split half (parts_in b.block.order p.order) all (pow_pos (b.block.order - 1 - p.order)),
         );
       };
     }

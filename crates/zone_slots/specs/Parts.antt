@@ -19,8 +19,8 @@ use Rattle.zone_slots.specs.declared.refusal.Refusal.TheVariants.{NotHeld, NoPar
 use Rattle.zone_slots.specs.declared.zone_receipt.ZoneReceipt.{ZoneReceipt}
 
 -- how many blocks of an order make up one of another
-abbrev pub part_count : (order to : ℕ) → ℕ
-part_count order to = 2 ^ (order - to)
+abbrev pub parts_in : (order to : ℕ) → ℕ
+parts_in order to = 2 ^ (order - to)
 
 -- what was laid down side by side: the first block, by its number among the frames of all zones, and how
 -- many they are
@@ -29,7 +29,7 @@ parts_laid zs p = (block (first_frame_of zs p.zone + p.frame) p.order, p.count)
 
 -- all blocks of an order that make up the block: the first one, and how many they are
 abbrev pub parts_of : (frame order to : ℕ) → FrameBlock × ℕ
-parts_of frame order to = (block frame to, part_count order to)
+parts_of frame order to = (block frame to, parts_in order to)
 
 -- so many more were laid down
 pub record AreMore (n : ℕ) (p q : Parts) : Type 0 where
@@ -51,14 +51,14 @@ pub record BeginsNext (p : Parts) (b : ZoneBlock) : Type 0 where
   pub zone : b.zone ≡ p.zone
   pub frame : b.block.frame ≡ p.frame + p.count * 2 ^ p.order
   pub order : p.order ≤ b.block.order
-  pub few : p.count + part_count b.block.order p.order ≤ 512
+  pub few : p.count + parts_in b.block.order p.order ≤ 512
 
 -- there is such a block in the allocator's memory, of this order or a larger one, and the core lends a
 -- block for each of its parts in place of one
 pub record SplitsToAt (a : Allocator) (order to frame : ℕ) (c d : Core) : Type 0 where
   pub block : HasBlock order frame a
   pub fits : to ≤ order
-  pub lent : lent_by d +ℤ pos 1 ≡ lent_by c +ℤ pos (part_count order to)
+  pub lent : lent_by d +ℤ pos 1 ≡ lent_by c +ℤ pos (parts_in order to)
 
 -- the block was split in the zone, by a split less than it has parts, and in every other zone all is as
 -- before
@@ -66,7 +66,7 @@ pub record SplitsToInZone (zs : Zones) (order to : ℕ) (c d : ZoneCore) (z loca
   pub here : (a : Allocator) (x : Core)
       → SplitsToAt (zone_at zs z a) order to local (core_at c z x) (core_at d z x)
   pub others : OthersStay zs z c d
-  pub moves : moves_through d ≤ moves_through c + most_in_split * (part_count order to - 1)
+  pub moves : moves_through d ≤ moves_through c + most_in_split * (parts_in order to - 1)
 
 -- the block that begins at the frame of this number was split
 abbrev pub SplitsToByNumber : Zones → (order to frame : ℕ) → ZoneCore → ZoneCore → Type 0
@@ -74,7 +74,7 @@ SplitsToByNumber zs order to frame c d = IsInZone zs frame (SplitsToInZone zs or
 
 -- the block was split in its zone, and all its parts were laid down behind those before
 pub record LaysParts (zs : Zones) (b : ZoneBlock) (p q : Parts) (c d : ZoneCore) : Type 0 where
-  pub parts : AreMore (part_count b.block.order p.order) p q
+  pub parts : AreMore (parts_in b.block.order p.order) p q
   pub split : SplitsToInZone zs b.block.order p.order c d b.zone b.block.frame
 
 -- a block has parts of the order
