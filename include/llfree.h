@@ -243,6 +243,14 @@ enum llfree_status llfree_split(llfree_core *handle, uint32_t frame, uint8_t ord
 LLFREE_NODISCARD
 enum llfree_status llfree_split_to(llfree_core *handle, uint32_t frame, uint8_t order, uint8_t to);
 
+/* Writes the order of the held block that begins at this frame, as one look at the library's list sees it, from the
+ * largest order down. Nothing is taken or changed. On NOT_HELD (no block was seen that begins there) and CLOSED_HANDLE
+ * *order is unchanged. (That a held block is seen is tested, not proved.) While other threads give or split that very
+ * block, it may be seen as before or as after, or not at all. A block in a struct is not on the list. It never locks
+ * or waits. */
+LLFREE_NODISCARD
+enum llfree_status llfree_order_at(llfree_core *handle, uint32_t frame, uint8_t *order);
+
 /* The frames of all zones of the memory, those of the ranges too; 0 if the handle is closed. */
 uint32_t llfree_frames(llfree_core *handle);
 

@@ -117,6 +117,16 @@ static inline enum llfree_status llfree_pool_split_to(llfree_desk *desks, size_t
     return status;
 }
 
+/* llfree_order_at through a desk. */
+LLFREE_NODISCARD
+static inline enum llfree_status llfree_pool_order_at(llfree_desk *desks, size_t count, uint32_t frame, uint8_t *order)
+{
+    llfree_desk *desk = llfree_sit(desks, count);
+    enum llfree_status status = llfree_order_at(&desk->core, frame, order);
+    llfree_leave(desk);
+    return status;
+}
+
 /* Takes a run through the core of a desk: frames side by side, up to 512, the first a multiple of the alignment, a power
  * of two up to 512. The smallest block that has them is taken as by llfree_pool_take and split, and what lies behind
  * them is given. So a run is blocks of falling orders, one for each bit of its length, and other threads see the whole

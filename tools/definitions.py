@@ -66,7 +66,8 @@ PAGES = [
             "llfree_plain_take", "llfree_plain_give", "llfree_plain_split", "llfree_plain_is_held"]),
         ("one thread: opening and closing", [
             "llfree_plain_open", "llfree_plain_reopen", "llfree_plain_close_image"]),
-        ("several threads: a take, a give, a split", ["llfree_take", "llfree_give", "llfree_split", "llfree_split_to"]),
+        ("several threads: a take, a give, a split", ["llfree_take", "llfree_give", "llfree_split", "llfree_split_to",
+            "llfree_order_at"]),
         ("several threads: blocks in structs", [
             "llfree_take_block", "llfree_give_block", "llfree_split_block"]),
         ("several threads: single frames that rest with a core", [

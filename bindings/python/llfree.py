@@ -72,6 +72,7 @@ for _name, _answer, *_arguments in (
         ('reopen', _u32, _to(Handle), _size, _u32, _to(_u64), _size, _to(Claim), _size),
         ('take', _u32, _to(Handle), _u8, _to(_u32)), ('give', _u32, _to(Handle), _u32, _u8),
         ('split', _u32, _to(Handle), _u32, _u8), ('split_to', _u32, _to(Handle), _u32, _u8, _u8),
+        ('order_at', _u32, _to(Handle), _u32, _to(_u8)),
         ('take_frame', _u32, _to(Handle), _to(Block)),
         ('give_frame', _u32, _to(Handle), _to(Block)),
         ('take_frames', _u32, _to(Handle), _to(Block), _size, _to(_size)),
@@ -140,6 +141,12 @@ class Core:
         """From then on each of its blocks of order to is given by itself."""
         numbers = _fits(frame, 32, Status.NOT_HELD), _fits(order, 8, Status.BAD_ORDER), _fits(to, 8, Status.BAD_ORDER)
         _checked(self._call('split_to', *numbers))
+
+    def order_at(self, frame):
+        """The order of the held block that begins at this frame, or Refused."""
+        order = _u8()
+        _checked(self._call('order_at', _fits(frame, 32, Status.NOT_HELD), order))
+        return order.value
 
     def take_frame(self, tries=1):
         """A single frame, or Refused: the one that came to rest with this core last, if any. give_frame gives it."""

@@ -49,7 +49,11 @@ class Calls(unittest.TestCase):
         for order, to in ((9, 10), (10, 3), (3, 4), (9, 256), (9, -1)):
             self.refused(llfree.Status.BAD_ORDER, first.split_to, huge, order, to)
         self.refused(llfree.Status.NOT_HELD, first.split_to, huge, 8, 3)
+        self.assertEqual(second.order_at(huge), 9)
+        for frame in (huge + 8, -1, 1 << 31, 1 << 32):
+            self.refused(llfree.Status.NOT_HELD, first.order_at, frame)
         second.split_to(huge, 9, 3)
+        self.assertEqual((first.order_at(huge), second.order_at(huge + 504)), (3, 3))
         self.refused(llfree.Status.NOT_HELD, first.split_to, huge, 9, 3)
         for frame in range(huge, huge + 512, 8):
             second.give(frame, 3)

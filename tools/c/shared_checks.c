@@ -16,12 +16,14 @@ static void statuses(void)
 {
     llfree_core h[2] = { LLFREE_CLOSED, LLFREE_CLOSED }, many[65];
     uint32_t f = 77, g = 77;
+    uint8_t order = 77;
 
     memset(many, 0, sizeof many);
     CHECK(llfree_take(&h[0], 0, &f) == LLFREE_CLOSED_HANDLE && f == 77);
     CHECK(llfree_give(&h[0], 0, 0) == LLFREE_CLOSED_HANDLE);
     CHECK(llfree_split(&h[0], 0, 1) == LLFREE_CLOSED_HANDLE);
     CHECK(llfree_split_to(&h[0], 0, 1, 0) == LLFREE_CLOSED_HANDLE);
+    CHECK(llfree_order_at(&h[0], 0, &order) == LLFREE_CLOSED_HANDLE && order == 77);
     llfree_close(&h[0]);
     CHECK(llfree_open(h, 0, 3 * 512, NULL, 0) == LLFREE_BAD_GEOMETRY);
     CHECK(llfree_open(many, 65, 3 * 512, NULL, 0) == LLFREE_BAD_GEOMETRY);
@@ -42,17 +44,22 @@ static void statuses(void)
     CHECK(llfree_give(&h[1], UINT32_MAX, 3) == LLFREE_NOT_HELD);
     CHECK(llfree_split(&h[1], f, 2) == LLFREE_NOT_HELD);
     CHECK(llfree_split(&h[1], f, 0) == LLFREE_BAD_ORDER);
-    for (int order = 0; order < 256; order++)
+    for (int of = 0; of < 256; of++)
         for (int to = 0; to < 256; to++) {
-            bool has_parts = order <= LARGEST && to <= order;
-            CHECK(order == 3 || llfree_split_to(&h[1], f, (uint8_t)order, (uint8_t)to) ==
-                                    (has_parts ? LLFREE_NOT_HELD : LLFREE_BAD_ORDER));
-            CHECK(llfree_split_to(&h[1], f + 8, (uint8_t)order, (uint8_t)to) ==
+            bool has_parts = of <= LARGEST && to <= of;
+            CHECK(of == 3 || llfree_split_to(&h[1], f, (uint8_t)of, (uint8_t)to) ==
+                                 (has_parts ? LLFREE_NOT_HELD : LLFREE_BAD_ORDER));
+            CHECK(llfree_split_to(&h[1], f + 8, (uint8_t)of, (uint8_t)to) ==
                   (has_parts ? LLFREE_NOT_HELD : LLFREE_BAD_ORDER));
         }
     CHECK(llfree_split_to(&h[1], f, 3, 4) == LLFREE_BAD_ORDER);
     CHECK(llfree_split_to(&h[1], f, 3, 3) == LLFREE_OK);
     CHECK(llfree_split_to(&h[1], UINT32_MAX, 3, 0) == LLFREE_NOT_HELD);
+    CHECK(llfree_order_at(&h[1], f, &order) == LLFREE_OK && order == 3);
+    order = 77;
+    for (uint32_t at = 0; at < 4 * 512; at++)
+        CHECK(at == f || (llfree_order_at(&h[0], at, &order) == LLFREE_NOT_HELD && order == 77));
+    CHECK(llfree_order_at(&h[0], UINT32_MAX, &order) == LLFREE_NOT_HELD && order == 77);
     CHECK(llfree_take(&h[1], LARGEST, &g) == LLFREE_OK && g % 512 == 0);
     CHECK(llfree_give(&h[1], f, 3) == LLFREE_OK);
     CHECK(llfree_give(&h[0], f, 3) == LLFREE_NOT_HELD);
@@ -258,6 +265,7 @@ static void splits_to(void)
 {
     llfree_core h[2] = { LLFREE_CLOSED, LLFREE_CLOSED };
     uint32_t f = 0, g = 0;
+    uint8_t seen = 0;
 
     CHECK(llfree_open(h, 2, 2 * 512, NULL, 0) == LLFREE_OK);
     for (uint8_t order = 0; order <= LARGEST; order++)
@@ -265,6 +273,9 @@ static void splits_to(void)
             CHECK(llfree_take(&h[0], order, &f) == LLFREE_OK);
             CHECK(llfree_split_to(&h[1], f, order, to) == LLFREE_OK);
             CHECK(llfree_free_frames(&h[0]) == 2 * 512 - (1u << order));
+            for (g = f; g < f + (1u << order); g++)
+                CHECK((g - f) % (1u << to) == 0 ? llfree_order_at(&h[g % 2], g, &seen) == LLFREE_OK && seen == to :
+                                                  llfree_order_at(&h[g % 2], g, &seen) == LLFREE_NOT_HELD);
             for (uint8_t of = 0; of <= LARGEST; of++)
                 if (of != to)
                     for (g = f; g < f + (1u << order); g++)
@@ -453,6 +464,11 @@ static void random_numbers(void)
         uint32_t f = (x >> 16) % 8 == 0 ? (uint32_t)(x >> 20) : (uint32_t)(x >> 20) % ALL;
         uint32_t size = order <= LARGEST ? 1u << order : 0;
         bool is_out = f < ALL && order <= LARGEST && begins[f] == order + 1;
+        uint8_t seen = 77;
+        if (f < ALL && begins[f] != 0)
+            CHECK(llfree_order_at(me, f, &seen) == LLFREE_OK && seen + 1 == begins[f]);
+        else
+            CHECK(llfree_order_at(me, f, &seen) == LLFREE_NOT_HELD && seen == 77);
         if (x % 3 == 0) {
             uint32_t was = f, status = llfree_take(me, order, &f);
             if (status != LLFREE_OK) {

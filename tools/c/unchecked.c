@@ -23,6 +23,7 @@ static void statuses(void)
     llfree_core h[2] = { LLFREE_CLOSED, LLFREE_CLOSED };
     llfree_block a = LLFREE_EMPTY, b = LLFREE_EMPTY, c = LLFREE_EMPTY;
     uint32_t f = 77;
+    uint8_t seen = 77;
 
     CHECK(llfree_take_block(&h[0], 0, &a) == LLFREE_CLOSED_HANDLE && is_empty(&a));
     CHECK(llfree_give_block(&h[0], &a) == LLFREE_CLOSED_HANDLE && is_empty(&a));
@@ -59,6 +60,9 @@ static void statuses(void)
     CHECK(llfree_take_block(&h[0], 9, &a) == LLFREE_OK);
     CHECK(llfree_give(&h[0], a.frame, 9) == LLFREE_NOT_HELD);
     CHECK(llfree_split(&h[0], a.frame, 9) == LLFREE_NOT_HELD);
+    for (uint8_t order = 0; order <= LARGEST; order++)
+        CHECK(llfree_split_to(&h[0], a.frame, order, 0) == LLFREE_NOT_HELD);
+    CHECK(llfree_order_at(&h[0], a.frame, &seen) == LLFREE_NOT_HELD && seen == 77);
     llfree_close(&h[0]);
     CHECK(llfree_give_block(&h[0], &a) == LLFREE_CLOSED_HANDLE && a.live);
     CHECK(llfree_give_block(&h[1], &a) == LLFREE_OK);

@@ -158,6 +158,7 @@ static void holes(void)
     static llfree_block blocks[END];
     static unsigned char seen[END];
     llfree_core h[3] = { LLFREE_CLOSED, LLFREE_CLOSED, LLFREE_CLOSED };
+    uint8_t told = 77;
     uint32_t f = 0;
 
     for (int in_structs = 0; in_structs < 2; in_structs++) {
@@ -213,12 +214,14 @@ static void holes(void)
             CHECK(llfree_give(&h[i], none[k], 0) == LLFREE_NOT_HELD);
             CHECK(llfree_split(&h[i], none[k], 1) == LLFREE_NOT_HELD);
             CHECK(llfree_split_to(&h[i], none[k], 1, 0) == LLFREE_NOT_HELD);
+            CHECK(llfree_order_at(&h[i], none[k], &told) == LLFREE_NOT_HELD && told == 77);
         }
         CHECK(llfree_give(&h[i], 8192 - f, LARGEST) == LLFREE_NOT_HELD);
         CHECK(llfree_give(&h[i], f, 8) == LLFREE_NOT_HELD);
     }
     CHECK(llfree_split(&h[1], f, LARGEST) == LLFREE_OK);
     CHECK(llfree_split_to(&h[2], f, 8, 6) == LLFREE_OK);
+    CHECK(llfree_order_at(&h[0], f + 128, &told) == LLFREE_OK && told == 6);
     for (uint32_t part = 0; part < 4; part++)
         CHECK(llfree_give(&h[part % 3], f + 64 * part, 6) == LLFREE_OK);
     CHECK(llfree_give(&h[2], f + 256, 8) == LLFREE_OK);

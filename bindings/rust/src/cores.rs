@@ -267,6 +267,15 @@ impl Core<Checked> {
         Ok(hands_out(cores, claims, claimed))
     }
 
+    /// The order of the held block that begins at this frame, as one look at the library's list sees it; none where
+    /// it sees none.
+    pub fn order_at(&mut self, frame: u32) -> Option<u8> {
+        let mut order = 0;
+        // SAFETY: a handle behind `&mut`, and a local; any number is safe.
+        let status = unsafe { sys::llfree_order_at(&mut self.handle, frame, &mut order) };
+        (status == 0).then_some(order)
+    }
+
     /// Splits a block into all its blocks of an order, its own at most, in one call. What is refused comes back.
     pub fn split_to(&mut self, block: Block, order: u8) -> Result<Parts, (Refused, Block)> {
         let block = self.own(block)?;

@@ -48,6 +48,7 @@ extern "C" {
     pub fn llfree_give(handle: *mut Handle, frame: u32, order: u8) -> u32;
     pub fn llfree_split(handle: *mut Handle, frame: u32, order: u8) -> u32;
     pub fn llfree_split_to(handle: *mut Handle, frame: u32, order: u8, to: u8) -> u32;
+    pub fn llfree_order_at(handle: *mut Handle, frame: u32, order: *mut u8) -> u32;
     pub fn llfree_take_block(handle: *mut Handle, order: u8, block: *mut Struct) -> u32;
     pub fn llfree_give_block(handle: *mut Handle, block: *mut Struct) -> u32;
     pub fn llfree_split_block(handle: *mut Handle, block: *mut Struct, upper: *mut Struct) -> u32;

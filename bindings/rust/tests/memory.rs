@@ -191,7 +191,9 @@ fn parts_of_a_block() {
     assert_eq!(refused, Refused::OtherMemory);
     let (refused, huge) = b.split_to(huge, 10).expect_err("no such parts");
     assert_eq!((refused, huge.order()), (Refused::BadOrder, 9));
+    assert_eq!((a.order_at(first), a.order_at(first + 8), b.order_at(1 << 31)), (Some(9), None, None));
     let parts = b.split_to(huge, 3).map_err(|(refused, _)| refused).expect("parts");
+    assert_eq!((a.order_at(first), a.order_at(first + 8), b.order_at(first + 4)), (Some(3), Some(3), None));
     assert_eq!((parts.len(), a.free_frames()), (64, 512));
     for (i, part) in (0..).zip(parts) {
         assert_eq!((part.frame(), part.order()), (first + 8 * i, 3));

@@ -3,7 +3,7 @@
 ghost use Rattle.std.specs.Prelude.{◌≡◌, ◌≢◌, ◌⊎◌, ◌≤◌};
 ghost use Rattle.llfree_c.specs.RefusedCalls.{RefusesTakeAs, RefusesSplitAs, RefusesSplitToAs};
 ghost use Rattle.llfree_c.specs.Status.{ok, bad_order, not_held, contended};
-ghost use Rattle.zone_slots.specs.Calls.{SharesOne, TakesFor, GivesFor, SplitsFor, SplitsToFor, KeepsCore};
+ghost use Rattle.zone_slots.specs.Calls.{SharesOne, TakesFor, GivesFor, SplitsFor, SplitsToFor, SeesFor, KeepsCore};
 
 use crate::statuses::{BAD_ORDER, CONTENDED, NO_BLOCK, NOT_HELD, OK};
 use frame_words::TakeFault;
@@ -52,6 +52,20 @@ pub(crate) fn split(state: &mut CoreState, frame: u32, order: u8) -> u32
         Err(Refusal::NotHeld) => NOT_HELD,
         Err(Refusal::NoSlot) => CONTENDED,
     }
+}
+
+pub(crate) fn order_at(state: &mut CoreState, frame: u32, order: &mut u8) -> u32
+    ensures shared { SharesOne state.old state.new }
+    ensures seen { result ≡ ok → SeesFor order.new frame state.old state.new }
+    ensures same { KeepsCore state.old state.new }
+    ensures stays { result ≢ ok → order.new ≡ order.old }
+    ensures known { (result ≡ ok) ⊎ (result ≡ not_held) }
+{
+    let Some(seen) = state.order_at(frame) else {
+        return NOT_HELD;
+    };
+    *order = seen;
+    OK
 }
 
 pub(crate) fn split_to(state: &mut CoreState, frame: u32, order: u8, to: u8) -> u32

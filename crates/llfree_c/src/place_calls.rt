@@ -1,13 +1,13 @@
 //! What C calls of blocks where they lie.
 
 ghost use Rattle.std.specs.Prelude.{◌≡◌, ◌≢◌, ◌⊎◌, false};
-ghost use Rattle.zone_slots.specs.Calls.{SharesOne, SplitsToFor};
+ghost use Rattle.zone_slots.specs.Calls.{SharesOne, SplitsToFor, SeesFor, KeepsCore};
 ghost use Rattle.llfree_c.specs.RefusedCalls.{RefusesSplitToAs};
 ghost use Rattle.llfree_c.specs.Status.{ok, bad_order, not_held, closed, contended};
 ghost use Rattle.llfree_c.specs.SeenCores.{OnCores};
 
 use crate::core_handle::CoreHandle;
-use crate::core_steps::split_to;
+use crate::core_steps::{order_at, split_to};
 use crate::statuses::CLOSED;
 use std::alloc::Global;
 
@@ -35,6 +35,33 @@ pub extern "C" fn llfree_split_to(
         return CLOSED;
     };
     let status = split_to(&mut state, frame, order, to);
+    handle.put_back(state);
+    status
+}
+
+/// Writes the order of the block that begins at this frame, as a look at the slots of the blocks that begin there sees
+/// it.
+#[unsafe(no_mangle)]
+pub extern "C" fn llfree_order_at(
+    handle: &mut CoreHandle,
+    heap: Global,
+    frame: u32,
+    order: &mut u8,
+) -> u32
+    ensures seen { result ≡ ok
+        → OnCores (SeesFor order.new frame) handle.old.state.value handle.new.state.value }
+    ensures same { result ≢ closed
+        → OnCores KeepsCore handle.old.state.value handle.new.state.value }
+    ensures shared { result ≢ closed
+        → OnCores SharesOne handle.old.state.value handle.new.state.value }
+    ensures closed { result ≡ closed → (handle.old.live ≡ false) × (handle.new ≡ handle.old) }
+    ensures stays { result ≢ ok → order.new ≡ order.old }
+    ensures known { (result ≡ ok) ⊎ (result ≡ not_held) ⊎ (result ≡ closed) }
+{
+    let Some(mut state) = handle.lift_out(heap) else {
+        return CLOSED;
+    };
+    let status = order_at(&mut state, frame, order);
     handle.put_back(state);
     status
 }

@@ -8,6 +8,7 @@ use Rattle.frame_zones.specs.FreeCounts.{frames_among}
 use Rattle.frame_zones.specs.Zones.{zone_count}
 use Rattle.frame_zones.specs.declared.zones.Zones.{Zones}
 use Rattle.zone_slots.specs.ImageParts.{numbers_before}
+use Rattle.zone_slots.specs.Looks.{block_seen, HasBlockOf}
 use Rattle.zone_slots.specs.Memories.{block_laid, block_given}
 use Rattle.zone_slots.specs.Parts.{parts_laid, parts_of, SplitsToByNumber, IsRefusedSplitTo}
 use Rattle.zone_slots.specs.Uses.{TakesByNumber, GivesByNumber, SplitsByNumber, LoseSome, FindsNoSlot, IsRefusedBlock, IsRefusedTake, one_more}
@@ -67,6 +68,15 @@ last_parts s = option_map (parts_laid (zones_of s)) s.parts
 pub record SplitsToFor (order to frame : ℕ) (s t : CoreState) : Type 0 where
   pub split : SplitsToByNumber (zones_of s) order to frame s.core t.core
   pub laid : last_parts t ≡ Some (parts_of frame order to)
+
+-- the block that the last look through the core saw at its slot
+abbrev pub last_sight : CoreState → Option FrameBlock
+last_sight s = option_map (block_seen (zones_of s)) s.seen
+
+-- the memory has a block of the order that begins at this frame, and this very block was seen at its slot
+pub record SeesFor (order frame : ℕ) (s t : CoreState) : Type 0 where
+  pub is_block : HasBlockOf (zones_of s) order frame
+  pub seen : last_sight t ≡ Some (block frame order)
 
 -- why a split of a block of the order into blocks of another one through the core was refused
 abbrev pub RefusesSplitTo : (order to : ℕ) → CoreState → CoreState → Refusal → Type 0

@@ -7,6 +7,7 @@ pub mod Memories
 pub mod Rights
 pub mod Uses
 pub mod Parts
+pub mod Looks
 pub mod Resting
 pub mod Calls
 pub mod Refusals

@@ -1,7 +1,7 @@
 //! What a core is asked for by frame and order.
 
-ghost use Rattle.std.specs.Prelude.{◌≡◌, ◌≢◌, IfOk, IfErr};
-ghost use Rattle.zone_slots.specs.Calls.{frames_by, SharesOne, TakesFor, GivesFor, SplitsFor, SplitsToFor, RefusesSplitTo, CountsNone, RemembersLast, KeepsCore, RefusesTake};
+ghost use Rattle.std.specs.Prelude.{◌≡◌, ◌≢◌, IfOk, IfErr, IfSome};
+ghost use Rattle.zone_slots.specs.Calls.{frames_by, SharesOne, TakesFor, GivesFor, SplitsFor, SplitsToFor, SeesFor, RefusesSplitTo, CountsNone, RemembersLast, KeepsCore, RefusesTake};
 ghost use Rattle.zone_slots.specs.Refusals.{RefusesSplit};
 
 use crate::core_state::CoreState;
@@ -94,5 +94,20 @@ impl CoreState {
         )?;
         self.parts = Some(parts);
         Ok(())
+    }
+
+    /// The order of the block that begins at this frame and rests at its slot, as a look at each of its slots
+    /// sees it: nothing is taken or moved. No memory is needed, and nobody waits.
+    pub fn order_at(&mut self, frame: u32) -> Option<u8>
+        ensures shared { SharesOne self.old self.new }
+        ensures seen { IfSome result (λ order. SeesFor order frame self.old self.new) }
+        ensures same { KeepsCore self.old self.new }
+        ensures counted { CountsNone self.old self.new }
+        ensures last { RemembersLast self.old self.new }
+    {
+        let sight = self.shared.look(self.first, self.core.home, frame)?;
+        let order = sight.order();
+        self.seen = Some(sight);
+        Some(order)
     }
 }

@@ -7,6 +7,7 @@ ghost use Rattle.zone_slots.specs.Resting.{AreSingles};
 
 use crate::first_zone::FirstZone;
 use crate::frame_list::FrameList;
+use crate::looks::Sight;
 use crate::memory::Memory;
 use crate::parts::Parts;
 use crate::zone_receipt::ZoneReceipt;
@@ -29,6 +30,8 @@ pub struct CoreState {
     pub(crate) halves: Option<(ZoneReceipt, ZoneReceipt)>,
     // Of the parts that its last split into all parts of one order laid down.
     pub(crate) parts: Option<Parts>,
+    // Of the block that its last look saw.
+    pub(crate) seen: Option<Sight>,
     pub(crate) first: FirstZone,
     // Single frames that were given to the core, and rest with it.
     pub(crate) rest: FrameList,

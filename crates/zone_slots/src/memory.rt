@@ -107,9 +107,9 @@ impl Memory {
         Some(ZoneBlock { zone, block })
     }
 
-    // The zone that has the frame of this number, and the frame's number there.
+    /// The zone that has the frame of this number, and the frame's number there.
     #[inline(always)]
-    fn zone_of(&self, known: FirstZone, hint: u32, frame: u32) -> Option<(u32, u32)>
+    pub(crate) fn zone_of(&self, known: FirstZone, hint: u32, frame: u32) -> Option<(u32, u32)>
         requires { IsFirstOf self.now.zones known }
         ensures { IfSome result (λ r. IsFrameIn self.now.zones frame r.0 r.1) }
     {
