@@ -235,7 +235,7 @@ enum llfree_status llfree_split(llfree_core *handle, uint32_t frame, uint8_t ord
 /* Splits exactly this block into all its blocks of order to, whichever core took it, in one call. From then on each of
  * these is given or split by itself: (frame + i * 2^to, to) for each i below 2^(order - to). Where to is the order, the
  * block stays whole. Of several gives of one block and splits into smaller ones at the same time at most one succeeds.
- * It never locks or waits, and needs less than 2 KiB of stack.
+ * It never locks or waits, and needs less than 2 KiB of stack (measured).
  *  - NOT_HELD (as for a give), CLOSED_HANDLE, BAD_ORDER (order above 9 or to above order, held or not): nothing
  *    changes.
  *  - CONTENDED: the library's list had no place for a part, which is free again, with those behind it; the parts before
