@@ -3,6 +3,7 @@
 # and its status with what docs/USAGE.md and docs/FORMATS.md say. With no argument it takes what the
 # gate has built. The last line counts the runs.
 set -u
+unset CDPATH
 cd "$(dirname "$0")/.."
 usage='usage: llfree run CHILDREN CORES [FRAMES] | llfree image CHILDREN CORES [FRAMES] | llfree rebuild | llfree report'
 passed=0
@@ -442,6 +443,11 @@ machine() {
     limited 'trap "" XFSZ; ulimit -f 1'
     : >"$work/output"
     expects 'a limit of the output, as an error' 3 '' 'llfree: write failed'
+    # room is made for the records of a text, not for a million of them
+    limited 'ulimit -v 30000'
+    { seq -f '%.0f,0,BadOrder,,' 1000; echo 'end,,Closed,0,512'; } >"$work/output.expected"
+    : >"$work/errors.expected"
+    compares 'a short text has little room' 0
     cp "$program" "$work/program"
     chmod a-x "$work/program"
     program=$work/program limited :
@@ -501,7 +507,7 @@ all() {
 if command -v cc >/dev/null; then
     cc -O2 -shared -fPIC -o "$work/refusing.so" tools/refusing.c -ldl || failed=$((failed + 1))
 else
-    echo 'answers: no C compiler: nothing is read or written slowly'
+    echo 'skipped: slow devices, for want of cc (gcc)'
 fi
 for program in "${@:-crates/llfree/out/llfree}"; do
     if [ -x "$program" ]; then

@@ -4,6 +4,7 @@
 # refused, the judge of malformed texts, the pages for man and completion; and how they go with the programs that are
 # named. With no argument it takes what the gate has built. The last line counts what was tried.
 set -u
+unset CDPATH
 cd "$(dirname "$0")/.."
 passed=0
 failed=0
@@ -414,7 +415,7 @@ pages() {
             groff -ww -z -man "$page" >"$work/errors" 2>&1
             tries "$page: lint" cmp /dev/null "$work/errors"
         else
-            echo "$page: no groff"
+            echo "skipped: lint of $page, for want of groff (groff)"
         fi
     done
     tries 'llfree.1 has the faults of the formats' diff \
@@ -434,7 +435,7 @@ pages() {
         tries 'completion for zsh: frames' [ "$(offered llfree image 8 1 '')" = 4096 ]
         tries 'completion for zsh: nothing' [ -z "$(offered llfree report '')" ]
     else
-        echo 'completion for zsh: no zsh'
+        echo 'skipped: completion for zsh, for want of zsh (zsh)'
     fi
 }
 

@@ -67,7 +67,7 @@ done
 for words in c 'c -std=c2x' c++ 'c++ -std=c++17'; do
     name="answers that are looked at, in $words"
     start='#include "llfree.h"\nint main(void) { llfree_core c = LLFREE_CLOSED; uint32_t f = 0;'
-    echo 'int main(void) { return 0; }' | compiles $words || { echo "$name: not here"; continue; }
+    echo 'int main(void) { return 0; }' | compiles $words || { skips "$name" "$cc that has it" gcc; continue; }
     printf '%b' "$start return (int)llfree_take(&c, 0, &f) + (int)llfree_give(&c, f, 0); }" | compiles $words ||
         fails "$name: not compiled"
     printf '%b' "$start llfree_give(&c, f, 0); }" | compiles $words || fails "$name: a give is refused"
@@ -91,7 +91,7 @@ for source in "$root"/examples/c/*.c "$root"/tools/c/*.c; do
         name="$(basename "$source") $flags"
         # the machine may lack what watches over memory
         { echo 'int main(void) { return 0; }' | "$cc" -x c "$flags" -o "$folder/empty" - && "$folder/empty"; } \
-            >/dev/null 2>&1 || { echo "$name: not here"; continue; }
+            >/dev/null 2>&1 || { skips "programs in C with $flags" "$cc that has it" gcc; continue; }
         "$cc" "$flags" -Wall -Wextra -Werror -I"$root/include" -o "$folder/program" "$source" "${with[@]}" || fails "$name: not built"
         runs "$name" "$source"
     done
@@ -144,7 +144,7 @@ if { echo 'int main(void) { return 0; }' | "$cc" -x c -fsanitize=thread -o "$fol
     says "$name: untold" 'data race' "$folder/untold" 5000
     says "$name: behind the give" 'data race' "$folder/told" 5000 late
 else
-    echo "$name: not here"
+    skips "$name" "$cc that has it" gcc
 fi
 if command -v valgrind >/dev/null && [ -e /usr/include/valgrind/helgrind.h ]; then
     told

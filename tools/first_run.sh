@@ -30,7 +30,7 @@ rows() {
         eval "$what"
         runs "${words[@]}"
         case $then in
-            !*) found=!$([ "$status" = 0 ] || cat "$work/output" <(grep -oF -m 1 -e "${then#!}" "$work/errors")) ;;
+            !*) found=!$([ "$status" != 4 ] || cat "$work/output" <(grep -oF -m 1 -e "${then#!}" "$work/errors")) ;;
             =*) found="=$status, $(tail -n 2 "$work/output" | grep -E '^skipped: |^[0-9]+ passed' | paste -sd ';')" ;;
             *) found=$([ "$status" = 0 ] || echo "status $status"; echo $(cat "$work/calls")) ;;
         esac
@@ -50,8 +50,7 @@ fresh() {
     mv "$tree/crates/llfree/src/lib.rt" "$tree/crates/llfree/src/main.rt"
     chmod -R a+rwX "$work" && chmod -R go-w "$tree"
 }
-edits() { echo "$2" >"$tree/crates/$1"; }
-hooks() { echo "$2" >"$work/hook.$1"; }
+edits() { echo "$2" >"$tree/crates/$1"; }; hooks() { echo "$2" >"$work/hook.$1"; }
 links() { mv "$tree/$1" "$work/moved"; ln -s "$work/moved" "$tree/$1"; }
 # another text is there while mid is proved from a copy, and no longer when the program is built
 swaps() {
@@ -79,11 +78,10 @@ gate() {
 }
 
 # what is changed is built again, once, with all above it that reads it; what is lacking or refused; the gate
-fresh
-words=(./llfree run 1 1)
+fresh; words=(./llfree run 1 1)
 rows <<'ROWS'
 in a fresh clone||low mid llfree
-again||
+again, whatever rt left|hooks ci :; (cd "$tree" && "$kit/stand/rt" ci) >/dev/null|
 an edit|edits low/src/lib.rt lew|low mid llfree
 an edit in a folder named out|edits low/src/out/mod.rt new|low
 an edit of a proof|edits low/proofs/Lib.antt new|low
@@ -118,13 +116,16 @@ a word that rt ci refuses|rm "$tree/crates/low/other.rt"; edits low/src/lib.rt w
 a program that starts others|rm "$work/hook.low"; echo 'echo posix_spawn' >>"$kit/toolchain/bin/clang"|!llfree is refused: it reaches what only the handle Processes gives
 no make|cp "$kit/stand/rt" "$kit/toolchain/bin/clang"; words=(env PATH="$kit/bin:$work/bin" ./llfree run 1 1)|!make is not here
 no rt|words=(env PATH="$work/bin:$(dirname "$(command -v make)")" ./llfree run 1 1)|!rt of the Rattle kit is not on the PATH
-no find, sort or cmp|rm "$work"/bin/{find,sort,cmp}; ln -sf "$(command -v make)" "$(python3 -c 'import sys; print(sys.executable)')" "$work/bin"; words=(env PATH="$kit/bin:$work/bin" ./llfree run 1 1)|low mid llfree
+parts of the gate that lack a tool|rm -f "$work"/bin/{cc,gcc,objdump,rustc}; words=(env -u CC PATH="$work/bin" bash -ec 'for it in c.sh crash.sh kernel.sh clients.sh refusals.py; do grep "^skipped: " <("$0/$it"); done' "$root/tools")|
+a make that is too old|printf '#!/bin/sh\nexec %s .FEATURES= "$@"\n' "$(command -v make)" >"$work/bin/make"; chmod +x "$work/bin/make"; words=(env PATH="$kit/bin:$work/bin" ./llfree run 1 1)|!GNU make 4 or later is needed
+no find, sort, cmp or grep|rm "$work"/bin/{find,sort,cmp,grep}; ln -sf "$(command -v make)" "$(python3 -c 'import sys; print(sys.executable)')" "$work/bin"; words=(env PATH="$kit/bin:$work/bin" ./llfree run 1 1)|low mid llfree
 another kit|words=(./llfree run 1 1); echo 'another logic 2' >"$kit/KIT-ID"|!is none of those that README.md names
 a kit with another rt|echo 'stand-in logic 1' >"$kit/KIT-ID"; cp "$kit/bin/rt" "$work"; sed -i 's/ci_over/ci_above/; s/ci_from_nothing/ci_above/' "$kit/bin/rt"|!rt has no known step
 a clone that cannot be written to|cp "$work/rt" "$kit/bin"; chmod -R a-w "$tree"; words=($([ "$(id -u)" = 0 ] && echo setpriv --reuid=65534 --regid=65534 --clear-groups) ./llfree run 1 1)|!this clone cannot be written to
 MAKEFLAGS, CDPATH and POSIXLY_CORRECT|chmod -R u+w "$tree"; edits low/src/lib.rt flags; words=(env MAKEFLAGS=-n CDPATH=/usr POSIXLY_CORRECT=1 ./llfree run 1 1)|low mid llfree
 little room|words=(bash -c 'ulimit -v 60000; exec ./llfree run 1 1')|
-two at once|words=(sh -c 'make -s library & make -s library && wait $!')|llfree_c
+hardly any room|edits low/src/lib.rt room; words=(bash -c 'ulimit -v 2900; exec ./llfree run 1 1')|!not built, so nothing was run
+two at once|words=(sh -c 'make -s library & make -s library && wait $!')|low mid llfree_c
 make NAME|words=(make -s -k other low)|other
 make -n|edits low/src/lib.rt last; words=(sh -c 'make -s -n >build/said; test $(grep -c prove.py build/said) = 4')|
 the gate: all passes|gate|=0, 18 passed, 0 failed, 0 skipped
@@ -152,8 +153,7 @@ done < <(grep -v '^#' "$root/tools/refused/commands.txt"; printf '%s\n' 'of run 
     'of image 4096 64 1' 'of rebuild' 'of report' "usage run 1 $'\\xff'" 'usage run 1 1 -1' 'usage run 1 +1' 'usage "run 1 1"')
 
 # a crate for each rule, with the kit
-fresh
-rm -r "$tree"/crates/* "$tree/crates.txt" && cp "$root/README.md" "$tree"
+fresh; rm -r "$tree"/crates/* "$tree/crates.txt" && cp "$root/README.md" "$tree"
 while read -r name file text; do
     mkdir -p "$(dirname "$tree/crates/$name/$file")"
     case $file in */main.rt | */lib.rt) echo "$name:"; text="#![tactic(auto)]\n\n$text" ;; esac >>"$tree/crates.txt"

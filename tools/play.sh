@@ -5,6 +5,7 @@
 #     tools/play.sh [PROGRAM] [--renew] [--pictures FOLDER]
 # With --renew the sums of the pages and the picture are laid down anew, where allocators answer otherwise than before.
 set -u
+unset CDPATH
 cd "$(dirname "$0")/.."
 export PYTHONDONTWRITEBYTECODE=1
 program=crates/llfree/out/llfree

@@ -215,7 +215,7 @@ def main():
     programs = sys.argv[1:] or [os.path.join(TOP, 'crates/llfree/out/llfree')]
     compiler = shutil.which('cc')
     if not compiler:
-        print('refusals: no C compiler, so nothing is tried\n0 passed, 0 failed')
+        print('skipped: refused calls, for want of cc (gcc)\n0 passed, 0 failed')
         return 0
     runs = failed = 0
     with tempfile.TemporaryDirectory() as work:

@@ -3,6 +3,7 @@
 # clause counts either. So by the text of frame_table: the shared words are used in steps.rt alone, at
 # most once a function, and by an operation that takes a seat. The last line counts what holds.
 set -u
+unset CDPATH
 cd "$(dirname "$0")/../crates/frame_table/src" || exit 1
 passed=0
 failed=0
@@ -18,6 +19,7 @@ tell() {
 }
 
 files=$(find . -name '*.rt' | sort)
+tell "the text of the moves is here" "$([ -s steps.rt ] || echo "$PWD has no steps.rt")"
 tell "no operation without a seat" \
     "$(grep -nE '\b(peek|store|compare_exchange_with|[a-z_]+_new_seat)\b *(::<|\()' $files)"
 tell "no use of the shared words but in steps.rt" \
