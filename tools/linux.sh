@@ -1,8 +1,9 @@
 #!/usr/bin/env bash
 # Linux whose page allocator is the library, compiled from nothing in a folder that goes, and booted: as a program (User
-# Mode Linux), and what has to fail in boots of its own; with `qemu` both in QEMU too, and programs of others there.
-# With `short` it is one boot of some parts, as a program. What the machine lacks is said and left out. The last line
-# counts what was tried. It is for the night, and no part of the gate: a compilation takes minutes of a processor.
+# Mode Linux), and what has to fail in boots of its own; what reads the library's words, in user space; with `qemu` the
+# boots in QEMU too, and programs of others there. With `short` it is one boot of some parts, as a program. What the
+# machine lacks is said and left out. The last line counts what was tried. It is for the night, and no part of the gate:
+# a compilation takes minutes of a processor.
 set -u
 unset CDPATH MAKEFLAGS MFLAGS
 root=$(cd "$(dirname "$0")/.." && pwd)
@@ -47,8 +48,16 @@ tries() {
 needs=(/usr/src/linux-source-6.1.tar.xz cc make flex bison bc patch xz busybox cpio)
 machine='Linux on the library, as a program'
 goals=(um um-trials)
-[ "${1-}" = short ] && goals=('um RUN=shells,largest,handlers,drain,twice jobs=2')
+[ "${1-}" = short ] && goals=('um RUN=shells,largest,handlers,drain,orders,marks,twice jobs=2')
 lacks "${needs[@]}" || for goal in "${goals[@]}"; do tries $goal; done
+machine='what reads the words of the library'
+[ "${1-}" = short ] || lacks make cc ||
+    if make -C "$root/examples/kernel" threads >"$folder/log" 2>&1; then
+        passed=$((passed + 1))
+    else
+        tail -n 40 "$folder/log" >&2
+        failed=$((failed + 1))
+    fi
 machine='Linux on the library, in QEMU'
 needs+=(qemu-system-x86_64 /usr/include/libelf.h)
 [ "${1-}" != qemu ] || lacks "${needs[@]}" || for goal in mm mm-trials; do tries "$goal"; done

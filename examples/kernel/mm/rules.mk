@@ -1,6 +1,7 @@
 # Linux 6.1 whose page allocator is the library (docs/KERNEL.md): `make um` runs it as a program (User Mode Linux), and
 # `make mm` in QEMU; `make um-trials` and `make mm-trials` show what has to fail in boots of its own. `make foreign`
-# runs programs of others in QEMU. RUN names parts of mm/init or mm/foreign.sh, WORDS are more of the kernel's command line.
+# runs programs of others in QEMU. RUN names parts of mm/init or mm/foreign.sh, WORDS are more of the kernel's command
+# line. `make threads` tries in user space what reads the library's words.
 # It needs Debian's packages linux-source-6.1, xz-utils, flex, bison, bc, busybox-static or busybox, and cpio; in QEMU
 # also libelf-dev; programs of others stress-ng, libnuma-dev and libcap-dev.
 sources := /usr/src/linux-source-6.1.tar.xz
@@ -65,7 +66,7 @@ $(linux)/mm/initramfs: mm/init $(linux)/mm/image
 # the test of references runs at every boot that does not forbid it, and takes minutes with poisoned pages
 without_references := initcall_blacklist=m_in
 checks := llfree=bits page_poison=1 $(without_references)
-parts := shells,largest,archives,fill,oom,handlers,drain,order,twice,frame,used
+parts := shells,largest,archives,fill,oom,handlers,drain,orders,marks,order,twice,frame,used
 um_at := $(seconds) $(linux)/um.log $(linux)/um/image mem=512M con0=null,fd:1 con=null quiet initrd=$(linux)/um/initramfs
 
 um: $(linux)/um/image $(linux)/um/initramfs
@@ -81,7 +82,7 @@ mm mm-trials: cpus = $(SMP),sockets=$(SMP),cores=1
 mm_words := console=ttyS0 quiet panic=-1 no_timer_check
 mm_parts := huge,cpus,swap,$(parts)
 # 6 GiB are two zones, and here three nodes, one of which has both
-of_nodes := numa=fake=3 run=shells,huge,cpus,zones llfree=bits $(without_references)
+of_nodes := numa=fake=3 run=shells,huge,cpus,orders,marks,zones llfree=bits $(without_references)
 # $(call in_qemu,MEMORY,IMAGE[,FILES]), and the words behind it
 in_qemu = $(seconds) $(linux)/$(or $(3),mm).log $(qemu) -m $(1) -initrd $(linux)/$(or $(3),mm)/initramfs \
 	-kernel $(linux)/mm/$(2) -append
@@ -106,4 +107,14 @@ foreign_words = numa=fake=2 secretmem.enable=y run=$(or $(RUN),$(foreign_parts))
 foreign: $(linux)/mm/image $(linux)/foreign/initramfs
 	mm/boot.sh $(call in_qemu,3G,image,foreign) '$(mm_words) $(foreign_words)'
 
-.PHONY: um mm um-trials mm-trials foreign
+$(out)/threads: mm/threads.c mm/llfree/words.h $(root)/include/llfree.h $(library)_c.a
+	mkdir -p $(out)
+	$(CC) -O2 -std=c11 -Wall -Wextra -D_POSIX_C_SOURCE=200809L -pthread -I$(root)/include -Imm -o $@ $< $(library)_c.a
+
+# a child that is cut off; one part, and three the last of which is small
+threads: $(out)/threads
+	$< 130900 50
+	$< 2097152 3
+	$< 4194604 5
+
+.PHONY: um mm um-trials mm-trials foreign threads

@@ -27,9 +27,9 @@
 #include <linux/vmstat.h>
 #include "llfree.h"
 #include "pages.h"
+#include "words.h"
 
 enum {
-	CHILD_FRAMES = 512,
 	CORES = 64,
 	TRIES = 8,		/* of a take, since other cores may be in the way */
 	MOST_RESTING = 128,	/* with a core, as the library's header says */
@@ -53,8 +53,12 @@ struct llfree_zone {
 	u32 frames;
 	llfree_block *blocks;	/* held blocks, each at its first frame; NULL if the library has a list of all */
 	unsigned long *bits;	/* set if a frame is held; NULL without bits */
+	struct words words;	/* under the lock of the zone */
+	bool has_words;
 	struct llfree_caller callers[][CALLERS];	/* of each CPU */
 };
+
+static_assert(MAX_ORDER == ORDERS && MAX_ORDER == LLFREE_ORDERS);
 
 bool llfree_on __ro_after_init = true;
 unsigned int llfree_listed __ro_after_init = 1;
@@ -86,8 +90,8 @@ static int __init read_words(char *words)
 early_param("llfree", read_words);
 
 /*
- * The heap of an opening: blocks are cut from a span of memblock's, one after another, and only the newest may grow or
- * go. After boot nothing calls it.
+ * The heap of an opening: blocks are cut from a span of memblock's, one after another, none of them empty, and only the
+ * newest may grow or go. After boot nothing calls it.
  */
 struct rattle_block {
 	bool found;
@@ -100,19 +104,23 @@ void rattle_dealloc(void *block);
 
 static char *heap_top, *heap_end, *newest;
 
+static struct words *opening;	/* those that the heap is to find */
+
 struct rattle_block rattle_alloc(size_t size, size_t alignment)
 {
-	size_t rounded = ALIGN(size, ALIGNMENT);
+	size_t rounded = ALIGN(size + !size, ALIGNMENT);
 
 	if (alignment > ALIGNMENT || rounded < size || rounded > (size_t)(heap_end - heap_top))
 		return (struct rattle_block){ false, &heap_top };
 	newest = heap_top;
 	heap_top += rounded;
+	note(opening, newest, size, alignment);
 	return (struct rattle_block){ true, newest };
 }
 
 void rattle_dealloc(void *block)
 {
+	forget(opening, block);
 	if (block == newest)
 		heap_top = newest;
 }
@@ -122,6 +130,7 @@ struct rattle_block rattle_realloc(void *old, size_t kept, size_t size, size_t a
 	struct rattle_block block;
 	char *top = heap_top;
 
+	forget(opening, old);
 	if (old == newest)
 		heap_top = newest;
 	block = rattle_alloc(size, alignment);
@@ -333,6 +342,11 @@ static void __init open_zone(struct zone *zone)
 	memset(cores, 0, sizeof(cores));
 	it->first = first;
 	it->frames = frames;
+	opening = &it->words;
+	opening->frames = frames;
+	opening->cores = count;
+	opening->read = get_memory(sizeof(u64) * count_of(opening, 0));
+	opening->numbers = get_memory(sizeof(u64) * llfree_image_words(frames_of(opening, 0)));
 	if (has_structs || llfree_without_lists(0))
 		it->blocks = get_memory(frames * sizeof(llfree_block));
 	if (has_structs)
@@ -341,15 +355,16 @@ static void __init open_zone(struct zone *zone)
 		status = llfree_open(cores, count, frames, NULL, 0);
 	if (status != LLFREE_OK)
 		panic("llfree: zone %s is not opened: %s", zone->name, why(status));
+	it->has_words = are_found(opening);
 	spread_cores(it, cores);
 	take_all(it, zone->name);
 	if (has_bits) {
-		it->bits = get_memory(BITS_TO_LONGS(frames) * sizeof(long));
-		bitmap_fill(it->bits, frames);
+		it->bits = get_memory(round_up(frames, CHILD_FRAMES) / BITS_PER_BYTE);
+		bitmap_fill(it->bits, round_up(frames, CHILD_FRAMES));
 	}
 	zone->llfree = it;
-	pr_info("zone %s: %u frames from %lu on, %lu cores, %zu bytes of heap\n", zone->name, frames, first, count,
-		(size_t)(heap_top - heap));
+	pr_info("zone %s: %u frames from %lu on, %lu cores, %zu bytes of heap%s\n", zone->name, frames, first, count,
+		(size_t)(heap_top - heap), it->has_words ? "" : ", whose words were not found");
 	memblock_free(PTR_ALIGN(heap_top, PAGE_SIZE), heap + room - PTR_ALIGN(heap_top, PAGE_SIZE));
 }
 
@@ -619,4 +634,48 @@ void llfree_read_state(struct zone *zone, struct llfree_state *state)
 	state->free_huge = llfree_free_huge(&caller->core);
 	end_call(caller);
 	leave(zone, caller, flags);
+}
+
+void llfree_count_free(struct zone *zone, unsigned long *blocks)
+{
+	if (zone->llfree && zone->llfree->has_words)
+		count_blocks(&zone->llfree->words, blocks);
+}
+
+bool llfree_has_free(struct zone *zone, unsigned int order)
+{
+	struct llfree_zone *it = zone->llfree;
+	unsigned long blocks[LLFREE_ORDERS], flags;
+	struct llfree_caller *caller;
+	bool has_huge;
+
+	if (!it || !it->has_words)
+		return true;
+	caller = enter(it, &flags);
+	has_huge = seems_free(zone, caller, LLFREE_ORDERS - 1);
+	leave(zone, caller, flags);
+	if (has_huge)
+		return true;
+	spin_lock_irqsave(&zone->lock, flags);
+	count_blocks(&it->words, blocks);
+	spin_unlock_irqrestore(&zone->lock, flags);
+	while (order < LLFREE_ORDERS && !blocks[order])
+		order++;
+	return order < LLFREE_ORDERS;
+}
+
+bool llfree_agrees_with_bits(struct zone *zone)
+{
+	unsigned long blocks[LLFREE_ORDERS], by_bits[LLFREE_ORDERS] = { };
+	struct llfree_zone *it = zone->llfree;
+	unsigned long flags;
+
+	if (!it->bits || !it->has_words)
+		return false;
+	spin_lock_irqsave(&zone->lock, flags);
+	count_blocks(&it->words, blocks);
+	for (u32 child = 0; child < DIV_ROUND_UP(it->frames, CHILD_FRAMES); child++)
+		count_child((const u64 *)it->bits + child * CHILD_WORDS, by_bits);
+	spin_unlock_irqrestore(&zone->lock, flags);
+	return !memcmp(blocks, by_bits, sizeof(blocks));
 }

@@ -46,6 +46,16 @@ void llfree_drain_cpus(void);
 /* Gives back the frames that rested with a CPU that is offline. */
 void llfree_drain_dead_cpu(unsigned int cpu);
 
+/* Writes how many free blocks of each order the zone has, each of them in no larger one. What rests is not free. The
+ * lock of the zone is held. Changes nothing where Linux' own free lists are used. */
+void llfree_count_free(struct zone *zone, unsigned long *blocks);
+
+/* Whether a free block of this order, which is not 0, or of a larger one was seen. */
+bool llfree_has_free(struct zone *zone, unsigned int order);
+
+/* Whether the library's words and the bits of llfree=bits have the same free blocks. */
+bool llfree_agrees_with_bits(struct zone *zone);
+
 enum { LLFREE_ORDERS = 10 };
 
 /* Sums over the CPUs, since the zone was opened. */
@@ -79,6 +89,8 @@ static inline void llfree_halve_page(struct page *page, unsigned int order) { }
 static inline void llfree_split_page(struct page *page, unsigned int order) { }
 static inline void llfree_drain_cpus(void) { }
 static inline void llfree_drain_dead_cpu(unsigned int cpu) { }
+static inline void llfree_count_free(struct zone *zone, unsigned long *blocks) { }
+static inline bool llfree_has_free(struct zone *zone, unsigned int order) { return true; }
 
 #endif
 #endif

@@ -7,6 +7,8 @@
  *   order                gives a block by another order, and as a single frame
  *   used                 writes to a page that was given, and takes pages until it is had again (page_poison=1)
  *   drain                asks the CPUs for what rests, and takes the largest blocks until one is refused
+ *   orders               compares the free blocks of each order with those of llfree=bits, where nothing rests
+ *   marks                asks Linux whether a block of the largest order is free, while there is none
  *   pairs ORDER CPUS MS  takes and gives on threads bound to CPUs, by whatever page allocator Linux has
  *   handlers ORDER CPUS MS  the same, while a timer of each CPU takes and gives pages, too
  */
@@ -108,9 +110,19 @@ static int give_by_others(void)
 	return 0;
 }
 
+static void give_all(struct list_head *taken, unsigned int order)
+{
+	struct page *page, *next;
+
+	list_for_each_entry_safe(page, next, taken, lru) {
+		list_del(&page->lru);
+		__free_pages(page, order);
+	}
+}
+
 static int use_given(void)
 {
-	struct page *used = alloc_pages(GFP_KERNEL, 0), *page, *next;
+	struct page *used = alloc_pages(GFP_KERNEL, 0), *page;
 	unsigned long left = totalram_pages() / 2;
 	LIST_HEAD(taken);
 	bool again = false;
@@ -123,10 +135,7 @@ static int use_given(void)
 		list_add(&page->lru, &taken);
 		again = page == used;
 	}
-	list_for_each_entry_safe(page, next, &taken, lru) {
-		list_del(&page->lru);
-		__free_pages(page, 0);
-	}
+	give_all(&taken, 0);
 	return again ? 0 : -EAGAIN;
 }
 
@@ -143,9 +152,23 @@ static u64 drained(void)
 	return sum;
 }
 
+/* Takes below all watermarks, which would refuse a block before the library is asked. */
+static struct page *take_below_marks(unsigned int order)
+{
+	return alloc_pages(__GFP_MEMALLOC | __GFP_NOWARN, order);
+}
+
+static void take_largest(struct list_head *taken)
+{
+	struct page *page;
+
+	while ((page = take_below_marks(LLFREE_ORDERS - 1)))
+		list_add(&page->lru, taken);
+}
+
 static void let_one_rest(void)
 {
-	struct page *page = alloc_page(GFP_KERNEL);
+	struct page *page = take_below_marks(0);
 
 	if (page)
 		__free_page(page);
@@ -154,21 +177,85 @@ static void let_one_rest(void)
 /* What rests is given back where all CPUs are asked, and before a larger block is refused. */
 static int drain(void)
 {
-	struct page *page, *next;
-	u64 before = drained(), asked;
+	u64 before = drained(), asked, rested, refused;
 	LIST_HEAD(taken);
 
 	let_one_rest();
 	drain_all_pages(NULL);
 	asked = drained();
+	take_largest(&taken);
+	preempt_disable();
 	let_one_rest();
-	while ((page = alloc_pages(__GFP_NOWARN, LLFREE_ORDERS - 1)))
-		list_add(&page->lru, &taken);
-	list_for_each_entry_safe(page, next, &taken, lru) {
-		list_del(&page->lru);
-		__free_pages(page, LLFREE_ORDERS - 1);
+	rested = drained();
+	take_largest(&taken);
+	refused = drained();
+	preempt_enable();
+	give_all(&taken, LLFREE_ORDERS - 1);
+	return before < asked && rested < refused ? 0 : -EAGAIN;
+}
+
+/* Other CPUs may be in the middle of a call, or let frames rest again. */
+static bool have_same_orders(void)
+{
+	for (unsigned int try = 0; try < 100; try++) {
+		struct zone *zone;
+		bool same = true;
+
+		drain_all_pages(NULL);
+		for_each_populated_zone(zone)
+			same &= llfree_agrees_with_bits(zone);
+		if (same)
+			return true;
 	}
-	return before < asked && asked < drained() ? 0 : -EAGAIN;
+	return false;
+}
+
+/* While a block of each order is held. */
+static int compare_orders(void)
+{
+	struct page *held[LLFREE_ORDERS];
+	bool same;
+
+	for (unsigned int order = 0; order < LLFREE_ORDERS; order++)
+		held[order] = take_below_marks(order);
+	same = have_same_orders();
+	for (unsigned int order = 0; order < LLFREE_ORDERS; order++)
+		if (held[order])
+			__free_pages(held[order], order);
+	return same ? 0 : -EAGAIN;
+}
+
+static bool is_free(unsigned int order)
+{
+	struct zone *zone;
+	bool found = false;
+
+	for_each_populated_zone(zone)
+		found |= zone_watermark_ok(zone, order, 0, zone_idx(zone), 0);
+	return found;
+}
+
+/* All but the first frame of some blocks is given, so more frames are free than a block has. */
+static int ask_marks(void)
+{
+	struct page *firsts[2] = { };
+	bool none, some;
+	LIST_HEAD(taken);
+
+	take_largest(&taken);
+	for (unsigned int i = 0; i < ARRAY_SIZE(firsts) && !list_empty(&taken); i++) {
+		firsts[i] = list_first_entry(&taken, struct page, lru);
+		list_del(&firsts[i]->lru);
+		split_page(firsts[i], LLFREE_ORDERS - 1);
+		for (unsigned int frame = 1; frame < 1u << (LLFREE_ORDERS - 1); frame++)
+			__free_page(firsts[i] + frame);
+	}
+	none = is_free(0) && !is_free(LLFREE_ORDERS - 1);
+	for (unsigned int i = 0; i < ARRAY_SIZE(firsts) && firsts[i]; i++)
+		__free_page(firsts[i]);
+	give_all(&taken, LLFREE_ORDERS - 1);
+	some = is_free(LLFREE_ORDERS - 1);
+	return none && some ? 0 : -EAGAIN;
 }
 
 struct worker {
@@ -280,6 +367,10 @@ static int obey(const char *word)
 		return give_by_others();
 	if (llfree_without_lists(0) && sysfs_streq(word, "drain"))
 		return drain();
+	if (llfree_is_on() && sysfs_streq(word, "orders"))
+		return compare_orders();
+	if (llfree_is_on() && sysfs_streq(word, "marks"))
+		return ask_marks();
 	if (sysfs_streq(word, "used"))
 		return use_given();
 	if (sscanf(word, "%15s %u %u %u", what, &order, &cpus, &milliseconds) != 4 || order >= MAX_ORDER || !cpus ||
