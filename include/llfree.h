@@ -395,6 +395,20 @@ enum llfree_status llfree_take_frames(llfree_core *handle, llfree_block *blocks,
  * none is given. It never locks or waits. */
 enum llfree_status llfree_give_frames(llfree_core *handle, llfree_block *blocks, size_t count);
 
+/* The same by number, checked: takes a single frame as llfree_take_frame does, and writes its number. Then it is on the
+ * list of llfree_take: any core gives it, by llfree_give_number or by llfree_give at order 0. On failure *frame is
+ * unchanged and nothing more is held: NO_BLOCK and CONTENDED as llfree_take_frame; CLOSED_HANDLE. CONTENDED also if the
+ * list had no place for the frame, which is free again (tested: never seen; with cores of llfree_open_unchecked
+ * always). */
+LLFREE_NODISCARD
+enum llfree_status llfree_take_number(llfree_core *handle, uint32_t *frame);
+
+/* Gives exactly this single frame, whichever core took it and by whichever call for numbers (a part of a split too). It
+ * rests with this core as one of llfree_give_frame does. On NOT_HELD (also a frame that rests, that a struct holds, or
+ * that begins a larger block) and CLOSED_HANDLE nothing changes. (That a held frame is not refused is tested, not
+ * proved.) Of several gives of one frame at the same time at most one succeeds. It never locks or waits. */
+enum llfree_status llfree_give_number(llfree_core *handle, uint32_t frame);
+
 /* Gives back all frames that rest with this core. It never locks or waits. If the handle is closed it does
  * nothing. */
 void llfree_drain(llfree_core *handle);

@@ -12,7 +12,8 @@
  * told stays told. A split needs no telling, nor does llfree_plain, whose calls are in an order.
  *
  * A give of numbers is told only where they may be a block of the memory. Of a memory with holes no call says which
- * frames it has: there llfree_give_told_in is handed the zones that the opening was handed. */
+ * frames it has: there llfree_give_told_in and llfree_give_number_told_in are handed the zones that the opening was
+ * handed. */
 #ifndef LLFREE_TSAN_H
 #define LLFREE_TSAN_H
 
@@ -157,6 +158,35 @@ static inline enum llfree_status llfree_give_frame_told(llfree_core *handle, voi
     if (block->live && block->order == 0)
         llfree_tell(address, block->frame, 0, false);
     return llfree_give_frame(handle, block);
+}
+
+/* llfree_take_number. */
+LLFREE_NODISCARD
+static inline enum llfree_status llfree_take_number_told(llfree_core *handle, void *address, uint32_t *frame)
+{
+    enum llfree_status status = llfree_take_number(handle, frame);
+
+    if (status == LLFREE_OK)
+        llfree_tell(address, *frame, 0, true);
+    return status;
+}
+
+/* llfree_give_number, of a memory without holes. */
+static inline enum llfree_status llfree_give_number_told(llfree_core *handle, void *address, uint32_t frame)
+{
+    llfree_range all = { 0, llfree_frames(handle) };
+
+    llfree_tell_give(address, &all, 1, frame, 0);
+    return llfree_give_number(handle, frame);
+}
+
+/* llfree_give_number, of a memory of these zones. */
+static inline enum llfree_status llfree_give_number_told_in(llfree_core *handle, void *address,
+                                                            const llfree_range *zones, size_t zone_count,
+                                                            uint32_t frame)
+{
+    llfree_tell_give(address, zones, zone_count, frame, 0);
+    return llfree_give_number(handle, frame);
 }
 
 /* llfree_take_frames. */

@@ -72,6 +72,8 @@ PAGES = [
             "llfree_take_block", "llfree_give_block", "llfree_split_block"]),
         ("several threads: single frames that rest with a core", [
             "llfree_take_frame", "llfree_give_frame", "llfree_drain"]),
+        ("several threads: single frames that rest with a core, by number", [
+            "llfree_take_number", "llfree_give_number"]),
         ("several threads: several single frames at once", ["llfree_take_frames", "llfree_give_frames"]),
         ("several threads: openings", [
             "llfree_open", "llfree_open_zones", "llfree_open_unchecked", "llfree_open_zones_unchecked"]),
@@ -81,7 +83,8 @@ PAGES = [
         ("how much is free", [
             "llfree_free_frames", "llfree_free_huge", "llfree_free_frames_of", "llfree_free_huge_of"]),
         ("several threads: zones, and homes that are set", ["llfree_zones", "llfree_home", "llfree_set_home"]),
-        ("what no take answers and no stop leaves", ["wrong_takes_are_not_told", "wrong_images_are_not_left"]),
+        ("what no take answers and no stop leaves", [
+            "wrong_takes_are_not_told", "wrong_answers_are_not_given", "wrong_images_are_not_left"]),
     ]),
     ("threads", "Threads", [
         ("what words and views that agree say of blocks and counters", ["every_fit_is_safe"]),

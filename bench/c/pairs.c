@@ -1,7 +1,8 @@
 /* How long a take and a give take from C: the library with a core for each thread, the same with blocks
- * in structs, and with single frames that rest with the core, the library for one thread, a buddy allocator with
- * lists for each processor as Linux has it, a bitmap and a buddy allocator, each under a mutex, and the C library's own
- * aligned_alloc and free of as much memory, which nobody touches.
+ * in structs, and with single frames that rest with the core, in structs (resting) and by number (numbered), the
+ * library for one thread, a buddy allocator with lists for each processor as Linux has it, a bitmap and a buddy
+ * allocator, each under a mutex, and the C library's own aligned_alloc and free of as much memory, which nobody
+ * touches.
  *
  *     pairs COUNT ROUNDS [zones]
  *
@@ -73,6 +74,8 @@ PAIRS(unchecked_pairs, llfree_block, llfree_take_block(&me->core, order, &block)
       llfree_give_block(&me->core, &block) == LLFREE_OK)
 PAIRS(resting_pairs, llfree_block, llfree_take_frame(&me->core, &block) == LLFREE_OK,
       llfree_give_frame(&me->core, &block) == LLFREE_OK)
+PAIRS(numbered_pairs, uint32_t, llfree_take_number(&me->core, &block) == LLFREE_OK,
+      llfree_give_number(&me->core, block) == LLFREE_OK)
 PAIRS(plain_pairs, uint32_t, llfree_plain_take(&plain, order, &block) == LLFREE_OK,
       llfree_plain_give(&plain, block, order) == LLFREE_OK)
 PAIRS(bitmap_pairs, uint32_t, (block = bitmap_take(order)) != NONE,
@@ -195,6 +198,7 @@ static const struct allocator {
     { "llfree", MOST_THREADS, MOST_ORDER, open_cores, core_pairs, close_cores },
     { "unchecked", MOST_THREADS, MOST_ORDER, open_unchecked, unchecked_pairs, close_cores },
     { "resting", MOST_THREADS, 0, open_unchecked, resting_pairs, close_cores },
+    { "numbered", MOST_THREADS, 0, open_cores, numbered_pairs, close_cores },
     { "plain", 1, MOST_ORDER, open_plain, plain_pairs, close_plain },
     { "bitmap", MOST_THREADS, MOST_ORDER, nothing, bitmap_pairs, nothing },
     { "lists", MOST_THREADS, MOST_ORDER, open_lists, lists_pairs, close_lists },

@@ -75,6 +75,7 @@ for _name, _answer, *_arguments in (
         ('order_at', _u32, _to(Handle), _u32, _to(_u8)),
         ('take_frame', _u32, _to(Handle), _to(Block)),
         ('give_frame', _u32, _to(Handle), _to(Block)),
+        ('take_number', _u32, _to(Handle), _to(_u32)), ('give_number', _u32, _to(Handle), _u32),
         ('take_frames', _u32, _to(Handle), _to(Block), _size, _to(_size)),
         ('give_frames', _u32, _to(Handle), _to(Block), _size), ('drain', None, _to(Handle)), ('resting', _u32, _to(Handle)),
         ('frames', _u32, _to(Handle)), ('free_frames', _u32, _to(Handle)), ('free_huge', _u32, _to(Handle)),
@@ -162,6 +163,16 @@ class Core:
         if block.live:
             self._singles[frame] = block
         _checked(status)
+
+    def take_number(self, tries=1):
+        """A single frame as take_frame takes it, which any core gives, by give_number or as a block of order 0."""
+        frame = _u32()
+        self._takes(tries, 'take_number', frame)
+        return frame.value
+
+    def give_number(self, frame):
+        """A held block of order 0, by whichever call it was taken, comes to rest with this core."""
+        _checked(self._call('give_number', _fits(frame, 32, Status.NOT_HELD)))
 
     def take_frames(self, count):
         """Up to this many single frames, the last one that came to rest first. Refused where there is none."""

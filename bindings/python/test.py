@@ -104,6 +104,33 @@ class Calls(unittest.TestCase):
         second.give_frame(frame)
         self.assertEqual(second.close_image()[::9], [512] * 8)
 
+    def test_single_frames_rest_by_number(self):
+        first, second = llfree.open(4096, cores=2)
+        status = llfree.Status
+        taken = [first.take_number() for _ in range(3)]
+        first.drain()
+        self.assertEqual((len(set(taken)), second.order_at(taken[0])), (3, 0))
+        for frame in taken:
+            first.give_number(frame)
+            for core, give in ((first, first.give_number), (second, second.give_number)):
+                self.refused(status.NOT_HELD, give, frame)
+                self.refused(status.NOT_HELD, core.give, frame, 0)
+        for wrong in (4096, -1, taken[0] + (1 << 32)):
+            self.refused(status.NOT_HELD, first.give_number, wrong)
+        self.assertEqual((first.resting(), [first.take_number() for _ in range(3)]), (3, taken[::-1]))
+        second.give(taken[0], 0)
+        second.give_number(taken[1])
+        eight = first.take(3)
+        self.refused(status.NOT_HELD, first.give_number, eight)
+        first.split_to(eight, 3, 0)
+        for frame in range(eight, eight + 8):
+            second.give_number(frame)
+        self.assertEqual(second.resting(), 9)
+        second.close()
+        first.give_number(taken[2])
+        self.refused(status.CLOSED_HANDLE, second.take_number)
+        self.assertEqual(first.close_image()[::9], [512] * 8)
+
     def test_single_frames_come_at_once(self):
         first, second = llfree.open(512, cores=2)
         status = llfree.Status

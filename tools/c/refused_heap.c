@@ -227,7 +227,7 @@ static void no_calls(void)
     llfree_core cores[CORES] = { LLFREE_CLOSED };
     llfree_plain memory = LLFREE_CLOSED;
     llfree_block block = LLFREE_EMPTY, upper = LLFREE_EMPTY, rested[200] = { LLFREE_EMPTY };
-    uint32_t frame = 0;
+    uint32_t frame = 0, numbers[200];
 
     refuse(0, false);
     CHECK(llfree_open(cores, CORES, FRAMES, kept, 2) == LLFREE_OK && open_plain(&memory) == LLFREE_OK);
@@ -252,6 +252,10 @@ static void no_calls(void)
         size_t taken = 0;
         CHECK(llfree_take_frames(&cores[1], rested, 200, &taken) == LLFREE_OK && taken == 200);
         CHECK(llfree_give_frames(&cores[2], rested, 200) == LLFREE_OK);
+        for (int i = 0; i < 200; i++)
+            CHECK(llfree_take_number(&cores[i % 2], &numbers[i]) == LLFREE_OK);
+        for (int i = 0; i < 200; i++)
+            CHECK(llfree_give_number(&cores[2], numbers[i]) == LLFREE_OK);
         CHECK(llfree_resting(&cores[2]) > 0);
         for (int i = 0; i < 3; i++)
             llfree_drain(&cores[i]);

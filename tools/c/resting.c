@@ -242,6 +242,125 @@ static void closings(void)
     }
 }
 
+static uint32_t take_number(llfree_core *core)
+{
+    uint32_t frame = UINT32_MAX;
+
+    CHECK(llfree_take_number(core, &frame) == LLFREE_OK && frame != UINT32_MAX);
+    return frame;
+}
+
+/* No core gives it, by either call. */
+static void is_not_held(llfree_core *h, uint32_t frame)
+{
+    uint8_t order = 77;
+
+    for (int k = 0; k < 2; k++)
+        CHECK(llfree_give_number(&h[k], frame) == LLFREE_NOT_HELD && llfree_give(&h[k], frame, 0) == LLFREE_NOT_HELD);
+    CHECK(llfree_order_at(&h[0], frame, &order) == LLFREE_NOT_HELD && order == 77);
+}
+
+/* By number each status of each call, what is not held, and what is taken by one call and given by another. */
+static void numbers(void)
+{
+    llfree_core h[2] = { LLFREE_CLOSED, LLFREE_CLOSED };
+    llfree_block block = LLFREE_EMPTY;
+    uint32_t frames[3], f = 77, g = 77;
+    uint8_t order = 77;
+
+    CHECK(llfree_take_number(&h[0], &f) == LLFREE_CLOSED_HANDLE && f == 77);
+    CHECK(llfree_give_number(&h[0], 0) == LLFREE_CLOSED_HANDLE);
+    /* without a list no frame has a place there */
+    open_two(h, 512);
+    take(&h[0], &block);
+    CHECK(llfree_take_number(&h[0], &f) == LLFREE_CONTENDED && f == 77);
+    CHECK(llfree_give_number(&h[0], block.frame) == LLFREE_NOT_HELD && llfree_give_number(&h[1], 0) == LLFREE_NOT_HELD);
+    give(&h[0], &block);
+    llfree_drain(&h[0]);
+    CHECK(llfree_free_frames(&h[0]) == 512);
+    close_two(h);
+
+    CHECK(llfree_open(h, 2, FRAMES, NULL, 0) == LLFREE_OK);
+    for (f = 0; f <= FRAMES; f++)
+        is_not_held(h, f);
+    is_not_held(h, UINT32_MAX);
+    for (int i = 0; i < 3; i++) {
+        frames[i] = take_number(&h[i == 1]);
+        CHECK(llfree_order_at(&h[0], frames[i], &order) == LLFREE_OK && order == 0);
+        CHECK(llfree_give(&h[0], frames[i], 1) == LLFREE_NOT_HELD);
+        CHECK(llfree_split(&h[0], frames[i], 1) == LLFREE_NOT_HELD);
+    }
+    llfree_drain(&h[0]);
+    llfree_drain(&h[1]);
+    for (uint32_t i = 0; i < 3; i++) {
+        CHECK(llfree_give_number(&h[0], frames[i]) == LLFREE_OK);
+        CHECK(llfree_resting(&h[0]) == i + 1 && llfree_free_frames(&h[1]) == FRAMES - 3);
+        is_not_held(h, frames[i]);
+    }
+    for (int i = 3; i-- > 0;)
+        CHECK(take_number(&h[0]) == frames[i] && llfree_resting(&h[0]) == (uint32_t)i);
+    /* a frame of one form rests and is taken in the other one */
+    CHECK(llfree_give_number(&h[1], frames[0]) == LLFREE_OK);
+    take(&h[1], &block);
+    CHECK(block.frame == frames[0]);
+    is_not_held(h, frames[0]);
+    give(&h[1], &block);
+    CHECK(take_number(&h[1]) == frames[0] && llfree_resting(&h[1]) == 0);
+    /* the calls for blocks: a frame is one, and parts of one are frames */
+    CHECK(llfree_give(&h[1], frames[0], 0) == LLFREE_OK && llfree_resting(&h[1]) == 0);
+    is_not_held(h, frames[0]);
+    CHECK(llfree_take(&h[0], 0, &f) == LLFREE_OK && llfree_give_number(&h[1], f) == LLFREE_OK);
+    CHECK(llfree_take(&h[0], 3, &g) == LLFREE_OK && llfree_give_number(&h[0], g) == LLFREE_NOT_HELD);
+    CHECK(llfree_split_to(&h[0], g, 3, 0) == LLFREE_OK);
+    for (uint32_t i = 0; i < 8; i++)
+        CHECK(llfree_give_number(&h[1], g + i) == LLFREE_OK && llfree_resting(&h[1]) == 2 + i);
+    for (int i = 1; i < 3; i++)
+        CHECK(llfree_give_number(&h[0], frames[i]) == LLFREE_OK);
+    llfree_close(&h[1]);
+    CHECK(llfree_give_number(&h[1], g) == LLFREE_CLOSED_HANDLE);
+    llfree_drain(&h[0]);
+    CHECK(llfree_free_frames(&h[0]) == FRAMES && llfree_free_huge(&h[0]) == FRAMES / 512);
+    close_two(h);
+}
+
+/* All frames by number, in zones with a hole between them: each once, the others are not held, and from one give on
+ * where 128 rest the 64 that came first go back. */
+static void numbers_of_zones(void)
+{
+    static const llfree_range two[2] = { { 1024, 700 }, { 4096, 600 } };
+    enum { ALL = 700 + 600 };
+    static uint32_t frames[ALL];
+    static unsigned char seen[4096 + 600];
+    llfree_core h[2] = { LLFREE_CLOSED, LLFREE_CLOSED };
+    uint32_t resting = 0, f = 77;
+
+    CHECK(llfree_open_zones(h, 2, two, 2, NULL, 0) == LLFREE_OK);
+    for (uint32_t i = 0; i < ALL; i++) {
+        f = frames[i] = take_number(&h[0]);
+        CHECK(((1024 <= f && f < 1724) || (4096 <= f && f < 4696)) && !seen[f]++);
+        CHECK(llfree_resting(&h[0]) < HALF);
+    }
+    f = 77;
+    for (int k = 0; k < 2; k++)
+        CHECK(llfree_take_number(&h[k], &f) == LLFREE_NO_BLOCK && f == 77);
+    for (uint32_t x = 0; x < 4096 + 700; x++)
+        if (x >= 4096 + 600 || !seen[x])
+            is_not_held(h, x);
+    for (uint32_t i = 0; i < ALL; i++) {
+        resting = (resting == MOST ? HALF : resting) + 1;
+        CHECK(llfree_give_number(&h[1], frames[i]) == LLFREE_OK && llfree_resting(&h[1]) == resting);
+        CHECK(llfree_free_frames(&h[0]) == i + 1 - resting);
+        is_not_held(h, frames[i]);
+    }
+    for (uint32_t i = 0; i < resting; i++)
+        CHECK(take_number(&h[1]) == frames[ALL - 1 - i]);
+    for (uint32_t i = 0; i < resting; i++)
+        CHECK(llfree_give_number(&h[0], frames[ALL - 1 - i]) == LLFREE_OK);
+    llfree_drain(&h[0]);
+    CHECK(llfree_free_frames(&h[1]) == ALL && llfree_free_huge(&h[1]) == 2);
+    close_two(h);
+}
+
 /* The same calls beside those by numbers, and in zones with a hole between them. */
 static void zones(void)
 {
@@ -383,6 +502,53 @@ static void threads(void)
     llfree_close(&cores[0]);
 }
 
+static _Atomic uint32_t crossing[RING];
+
+/* By number: each frame is left for any thread, and what was left there before is given; of the calls a fourth lets
+ * nothing rest. */
+static void *work_by_number(void *handle)
+{
+    llfree_core *me = handle;
+    uint64_t x = 88172645463325252ull + (uint64_t)(me - cores) * 7919;
+
+    for (uint32_t round = 0; round < ROUNDS; round++) {
+        uint32_t f = 0;
+        next_random(&x);
+        enum llfree_status status = x % 4 ? llfree_take_number(me, &f) : llfree_take(me, 0, &f);
+        if (status != LLFREE_OK) {
+            CHECK(status == LLFREE_NO_BLOCK || status == LLFREE_CONTENDED);
+            continue;
+        }
+        CHECK(f < FRAMES && atomic_exchange(&owner[f], 1) == 0);
+        uint32_t left = atomic_exchange(&crossing[(x >> 42) % RING], f + 1);
+        if (left == 0)
+            continue;
+        f = left - 1;
+        CHECK(atomic_exchange(&owner[f], 0) == 1 && llfree_give_number(me, f + FRAMES) == LLFREE_NOT_HELD);
+        CHECK(((x >> 20) % 4 ? llfree_give_number(me, f) : llfree_give(me, f, 0)) == LLFREE_OK);
+        CHECK(llfree_resting(me) <= MOST);
+    }
+    return NULL;
+}
+
+static void threads_by_number(void)
+{
+    pthread_t ids[2 * PAIRS];
+
+    CHECK(llfree_open(cores, 2 * PAIRS, FRAMES, NULL, 0) == LLFREE_OK);
+    for (int i = 0; i < 2 * PAIRS; i++)
+        CHECK(pthread_create(&ids[i], NULL, work_by_number, &cores[i]) == 0);
+    for (int i = 0; i < 2 * PAIRS; i++)
+        CHECK(pthread_join(ids[i], NULL) == 0);
+    for (uint32_t i = 0; i < RING; i++)
+        CHECK(crossing[i] == 0 || llfree_give_number(&cores[i % (2 * PAIRS)], crossing[i] - 1) == LLFREE_OK);
+    for (int i = 1; i < 2 * PAIRS; i++)
+        llfree_close(&cores[i]);
+    llfree_drain(&cores[0]);
+    CHECK(llfree_free_frames(&cores[0]) == FRAMES && llfree_free_huge(&cores[0]) == FRAMES / 512);
+    llfree_close(&cores[0]);
+}
+
 /* Many takes and gives of one thread beside a list of what is held. */
 static void mixed(void)
 {
@@ -419,9 +585,12 @@ int main(void)
     batches();
     refusals();
     closings();
+    numbers();
+    numbers_of_zones();
     zones();
     mixed();
     threads();
+    threads_by_number();
     puts("all checks passed");
     return 0;
 }

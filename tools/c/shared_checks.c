@@ -403,12 +403,17 @@ static _Atomic int given, split, arrived;
 static uint32_t target;
 static int splitting, turn; /* not at all, into halves, or into single frames; by whom */
 
-static void *race(void *handle)
+/* All threads are there before any calls. */
+static void meet(void)
 {
-    /* all threads are there before any calls */
     atomic_fetch_add(&arrived, 1);
     while (atomic_load(&arrived) < CORES)
         ;
+}
+
+static void *race(void *handle)
+{
+    meet();
     if (splitting == 0 || ((llfree_core *)handle - cores + turn) % 2)
         atomic_fetch_add(&given, llfree_give(handle, target, 4) == LLFREE_OK);
     else if (splitting == 1)
@@ -418,7 +423,18 @@ static void *race(void *handle)
     return NULL;
 }
 
-/* Threads race for one give, and gives for a split: exactly one has it. At the end nothing is held. */
+static void *race_for_single(void *handle)
+{
+    bool rests = ((llfree_core *)handle - cores + turn) % 2;
+
+    meet();
+    enum llfree_status status = rests ? llfree_give_number(handle, target) : llfree_give(handle, target, 0);
+    atomic_fetch_add(&given, status == LLFREE_OK);
+    return NULL;
+}
+
+/* Threads race for one give, gives for a split, and gives of a frame for one that lets it rest: exactly one has it. At
+ * the end nothing is held. */
 static void races(void)
 {
     static uint64_t words[9 * CHILDREN];
@@ -440,6 +456,12 @@ static void races(void)
                 CHECK(llfree_give(&cores[2], f, order) == LLFREE_NOT_HELD);
     }
     CHECK(splits[0] == 0 && splits[1] > 0 && splits[2] > 0);
+    for (turn = 0; turn < RACES; turn++) {
+        given = arrived = 0;
+        CHECK(llfree_take_number(&cores[turn % CORES], &target) == LLFREE_OK);
+        on_threads(race_for_single);
+        CHECK(given == 1 && llfree_give_number(&cores[turn % CORES], target) == LLFREE_NOT_HELD);
+    }
     for (int i = 1; i < CORES; i++)
         llfree_close(&cores[i]);
     CHECK(llfree_close_image(&cores[0], words, 9 * CHILDREN) == LLFREE_OK);

@@ -89,6 +89,12 @@ static void others(void)
         *number_in(blocks[i].frame) = 0;
     CHECK(llfree_give_frames_told(&cores[0], memory, blocks, taken) == LLFREE_OK);
     CHECK(llfree_give_frames_told(&cores[0], memory, blocks, taken) == LLFREE_NOT_HELD);
+    uint32_t frame = 0;
+    CHECK(llfree_take_number_told(&cores[1], memory, &frame) == LLFREE_OK);
+    *number_in(frame) = 0;
+    CHECK(llfree_give_number_told(&cores[0], memory, frame) == LLFREE_OK);
+    CHECK(llfree_give_number_told(&cores[0], memory, frame) == LLFREE_NOT_HELD);
+    CHECK(llfree_give_number_told(&cores[0], memory, FRAMES) == LLFREE_NOT_HELD);
     CHECK(llfree_give_told(&cores[0], memory, UINT32_MAX, 0) == LLFREE_NOT_HELD);
     CHECK(llfree_give_told(&cores[0], memory, 0, 255) == LLFREE_NOT_HELD);
     CHECK(llfree_give_told(&cores[0], memory, FRAMES - 1, 1) == LLFREE_NOT_HELD);
@@ -106,6 +112,7 @@ static void in_holes(void)
     CHECK(llfree_give_told_in(&cores[0], memory, zones, 2, SECOND + FRAMES / 2, 0) == LLFREE_NOT_HELD);
     CHECK(llfree_give_told_in(&cores[0], memory, zones, 2, UINT32_MAX, 9) == LLFREE_NOT_HELD);
     CHECK(llfree_give_told_in(&cores[0], memory, zones, 2, 0, 255) == LLFREE_NOT_HELD);
+    CHECK(llfree_give_number_told_in(&cores[0], memory, zones, 2, SECOND - 1) == LLFREE_NOT_HELD);
     CHECK(*between == 0 && memory[(size_t)LLFREE_FRAME_BYTES * (SECOND - 1)] == 0);
 }
 

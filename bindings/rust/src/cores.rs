@@ -182,11 +182,11 @@ impl<F: Form> Core<F> {
 
 /// Single frames that are soon taken again rest with the core that gave them, at most 128. A frame that rests is not
 /// free: no other core reaches it until [`Core::drain`], or until its core is dropped or closed.
-impl Core<Unchecked> {
+impl<F: Form> Core<F> {
     /// Takes a single frame: the one that came to rest with this core last; if none rests, as [`Core::take`] of order
     /// 0, with its refusals.
-    pub fn take_frame(&mut self) -> Result<Block<Unchecked>, Refused> {
-        match Unchecked::take_frame(&mut self.handle) {
+    pub fn take_frame(&mut self) -> Result<Block<F>, Refused> {
+        match F::take_frame(&mut self.handle) {
             Ok(right) => Ok(Block { right, memory: self.memory }),
             Err(status) => refused(status),
         }
@@ -194,12 +194,26 @@ impl Core<Unchecked> {
 
     /// Gives a single frame, which rests with this core, whichever core took it. If 128 rest there already, 64 of them
     /// go back first. What is refused comes back: [`Refused::BadOrder`] for a larger block.
-    pub fn give_frame(&mut self, block: Block<Unchecked>) -> Result<(), (Refused, Block<Unchecked>)> {
+    pub fn give_frame(&mut self, block: Block<F>) -> Result<(), (Refused, Block<F>)> {
         let Block { right, memory } = self.own(block)?;
-        Unchecked::give_frame(&mut self.handle, right)
-            .map_err(|(status, right)| comes_back(status, Block { right, memory }))
+        F::give_frame(&mut self.handle, right).map_err(|(status, right)| comes_back(status, Block { right, memory }))
     }
 
+    /// Gives back all frames that rest with this core.
+    pub fn drain(&mut self) {
+        // SAFETY: a handle behind `&mut`.
+        unsafe { sys::llfree_drain(&mut self.handle) }
+    }
+
+    /// How many frames rest with this core, at most 128. They count as held in [`Core::free_frames`].
+    pub fn resting(&mut self) -> u32 {
+        // SAFETY: a handle behind `&mut`.
+        unsafe { sys::llfree_resting(&mut self.handle) }
+    }
+}
+
+/// Several single frames at once.
+impl Core<Unchecked> {
     /// Takes up to `N` single frames, as [`Core::take_frame`] again and again, and hands each to `taken`. Their number is
     /// below `N` only if no frame more was found. Refused if none was found at all.
     pub fn take_frames<const N: usize>(&mut self, taken: impl FnMut(Block<Unchecked>)) -> Result<usize, Refused> {
@@ -226,18 +240,6 @@ impl Core<Unchecked> {
             let refused = Refused::of(status).err().unwrap_or(Refused::Unknown);
             (refused, rights.map(|right| Block { right, memory }))
         })
-    }
-
-    /// Gives back all frames that rest with this core.
-    pub fn drain(&mut self) {
-        // SAFETY: a handle behind `&mut`.
-        unsafe { sys::llfree_drain(&mut self.handle) }
-    }
-
-    /// How many frames rest with this core, at most 128. They count as held in [`Core::free_frames`].
-    pub fn resting(&mut self) -> u32 {
-        // SAFETY: a handle behind `&mut`.
-        unsafe { sys::llfree_resting(&mut self.handle) }
     }
 }
 

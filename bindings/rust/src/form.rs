@@ -1,5 +1,6 @@
 //! The two forms of a memory: how the library knows what is out.
 use crate::sys::{self, Handle, Struct};
+use crate::Refused;
 
 /// What a block is made of, and the functions of the header that take, give and split it.
 ///
@@ -17,6 +18,10 @@ pub trait Form: Sized {
     fn give(handle: &mut Handle, right: Self::Right) -> Result<(), (u32, Self::Right)>;
     #[doc(hidden)]
     fn split(handle: &mut Handle, right: Self::Right) -> Result<(Self::Right, Self::Right), (u32, Self::Right)>;
+    #[doc(hidden)]
+    fn take_frame(handle: &mut Handle) -> Result<Self::Right, u32>;
+    #[doc(hidden)]
+    fn give_frame(handle: &mut Handle, right: Self::Right) -> Result<(), (u32, Self::Right)>;
     #[doc(hidden)]
     fn place(right: &Self::Right) -> (u32, u8);
 }
@@ -78,6 +83,26 @@ impl Form for Checked {
         }
     }
 
+    fn take_frame(handle: &mut Handle) -> Result<Place, u32> {
+        let mut frame = 0;
+        // SAFETY: as above; `frame` is a local.
+        match unsafe { sys::llfree_take_number(handle, &mut frame) } {
+            0 => Ok(Place { frame, order: 0 }),
+            status => Err(status),
+        }
+    }
+
+    fn give_frame(handle: &mut Handle, right: Place) -> Result<(), (u32, Place)> {
+        if right.order > 0 {
+            return Err((Refused::BadOrder as u32, right));
+        }
+        // SAFETY: as above; any number is safe.
+        match unsafe { sys::llfree_give_number(handle, right.frame) } {
+            0 => Ok(()),
+            status => Err((status, right)),
+        }
+    }
+
     fn place(right: &Place) -> (u32, u8) {
         (right.frame, right.order)
     }
@@ -85,25 +110,8 @@ impl Form for Checked {
 
 pub(crate) const EMPTY: Struct = Struct { live: false, frame: 0, order: 0 };
 
-/// What [`Form::take`] and [`Form::give`] are for blocks, for single frames that rest with their core.
+/// What [`Form::take_frame`] and [`Form::give_frame`] are for one single frame, for several at once.
 impl Unchecked {
-    pub(crate) fn take_frame(handle: &mut Handle) -> Result<Struct, u32> {
-        let mut right = EMPTY;
-        // SAFETY: as above; the struct is an empty local.
-        match unsafe { sys::llfree_take_frame(handle, &mut right) } {
-            0 => Ok(right),
-            status => Err(status),
-        }
-    }
-
-    pub(crate) fn give_frame(handle: &mut Handle, mut right: Struct) -> Result<(), (u32, Struct)> {
-        // SAFETY: as above; the struct was taken from this memory, which the caller has looked at.
-        match unsafe { sys::llfree_give_frame(handle, &mut right) } {
-            0 => Ok(()),
-            status => Err((status, right)),
-        }
-    }
-
     /// How many of these empty structs hold a frame then: the first ones.
     pub(crate) fn take_frames(handle: &mut Handle, rights: &mut [Struct]) -> Result<usize, u32> {
         let mut taken = 0;
@@ -151,6 +159,23 @@ impl Form for Unchecked {
         // SAFETY: as for a give; `upper` is an empty local.
         match unsafe { sys::llfree_split_block(handle, &mut right, &mut upper) } {
             0 => Ok((right, upper)),
+            status => Err((status, right)),
+        }
+    }
+
+    fn take_frame(handle: &mut Handle) -> Result<Struct, u32> {
+        let mut right = EMPTY;
+        // SAFETY: as above; the struct is an empty local.
+        match unsafe { sys::llfree_take_frame(handle, &mut right) } {
+            0 => Ok(right),
+            status => Err(status),
+        }
+    }
+
+    fn give_frame(handle: &mut Handle, mut right: Struct) -> Result<(), (u32, Struct)> {
+        // SAFETY: as above; the struct was taken from this memory, which the caller has looked at.
+        match unsafe { sys::llfree_give_frame(handle, &mut right) } {
+            0 => Ok(()),
             status => Err((status, right)),
         }
     }

@@ -17,8 +17,8 @@
 //! of a fork, calls through a core that is in a call. One heap stands behind `rattle_alloc` (in the installed library
 //! that is `malloc`).
 //!
-//! In the [`Unchecked`] form single frames that are soon taken again may rest with a core ([`Core::take_frame`]),
-//! and several come and go at once ([`Core::take_frames`]).
+//! Single frames that are soon taken again may rest with a core ([`Core::take_frame`]); in the [`Unchecked`] form
+//! several come and go at once ([`Core::take_frames`]).
 //!
 //! The crate has no `std`, no dependency, and allocates nothing but what an opening does. The functions that it calls
 //! are proved; the crate itself is not: it is tested.

@@ -56,6 +56,8 @@ extern "C" {
     pub fn llfree_give_frame(handle: *mut Handle, block: *mut Struct) -> u32;
     pub fn llfree_take_frames(handle: *mut Handle, blocks: *mut Struct, count: usize, taken: *mut usize) -> u32;
     pub fn llfree_give_frames(handle: *mut Handle, blocks: *mut Struct, count: usize) -> u32;
+    pub fn llfree_take_number(handle: *mut Handle, frame: *mut u32) -> u32;
+    pub fn llfree_give_number(handle: *mut Handle, frame: u32) -> u32;
     pub fn llfree_drain(handle: *mut Handle);
     pub fn llfree_resting(handle: *mut Handle) -> u32;
 

@@ -238,6 +238,31 @@ fn frames_rest_with_a_core() {
     assert_eq!((a.resting(), a.free_frames(), a.free_huge()), (0, 4_096, 8));
 }
 
+/// The same of frames that the library has on its list, beside the calls for blocks.
+#[test]
+fn checked_frames_rest_with_a_core() {
+    let [mut a, mut b]: [Core; 2] = Core::open(4_096, &[]).expect("a memory");
+    let mut blocks: Vec<_> = (0..129).map(|_| a.take_frame().expect("a frame")).collect();
+    a.drain();
+    let numbers: Vec<_> = blocks.iter().map(Block::frame).collect();
+    assert!(numbers.iter().all(|&frame| b.order_at(frame) == Some(0)));
+    let last = blocks.pop().expect("129");
+    blocks.into_iter().for_each(|block| a.give_frame(block).map_err(|(refused, _)| refused).expect("it rests"));
+    assert_eq!((a.resting(), b.order_at(numbers[0]), b.order_at(numbers[128])), (128, None, Some(0)));
+    a.give_frame(last).map_err(|(refused, _)| refused).expect("it rests");
+    assert_eq!((a.resting(), b.free_frames()), (65, 4_096 - 65));
+    let again: Vec<_> = (0..65).map(|_| a.take_frame().expect("it rested")).collect();
+    assert!(again.iter().map(Block::frame).eq(numbers[64..].iter().rev().copied()), "the last one comes first");
+    again.into_iter().for_each(|block| b.give(block).map_err(|(refused, _)| refused).expect("a frame is a block"));
+    let single = b.take(0).expect("a block");
+    a.give_frame(single).map_err(|(refused, _)| refused).expect("a block of order 0 rests");
+    let (refused, eight) = { let block = a.take(3).expect("eight"); a.give_frame(block).expect_err("too large") };
+    assert_eq!((refused, eight.order(), a.resting()), (Refused::BadOrder, 3, 1));
+    a.give(eight).map_err(|(refused, _)| refused).expect("given");
+    a.drain();
+    assert_eq!((a.free_frames(), a.free_huge()), (4_096, 8));
+}
+
 #[test]
 fn what_is_refused_of_frames_that_rest() {
     let [mut a, mut b]: [Core<Unchecked>; 2] = Core::open(512, &[]).expect("a memory");

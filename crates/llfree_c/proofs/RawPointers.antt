@@ -57,7 +57,7 @@ pub record Pointer (R : RattleType) : Type 2 where
   pub at_made : (p : Ptr) (x : Option R.Denot) → at (make p x) ≡ p
   pub value_made : (p : Ptr) (x : Option R.Denot) → value (make p x) ≡ x
 
-abbrev word : Val → Val
+abbrev pub word : Val → Val
 word v = vstruct (vcons v vnil)
 
 abbrev Z : RattleType
@@ -94,7 +94,7 @@ module _ (R : RattleType) (P : Pointer R) where
     shr_at = P.struct.shr_at;
   }
 
-  abbrev Raw : RattleType
+  abbrev pub Raw : RattleType
   Raw = row type
 
   abbrev Loose : RattleType
@@ -111,12 +111,12 @@ module _ (R : RattleType) (P : Pointer R) where
       (λ k. quiet (to type) (exits_of k (fields type)) ((struct_send (shape type) all).leaving k))
 
   module _ {M : Type 1} {𝓤 : Ura M} {𝓛 : Logic 𝓤} {K : Type 0} {Γ : List (Item 𝓤)} {G : Goal 𝓤 𝓛.H} where
-    raw_out : K → (d : P.struct.D) (vs : List Val) → ((ws : vs ≡ word (ptr_val (P.at d)) ∷ [])
+    pub raw_out : K → (d : P.struct.D) (vs : List Val) → ((ws : vs ≡ word (ptr_val (P.at d)) ∷ [])
         → Seq K 𝓛 (‵ (owned_if R (P.at d) (P.value d)) ∷ Γ) G) → Seq K 𝓛 (‵ (Raw.own_val d vs) ∷ Γ) G
     raw_out t d vs k = fsplit t $ fpick t (λ vss. fsplit t $ feq_l t (λ ev. fsplit t $ feq_l t (λ ep. drop t $
         k (subst (λ (ps : List Val). vs ≡ vstruct (of_list (ps ++ [])) ∷ []) ep ev))))
 
-    raw_in : K → (p : Ptr) (x : Option R.Denot)
+    pub raw_in : K → (p : Ptr) (x : Option R.Denot)
         → Step K 𝓛 (‵ (Raw.own_val (P.make p x) (word (ptr_val p) ∷ [])) ∷ Γ) G (‵ (owned_if R p x) ∷ Γ) G
     raw_in t p x = step (λ s. let w : Val = word (ptr_val p) in let d : P.struct.D = P.make p x in
         rewrite t 0 (λ (q : Ptr). ‵ (owned_if R q x)) (sym (P.at_made p x)) refl $

@@ -45,11 +45,12 @@ abbrev pub HasNoPairs : List FrameRange → ℕ → Type 0
 HasNoPairs ranges status =
     ((status ≡ bad_range) × (most_ranges < length ranges)) ⊎ (status ≡ no_memory)
 
--- why no memory was opened: there is none of these sizes, the ranges may not be held back, or memory
--- was wanting
+-- why no memory was opened: there is none of these sizes, the ranges may not be held back, or there is one
+-- of these sizes and memory was wanting
 abbrev pub IsUnopened : (frames cores : ℕ) → List FrameRange → ℕ → Type 0
 IsUnopened frames cores ranges status =
-    HasNoSizes frames cores status ⊎ RangesDoNotFit frames ranges status ⊎ (status ≡ no_memory)
+    HasNoSizes frames cores status ⊎ RangesDoNotFit frames ranges status
+    ⊎ ((status ≡ no_memory) × AreMemorySizes frames cores)
 
 -- the memory has so many frames, and its opening held these ranges back, which may be held back, and
 -- nothing else that lies inside

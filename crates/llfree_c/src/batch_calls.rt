@@ -12,14 +12,12 @@ use crate::batch_steps::{give_frames, take_frames};
 use crate::block_handle::BlockHandle;
 use crate::core_handle::CoreHandle;
 use crate::statuses::CLOSED;
-use std::alloc::Global;
 
 /// Takes a single frame into each of these empty structs, while there are some, the first struct first: as many takes
 /// of one frame do. It writes how many there were.
 #[unsafe(no_mangle)]
 pub extern "C" fn llfree_take_frames(
     handle: &mut CoreHandle,
-    heap: Global,
     held: &mut [BlockHandle],
     got: &mut usize,
 ) -> u32
@@ -36,22 +34,16 @@ pub extern "C" fn llfree_take_frames(
     ensures known { (result ≡ ok) ⊎ (result ≡ no_block) ⊎ (result ≡ closed) ⊎ (result ≡ not_closed)
         ⊎ (result ≡ contended) }
 {
-    let Some(mut state) = handle.lift_out(heap) else {
+    if !handle.live {
         return CLOSED;
-    };
-    let status = take_frames(&mut state, held, got);
-    handle.put_back(state);
-    status
+    }
+    take_frames(handle.state.as_mut(), held, got)
 }
 
 /// Gives the single frame of each of these structs, whichever core took it, the first struct first; they are empty
 /// from then on. The frames come to rest with the core. Where one struct has none, or a larger block, nothing is given.
 #[unsafe(no_mangle)]
-pub extern "C" fn llfree_give_frames(
-    handle: &mut CoreHandle,
-    heap: Global,
-    held: &mut [BlockHandle],
-) -> u32
+pub extern "C" fn llfree_give_frames(handle: &mut CoreHandle, held: &mut [BlockHandle]) -> u32
     requires { AreOfTheAllocator handle.old.state.value held.old }
     ensures given { result ≡ ok → OnCores (GivesFrames held.old held.new)
         handle.old.state.value handle.new.state.value }
@@ -63,10 +55,8 @@ pub extern "C" fn llfree_give_frames(
     ensures stay { result ≢ ok → held.new ≡ held.old }
     ensures known { (result ≡ ok) ⊎ (result ≡ bad_order) ⊎ (result ≡ not_held) ⊎ (result ≡ closed) }
 {
-    let Some(mut state) = handle.lift_out(heap) else {
+    if !handle.live {
         return CLOSED;
-    };
-    let status = give_frames(&mut state, held);
-    handle.put_back(state);
-    status
+    }
+    give_frames(handle.state.as_mut(), held)
 }

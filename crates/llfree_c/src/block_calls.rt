@@ -12,13 +12,11 @@ use crate::block_steps::{give_block, split_block, take_block};
 use crate::core_handle::CoreHandle;
 use crate::crossings::may_cross;
 use crate::statuses::CLOSED;
-use std::alloc::Global;
 
 /// Takes a block of the order, which the empty `held` carries from then on.
 #[unsafe(no_mangle)]
 pub extern "C" fn llfree_take_block(
     handle: &mut CoreHandle,
-    heap: Global,
     order: u8,
     held: &mut BlockHandle,
 ) -> u32
@@ -33,22 +31,17 @@ pub extern "C" fn llfree_take_block(
     ensures known { (result ≤ bad_order) ⊎ (result ≡ closed) ⊎ (result ≡ not_closed)
         ⊎ (result ≡ contended) }
 {
-    let Some(mut state) = handle.take_out(heap) else {
+    if !handle.live {
         return CLOSED;
-    };
-    let status = take_block(&mut state, order, held);
-    *handle = CoreHandle::of(state);
+    }
+    let status = take_block(handle.state.as_mut(), order, held);
     may_cross(held);
     status
 }
 
 /// Gives the block that `held` carries, whichever core took it; it is empty from then on.
 #[unsafe(no_mangle)]
-pub extern "C" fn llfree_give_block(
-    handle: &mut CoreHandle,
-    heap: Global,
-    held: &mut BlockHandle,
-) -> u32
+pub extern "C" fn llfree_give_block(handle: &mut CoreHandle, held: &mut BlockHandle) -> u32
     requires { IsOfTheAllocator handle.old.state.value held.old }
     ensures given { result ≡ ok → (held.old.live ≡ true) × (held.new.live ≡ false)
         × OnCores (GivesFor held.old.order held.old.frame)
@@ -61,12 +54,10 @@ pub extern "C" fn llfree_give_block(
     ensures stays { result ≢ ok → held.new ≡ held.old }
     ensures known { (result ≡ ok) ⊎ (result ≡ not_held) ⊎ (result ≡ closed) }
 {
-    let Some(mut state) = handle.take_out(heap) else {
+    if !handle.live {
         return CLOSED;
-    };
-    let status = give_block(&mut state, held);
-    *handle = CoreHandle::of(state);
-    status
+    }
+    give_block(handle.state.as_mut(), held)
 }
 
 /// Splits the block that `held` carries into its halves, whichever core took it: `held` carries the
@@ -74,7 +65,6 @@ pub extern "C" fn llfree_give_block(
 #[unsafe(no_mangle)]
 pub extern "C" fn llfree_split_block(
     handle: &mut CoreHandle,
-    heap: Global,
     held: &mut BlockHandle,
     upper: &mut BlockHandle,
 ) -> u32
@@ -91,10 +81,8 @@ pub extern "C" fn llfree_split_block(
     ensures known { (result ≡ ok) ⊎ (result ≡ bad_order) ⊎ (result ≡ not_held) ⊎ (result ≡ closed)
         ⊎ (result ≡ not_closed) }
 {
-    let Some(mut state) = handle.take_out(heap) else {
+    if !handle.live {
         return CLOSED;
-    };
-    let status = split_block(&mut state, held, upper);
-    *handle = CoreHandle::of(state);
-    status
+    }
+    split_block(handle.state.as_mut(), held, upper)
 }

@@ -38,12 +38,7 @@ pub extern "C" fn llfree_open(
 
 /// Takes a block of the order, and writes its first frame.
 #[unsafe(no_mangle)]
-pub extern "C" fn llfree_take(
-    handle: &mut CoreHandle,
-    heap: Global,
-    order: u8,
-    frame: &mut u32,
-) -> u32
+pub extern "C" fn llfree_take(handle: &mut CoreHandle, order: u8, frame: &mut u32) -> u32
     ensures taken { result ≡ ok
         → OnCores (TakesFor order frame.new) handle.old.state.value handle.new.state.value }
     ensures refused { result ≢ ok → result ≢ closed
@@ -54,17 +49,15 @@ pub extern "C" fn llfree_take(
     ensures stays { result ≢ ok → frame.new ≡ frame.old }
     ensures known { (result ≤ bad_order) ⊎ (result ≡ closed) ⊎ (result ≡ contended) }
 {
-    let Some(mut state) = handle.lift_out(heap) else {
+    if !handle.live {
         return CLOSED;
-    };
-    let status = take(&mut state, order, frame);
-    handle.put_back(state);
-    status
+    }
+    take(handle.state.as_mut(), order, frame)
 }
 
 /// Gives exactly this block, where it is held, whichever core took it.
 #[unsafe(no_mangle)]
-pub extern "C" fn llfree_give(handle: &mut CoreHandle, heap: Global, frame: u32, order: u8) -> u32
+pub extern "C" fn llfree_give(handle: &mut CoreHandle, frame: u32, order: u8) -> u32
     ensures given { result ≡ ok
         → OnCores (GivesFor order frame) handle.old.state.value handle.new.state.value }
     ensures same { result ≡ not_held
@@ -74,17 +67,15 @@ pub extern "C" fn llfree_give(handle: &mut CoreHandle, heap: Global, frame: u32,
     ensures closed { result ≡ closed → (handle.old.live ≡ false) × (handle.new ≡ handle.old) }
     ensures known { (result ≡ ok) ⊎ (result ≡ not_held) ⊎ (result ≡ closed) }
 {
-    let Some(mut state) = handle.lift_out(heap) else {
+    if !handle.live {
         return CLOSED;
-    };
-    let status = give(&mut state, frame, order);
-    handle.put_back(state);
-    status
+    }
+    give(handle.state.as_mut(), frame, order)
 }
 
 /// Splits exactly this block into its halves, where it is held; any core gives each by itself then.
 #[unsafe(no_mangle)]
-pub extern "C" fn llfree_split(handle: &mut CoreHandle, heap: Global, frame: u32, order: u8) -> u32
+pub extern "C" fn llfree_split(handle: &mut CoreHandle, frame: u32, order: u8) -> u32
     ensures split { result ≡ ok
         → OnCores (SplitsFor order frame) handle.old.state.value handle.new.state.value }
     ensures refused { result ≢ ok → result ≢ closed
@@ -95,12 +86,10 @@ pub extern "C" fn llfree_split(handle: &mut CoreHandle, heap: Global, frame: u32
     ensures known { (result ≡ ok) ⊎ (result ≡ bad_order) ⊎ (result ≡ not_held)
         ⊎ (result ≡ closed) ⊎ (result ≡ contended) }
 {
-    let Some(mut state) = handle.lift_out(heap) else {
+    if !handle.live {
         return CLOSED;
-    };
-    let status = split(&mut state, frame, order);
-    handle.put_back(state);
-    status
+    }
+    split(handle.state.as_mut(), frame, order)
 }
 
 /// The frames of the memory behind the handle; 0 where nothing is.

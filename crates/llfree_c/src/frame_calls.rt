@@ -13,16 +13,11 @@ use crate::core_handle::CoreHandle;
 use crate::crossings::may_cross;
 use crate::frame_steps::{give_frame, take_frame};
 use crate::statuses::CLOSED;
-use std::alloc::Global;
 
 /// Takes a single frame, which the empty `held` carries from then on: the one that came to rest with the core
 /// last, or one as a take of order 0 takes it.
 #[unsafe(no_mangle)]
-pub extern "C" fn llfree_take_frame(
-    handle: &mut CoreHandle,
-    heap: Global,
-    held: &mut BlockHandle,
-) -> u32
+pub extern "C" fn llfree_take_frame(handle: &mut CoreHandle, held: &mut BlockHandle) -> u32
     ensures taken { result ≡ ok → (held.old.live ≡ false)
         × OnCores (TakesFrame held.new) handle.old.state.value handle.new.state.value }
     ensures refused { result ≢ ok → result ≢ closed → OnCores
@@ -34,11 +29,10 @@ pub extern "C" fn llfree_take_frame(
     ensures known { (result ≤ bad_order) ⊎ (result ≡ closed) ⊎ (result ≡ not_closed)
         ⊎ (result ≡ contended) }
 {
-    let Some(mut state) = handle.lift_out(heap) else {
+    if !handle.live {
         return CLOSED;
-    };
-    let status = take_frame(&mut state, held);
-    handle.put_back(state);
+    }
+    let status = take_frame(handle.state.as_mut(), held);
     may_cross(held);
     status
 }
@@ -46,11 +40,7 @@ pub extern "C" fn llfree_take_frame(
 /// Gives the single frame that `held` carries, whichever core took it; it is empty from then on. The frame
 /// comes to rest with the core.
 #[unsafe(no_mangle)]
-pub extern "C" fn llfree_give_frame(
-    handle: &mut CoreHandle,
-    heap: Global,
-    held: &mut BlockHandle,
-) -> u32
+pub extern "C" fn llfree_give_frame(handle: &mut CoreHandle, held: &mut BlockHandle) -> u32
     requires { IsOfTheAllocator handle.old.state.value held.old }
     ensures given { result ≡ ok → (held.old.live ≡ true) × (held.old.order ≡ 0)
         × (held.new.live ≡ false)
@@ -63,38 +53,33 @@ pub extern "C" fn llfree_give_frame(
     ensures stays { result ≢ ok → held.new ≡ held.old }
     ensures known { (result ≡ ok) ⊎ (result ≡ bad_order) ⊎ (result ≡ not_held) ⊎ (result ≡ closed) }
 {
-    let Some(mut state) = handle.lift_out(heap) else {
+    if !handle.live {
         return CLOSED;
-    };
-    let status = give_frame(&mut state, held);
-    handle.put_back(state);
-    status
+    }
+    give_frame(handle.state.as_mut(), held)
 }
 
 /// Gives all frames back that rest with the core. Where nothing is behind the handle it does nothing.
 #[unsafe(no_mangle)]
-pub extern "C" fn llfree_drain(handle: &mut CoreHandle, heap: Global)
+pub extern "C" fn llfree_drain(handle: &mut CoreHandle)
     ensures drained { handle.old.live ≡ true
         → OnCores Drains handle.old.state.value handle.new.state.value }
     ensures closed { handle.old.live ≡ false → handle.new ≡ handle.old }
 {
-    let Some(mut state) = handle.lift_out(heap) else {
+    if !handle.live {
         return;
-    };
-    state.drain();
-    handle.put_back(state);
+    }
+    handle.state.as_mut().drain();
 }
 
 /// How many frames rest with the core, at most 128; 0 where nothing is behind the handle.
 #[unsafe(no_mangle)]
-pub extern "C" fn llfree_resting(handle: &mut CoreHandle, heap: Global) -> u32
+pub extern "C" fn llfree_resting(handle: &mut CoreHandle) -> u32
     ensures resting { result ≡ resting_behind handle.old.state.value }
     ensures same { handle.new.state.value ≡ handle.old.state.value }
 {
-    let Some(state) = handle.lift_out(heap) else {
+    if !handle.live {
         return 0;
-    };
-    let resting = state.resting();
-    handle.put_back(state);
-    resting
+    }
+    handle.state.as_mut().resting()
 }

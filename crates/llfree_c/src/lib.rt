@@ -24,6 +24,8 @@ mod home_calls;
 mod images;
 mod laws;
 mod loose;
+mod number_calls;
+mod number_steps;
 mod place_calls;
 mod plain;
 mod ranges;
@@ -43,4 +45,4 @@ mod zone_cores;
 mod zone_openings;
 mod zone_reopenings;
 
-pub use laws::wrong_images_are_not_left;
+pub use laws::{wrong_answers_are_not_given, wrong_images_are_not_left};

@@ -9,18 +9,11 @@ ghost use Rattle.llfree_c.specs.SeenCores.{OnCores};
 use crate::core_handle::CoreHandle;
 use crate::core_steps::{order_at, split_to};
 use crate::statuses::CLOSED;
-use std::alloc::Global;
 
 /// Splits exactly this block into all its blocks of an order, where it is held; any core gives each by itself
 /// then.
 #[unsafe(no_mangle)]
-pub extern "C" fn llfree_split_to(
-    handle: &mut CoreHandle,
-    heap: Global,
-    frame: u32,
-    order: u8,
-    to: u8,
-) -> u32
+pub extern "C" fn llfree_split_to(handle: &mut CoreHandle, frame: u32, order: u8, to: u8) -> u32
     ensures split { result ≡ ok
         → OnCores (SplitsToFor order to frame) handle.old.state.value handle.new.state.value }
     ensures refused { result ≢ ok → result ≢ closed
@@ -31,23 +24,16 @@ pub extern "C" fn llfree_split_to(
     ensures known { (result ≡ ok) ⊎ (result ≡ bad_order) ⊎ (result ≡ not_held)
         ⊎ (result ≡ closed) ⊎ (result ≡ contended) }
 {
-    let Some(mut state) = handle.lift_out(heap) else {
+    if !handle.live {
         return CLOSED;
-    };
-    let status = split_to(&mut state, frame, order, to);
-    handle.put_back(state);
-    status
+    }
+    split_to(handle.state.as_mut(), frame, order, to)
 }
 
 /// Writes the order of the block that begins at this frame, as a look at the slots of the blocks that begin there sees
 /// it.
 #[unsafe(no_mangle)]
-pub extern "C" fn llfree_order_at(
-    handle: &mut CoreHandle,
-    heap: Global,
-    frame: u32,
-    order: &mut u8,
-) -> u32
+pub extern "C" fn llfree_order_at(handle: &mut CoreHandle, frame: u32, order: &mut u8) -> u32
     ensures seen { result ≡ ok
         → OnCores (SeesFor order.new frame) handle.old.state.value handle.new.state.value }
     ensures same { result ≢ closed
@@ -58,10 +44,8 @@ pub extern "C" fn llfree_order_at(
     ensures stays { result ≢ ok → order.new ≡ order.old }
     ensures known { (result ≡ ok) ⊎ (result ≡ not_held) ⊎ (result ≡ closed) }
 {
-    let Some(mut state) = handle.lift_out(heap) else {
+    if !handle.live {
         return CLOSED;
-    };
-    let status = order_at(&mut state, frame, order);
-    handle.put_back(state);
-    status
+    }
+    order_at(handle.state.as_mut(), frame, order)
 }

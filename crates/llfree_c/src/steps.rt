@@ -7,7 +7,7 @@ ghost use Rattle.frame_model.specs.QuietTake.{QuietTake};
 ghost use Rattle.core_frames.specs.PlainState.{memory_by};
 ghost use Rattle.llfree_c.specs.FreeCounts.{AreFreeFrames, AreFreeChildren};
 ghost use Rattle.llfree_c.specs.Images.{image_words, LeavesNumbers, HasNoImage, StaysBehind};
-ghost use Rattle.llfree_c.specs.Openings.{IsMemoryOf, IsUnopened};
+ghost use Rattle.llfree_c.specs.Openings.{AreMemorySizes, IsMemoryOf, IsUnopened};
 ghost use Rattle.llfree_c.specs.Status.{ok, no_block, bad_order, not_held};
 ghost use Rattle.llfree_c.specs.Seen.{BlockTaken, NoneWasFree, HasNoOrder, BlockGiven, BlockSplit, HasNoHalves, WasNotOut};
 
@@ -27,6 +27,7 @@ impl Plain {
     pub(crate) fn open(heap: Global, frames: u32, ranges: &[FrameRange]) -> Result<Plain, u32>
         ensures memory { IfOk result (λ p. IsMemoryOf frames ranges.now (memory_by p.allocator)) }
         ensures nothing { IfOk result (λ p. (p.allocator.out ≡ []) × (p.allocator.kept ≡ [])) }
+        ensures lawful { IfOk result (λ _. AreMemorySizes frames 1) }
         ensures err { IfErr result (IsUnopened frames 1 ranges.now) }
     {
         let geometry = geometry_of(frames, 1)?;

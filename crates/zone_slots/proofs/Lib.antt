@@ -14,3 +14,4 @@ pub mod KeptHomes
 pub mod Rested
 pub mod Batches
 pub mod Parted
+pub mod FrameNumbers

@@ -13,6 +13,7 @@ pub mod Calls
 pub mod Refusals
 pub mod Blocks
 pub mod FrameCalls
+pub mod FrameNumbers
 pub mod FreeCounts
 pub mod Homes
 pub mod WrongTakes

@@ -10,6 +10,7 @@ mod core_state;
 mod cuts;
 mod first_zone;
 mod frame_list;
+mod frame_numbers;
 mod frames;
 mod free_counts;
 mod homes;

@@ -1,6 +1,0 @@
-// E0599
-use llfree::{Block, Core, Refused};
-
-pub fn main(core: &mut Core, block: Block) -> Result<(), (Refused, Block)> {
-    core.give_frame(block)
-}
