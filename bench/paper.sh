@@ -1,15 +1,16 @@
 #!/usr/bin/env bash
 # Measures what LLFree's authors measured (USENIX ATC 2023), and what kernels do besides, from C (bench/paper): the
-# library by numbers (llfree), with blocks in structs (unchecked), and so with two handles a thread (two); a buddy
-# allocator with lists for each processor, as Linux has it (lists); a buddy allocator and a bitmap, each under a mutex;
-# and malloc where it can stand in.
+# library by numbers (llfree), with blocks in structs (unchecked), so with single frames that rest with a core (resting),
+# and with two handles a thread (two); a buddy allocator with lists for each processor, as Linux has it (lists); a buddy
+# allocator and a bitmap, each under a mutex; and malloc where it can stand in.
 #     bench/paper.sh [--only NAME] > bench/results/FILE.csv
 # NAME is phases (bulk, repeat, random, foreign gives), levels (up to 99.9 % held), mixed (huge frames left where sizes
 # mix), ring (taken here, given there), tails (percentiles, bursts, preempted), climb (64 GiB filled from empty) or
 # refusals (takes that find nothing in a cut up memory). Each program checks that no frame is had twice, and that all is
 # free at the end. It needs a C compiler, python3 and 2 GiB; the library is built where it is not there. UNDER stands
-# before each program, as in 'chrt -f 10'; ROUNDS is how often each allocator has its turn. A line is a case, with the
-# least of its rounds for nanoseconds, the median for percentiles, the mean for all else (bench/paper.py).
+# before each program, as in 'chrt -f 10'; ROUNDS is how often each allocator has its turn; ONLY names allocators, by
+# default all. A line is a case, with the least of its rounds for nanoseconds, the median for percentiles, the mean for
+# all else (bench/paper.py).
 set -eu
 unset CDPATH MAKEFLAGS MFLAGS
 here=$(cd "$(dirname "$0")" && pwd)

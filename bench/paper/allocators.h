@@ -1,6 +1,7 @@
 /* What is measured, each by the same calls: the library by numbers, with blocks in structs (unchecked), so with single
- * frames that rest with a core (resting), and with two handles a thread; a buddy allocator with lists for each processor as Linux has it; a buddy allocator and a bitmap,
- * each under a mutex (../c/peers.h, ../c/locked.h); and the C library's malloc.
+ * frames that rest with a core (resting), and with two handles a thread; a buddy allocator with lists for each
+ * processor as Linux has it; a buddy allocator and a bitmap, each under a mutex (../c/peers.h, ../c/locked.h); and the C
+ * library's malloc.
  * A program's loops take an allocator that is a constant, so that nothing stands between them and what they call. */
 #ifndef ALLOCATORS_H
 #define ALLOCATORS_H
@@ -19,7 +20,7 @@ struct allocator {
     bool (*take)(struct worker *, uint8_t order, void *block);
     void (*give)(struct worker *, uint8_t order, void *block);
     uint32_t (*frame)(const void *block);
-    void (*settle)(void); /* what rests goes back */
+    void (*settle)(struct worker *); /* what rests with it goes back */
 };
 
 static struct peer *peer;
@@ -120,10 +121,9 @@ INLINE void resting_give(struct worker *me, uint8_t order, void *block)
     want((order > 0 ? llfree_give_block : llfree_give_frame)(&me->core, block) == LLFREE_OK, "a give was refused");
 }
 
-static void all_drain(void)
+static void resting_settle(struct worker *me)
 {
-    for (uint32_t i = 0; i < threads; i++)
-        llfree_drain(&workers[i].core);
+    llfree_drain(&me->core);
 }
 
 INLINE void two_give(struct worker *me, uint8_t order, void *block)
@@ -173,6 +173,11 @@ static void nothing(void)
 {
 }
 
+static void nothing_rests(struct worker *me)
+{
+    (void)me;
+}
+
 INLINE bool bits_take(struct worker *me, uint8_t order, void *block)
 {
     (void)me;
@@ -199,21 +204,21 @@ INLINE void malloc_give(struct worker *me, uint8_t order, void *block)
 }
 
 static const struct allocator numbers = { "llfree", sizeof(uint32_t), numbers_open, numbers_close, numbers_take,
-                                          numbers_give, number_frame, nothing };
+                                          numbers_give, number_frame, nothing_rests };
 static const struct allocator structs = { "unchecked", sizeof(llfree_block), structs_open, numbers_close,
-                                          structs_take, structs_give, struct_frame, nothing };
+                                          structs_take, structs_give, struct_frame, nothing_rests };
 static const struct allocator resting = { "resting", sizeof(llfree_block), structs_open, numbers_close,
-                                          resting_take, resting_give, struct_frame, all_drain };
+                                          resting_take, resting_give, struct_frame, resting_settle };
 static const struct allocator two = { "two", sizeof(llfree_block), two_open, two_close, two_take, two_give,
-                                      struct_frame, nothing };
+                                      struct_frame, nothing_rests };
 static const struct allocator lists = { "lists", sizeof(uint32_t), lists_open, peers_close, peers_take, peers_give,
-                                        number_frame, nothing };
+                                        number_frame, nothing_rests };
 static const struct allocator buddy = { "buddy", sizeof(uint32_t), buddy_open, peers_close, peers_take, peers_give,
-                                        number_frame, nothing };
+                                        number_frame, nothing_rests };
 static const struct allocator bitmap = { "bitmap", sizeof(uint32_t), bits_open, nothing, bits_take, bits_give,
-                                         number_frame, nothing };
+                                         number_frame, nothing_rests };
 static const struct allocator heap = { "malloc", sizeof(void *), nothing, nothing, malloc_take, malloc_give,
-                                       NULL, nothing };
+                                       NULL, nothing_rests };
 
 /* The blocks that a caller keeps of an allocator */
 

@@ -8,7 +8,7 @@
  * (the takes are timed one by one), and how many takes of a million were refused. */
 #include "runs.h"
 
-enum { BURST = 16, LEVELS = 5, MOST_TRIES = 1000 };
+enum { BURST = 16, LEVELS = 5, MOST_TRIES = 1000000 };
 
 static const struct level {
     const char *name;
@@ -84,6 +84,7 @@ INLINE void run(struct worker *me, const struct allocator *allocator)
 
     for (own->held = 0; own->held < own->most; own->held++)
         take_surely(me, allocator, at(allocator, own->blocks, own->held));
+    allocator->settle(me); /* others want it */
     stamp_all(allocator, order, own->blocks, own->held, true);
     for (int level = 0; level < LEVELS; level++) {
         give_until(me, allocator, own, (uint32_t)(own->most * levels[level].share));
@@ -99,7 +100,7 @@ INLINE void run(struct worker *me, const struct allocator *allocator)
     give_until(me, allocator, own, 0);
 }
 
-#define EACH(of) of(numbers) of(structs) of(lists) of(buddy) of(bitmap)
+#define EACH(of) of(numbers) of(structs) of(resting) of(lists) of(buddy) of(bitmap)
 RUNS_OVER(EACH)
 
 static uint64_t clock_itself;

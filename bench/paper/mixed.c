@@ -6,8 +6,9 @@
  * 1 to 3); HUGE of 100 bursts are one huge frame. Having grown to a size of a power law (64 to 65,536 frames) it ends:
  * all is given but 2 of 100 small blocks, which stay as a cache. A thread that would hold more than LOAD % of its share
  * gives random blocks of its cache. After each round of 200,000 calls a thread, children are counted that no held block
- * touches. Told are these, of those that could be if all held frames lay together, over the second half of the rounds
- * (left), and in the worst of them; how much was held, in percent; and how many takes were refused in all rounds. */
+ * touches, so what rests with a core counts as given back. Told are these, of those that could be if all held frames
+ * lay together, over the second half of the rounds (left), and in the worst of them; how much was held, in percent; and
+ * how many takes were refused in all rounds. */
 #include "runs.h"
 #include <math.h>
 
@@ -167,7 +168,7 @@ INLINE void run(struct worker *me, const struct allocator *allocator)
     }
 }
 
-#define EACH(of) of(numbers) of(structs) of(two) of(lists) of(buddy) of(bitmap)
+#define EACH(of) of(numbers) of(structs) of(resting) of(two) of(lists) of(buddy) of(bitmap)
 RUNS_OVER(EACH)
 
 static void tell_mixed(const char *allocator)

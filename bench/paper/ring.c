@@ -69,7 +69,7 @@ INLINE void run(struct worker *me, const struct allocator *allocator)
         figure = (double)spent() / (double)calls;
 }
 
-#define EACH(of) of(numbers) of(structs) of(lists) of(buddy) of(bitmap) of(heap)
+#define EACH(of) of(numbers) of(structs) of(resting) of(lists) of(buddy) of(bitmap) of(heap)
 RUNS_OVER(EACH)
 
 static void tell_ring(const char *allocator)

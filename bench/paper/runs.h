@@ -28,6 +28,18 @@ static inline void tell(const char *order, const char *which, const char *measur
     fflush(stdout);
 }
 
+/* Whether ONLY, words of the environment, names it; without that all are measured. */
+static inline bool is_wanted(const char *name)
+{
+    const char *words = getenv("ONLY");
+    size_t length = strlen(name);
+
+    for (const char *at = words; at && (at = strstr(at, name)); at += length)
+        if ((at == words || at[-1] == ' ') && (at[length] == ' ' || at[length] == 0))
+            return true;
+    return words == NULL;
+}
+
 /* Rounds, in which each has its turn: it is opened, all threads run, all has to be free, and it is closed. Then
  * tell_all says what was measured of it. */
 static inline void measure_all(const struct measured *all, size_t count, uint32_t rounds,
@@ -37,6 +49,8 @@ static inline void measure_all(const struct measured *all, size_t count, uint32_
     stamps = memory_of(frames, 1);
     for (uint32_t round = 0; round < rounds; round++)
         for (size_t i = 0; i < count; i++) {
+            if (!is_wanted(all[i].allocator->name))
+                continue;
             all[i].allocator->open();
             run_all(all[i].run, round);
             want_all_free(all[i].allocator);

@@ -44,7 +44,8 @@ static inline void want_all_free(const struct allocator *allocator)
     if (allocator->frame == NULL)
         return;
     want(memchr((const void *)stamps, 1, frames) == NULL, "a frame is held at the end");
-    allocator->settle();
+    for (uint32_t i = 0; i < threads; i++)
+        allocator->settle(&workers[i]);
     char *blocks = memory_of(children, allocator->size);
     for (uint32_t i = 0; i < children; i++) {
         want(allocator->take(&workers[0], MOST_ORDER, at(allocator, blocks, i)), "a huge frame is lost");

@@ -94,7 +94,7 @@ INLINE void run(struct worker *me, const struct allocator *allocator)
         allocator->give(me, 0, at(allocator, own, i));
 }
 
-#define EACH(of) of(numbers) of(structs) of(lists) of(buddy) of(bitmap)
+#define EACH(of) of(numbers) of(structs) of(resting) of(lists) of(buddy) of(bitmap)
 RUNS_OVER(EACH)
 
 static void sum_of(struct counts *sum, int kind)
