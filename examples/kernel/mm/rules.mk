@@ -17,11 +17,11 @@ comma := ,
 always_same := $(patsubst %,KBUILD_BUILD_%,TIMESTAMP=@0 VERSION=1 USER=llfree HOST=llfree)
 kbuild = unset MAKEFLAGS MFLAGS MAKELEVEL; $(MAKE) -s -C $(linux)/source $(always_same)
 
-$(linux)/source/unpacked: $(sources) mm/page_alloc.patch
+$(linux)/source/unpacked: $(sources) mm/page_alloc.patch mm/um_xstate.patch
 	rm -rf $(@D)
 	mkdir -p $(@D)
 	tar xf $(sources) -C $(@D) --strip-components=1 $(patsubst %,--exclude='%',$(unneeded))
-	patch -s -p1 -d $(@D) <mm/page_alloc.patch
+	cat $(filter %.patch,$^) | patch -s -p1 -d $(@D)
 	touch $@
 
 # what did not change keeps its time, and is not compiled again
