@@ -361,7 +361,7 @@ plots() {
     makes 'the plot of threads' "$result" docs/pictures/threads.svg bench/plot.py --only pairs,0 pairs,9 random,mixed
     makes 'the plot from C' bench/results/c-2026-11-28.csv docs/pictures/from-c.svg bench/plot.py
     makes 'the plot of a kernel replayed' bench/results/replay-2026-11-28-4.txt docs/pictures/replay.svg bench/plot.py
-    makes 'the plot of phases' bench/results/phases-2026-11-28.csv docs/pictures/phases.svg bench/plot.py \
+    makes 'the plot of phases' bench/results/paper-2026-11-29.csv docs/pictures/phases.svg bench/plot.py \
         --only pair,0 take,0 random,0
     bench/plot.py --slide <"$result" >"$work/plot"
     tries 'a plot for a slide' [ "$(grep -c 'Xeon' "$work/plot")" = 0 ]

@@ -21,7 +21,7 @@ with_libraries() {
 
 # Linux' selftests
 tar xf "$sources" -C "$work" --strip-components=1 --wildcards '*/tools/testing/selftests/vm/*' \
-    '*/tools/testing/selftests/kselftest*.h' '*/mm/gup_test.h'
+    '*/tools/testing/selftests/kselftest*.h' '*/mm/gup_test.h' '*/include/vdso/time64.h'
 cd "$work/tools/testing/selftests/vm"
 cc -w -c vm_util.c
 ar r vm_util.a vm_util.o
