@@ -1,10 +1,11 @@
 # Parts of init by programs that somebody else wrote: Linux' selftests of memory and of vmalloc, stress-ng, and a
 # compilation of Linux. Each says by its status how it ended.
 mount -t devtmpfs dev /dev
-mkdir -p /etc /dev/shm /dev/hugepages
+mkdir -p /etc /dev/shm /dev/hugepages /selftests/huge
 mount -t tmpfs -o size=40% shm /dev/shm
 mount -t debugfs debug /sys/kernel/debug
 mount -t hugetlbfs huge /dev/hugepages
+mount -t hugetlbfs huge /selftests/huge
 echo nobody:x:65534:65534::/: >/etc/passwd
 left_out=0
 
@@ -13,6 +14,7 @@ selftest() {
     local status
     (cd /selftests && PATH=$PATH:/selftests timeout 1200 "$@") >/tmp/said 2>&1
     status=$?
+    rm -f /dev/hugepages/* /selftests/huge/*
     if [ $status = 4 ]; then
         left_out=$((left_out + 1))
         echo "selftest $*: left out, $(tail -n 1 /tmp/said)"

@@ -6,6 +6,7 @@ here=$(cd "$(dirname "$0")" && pwd)
 sources=$1 linux=$2 same=$3 out=$4
 files=$(mktemp -d) work=$(mktemp -d)
 trap 'rm -rf "$files" "$work"' EXIT
+chmod 755 "$files" # it becomes the root of all, which everybody may enter
 mkdir -p "$files/selftests" "$files/usr/bin"
 cp "$here/foreign.sh" "$files"
 cp "$here/selftests" "$files/selftests/list"
