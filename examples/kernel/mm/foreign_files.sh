@@ -41,6 +41,8 @@ for tool in gcc as ld nm ar objcopy strip make bash bc; do
     with_libraries "$program"
     [ "$program" = "/usr/bin/$tool" ] || ln -s "$program" "$files/usr/bin/$tool"
 done
+mkdir -p "$files/bin"
+ln -s /usr/bin/bash "$files/bin/bash"
 ln -s /bin/busybox "$files/usr/bin/env"
 with_libraries "$(gcc -print-prog-name=cc1)" "$(gcc -print-prog-name=collect2)"
 for name in crt1.o Scrt1.o crti.o crtn.o crtbegin.o crtbeginS.o crtend.o crtendS.o libgcc.a libgcc_s.so libgcc_s.so.1 \
@@ -48,16 +50,23 @@ for name in crt1.o Scrt1.o crti.o crtn.o crtbegin.o crtbeginS.o crtend.o crtendS
     cp -L --parents "$(realpath "$(gcc -print-file-name=$name)")" "$files"
 done
 
-# of Linux' sources those that its last compilation read, and those that say how to compile; of what it made no objects
+# of Linux' sources those that its last compilation read, those that say how to compile, and what make does not note; of
+# what it made no objects
+unread='arch/[^ux]* drivers/* fs/* net/* samples/* sound/* tools/*'
 {
     find "$linux/um" -name '.*.cmd' -exec cat {} + | tr -s ' \\:()' '\n' | grep '^/' | sort -u |
         while read -r file; do [ ! -f "$file" ] || echo "$file"; done
+    find -L /usr/include "$(gcc -print-file-name=include)" -name '*.h' ! -path '*/c++/*'
     find "$linux/source" -name 'Makefile*' -o -name 'Kbuild*' -o -name 'Kconfig*'
-    find "$linux/source/scripts" "$linux/source/mm/llfree" "$linux/um/scripts" -type f
+    set -f
+    find "$linux/source" -type f $(printf "! -path $linux/source/%s " $unread)
+    set +f
+    find "$linux/um/scripts" -type f
     find "$linux/um" -type f ! -name '*.[oa]' ! -name '*.so*' ! -name vmlinux ! -name linux ! -name image \
         ! -name ordinary ! -name initramfs
 } | sort -u | cpio -p -dmL --quiet "$files"
 echo "-C $linux/source $same O=$linux/um ARCH=um SUBARCH=x86_64 linux" >"$files/make"
+echo "$linux" >"$files/linux"
 sha256sum "$linux/um/linux" >"$files/sum"
 cd "$files"
 find . | cpio -o -H newc --quiet | gzip -1 >"$out"
