@@ -48,7 +48,7 @@ stress() {
     timeout 5400 stress-ng --class vm --exclude swap --sequential 2 --timeout 3s --verify --temp-path /tmp --no-rand-seed
 }
 
-# Linux for a program, compiled anew from its sources, is what it was outside, byte for byte. busybox has an ar, too.
+# Linux for a program, compiled anew from its sources, is what it was outside, byte for byte.
 compile() {
     local PATH=/usr/bin:/bin
     make -s -j "$(nproc)" $(cat /make) && sha256sum -c /sum

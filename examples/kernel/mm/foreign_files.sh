@@ -65,7 +65,8 @@ unread='arch/[^ux]* drivers/* fs/* net/* samples/* sound/* tools/*'
     find "$linux/um" -type f ! -name '*.[oa]' ! -name '*.so*' ! -name vmlinux ! -name linux ! -name image \
         ! -name ordinary ! -name initramfs
 } | sort -u | cpio -p -dmL --quiet "$files"
-echo "-C $linux/source $same O=$linux/um ARCH=um SUBARCH=x86_64 linux" >"$files/make"
+# busybox runs its own ar, unless it is told where another is
+echo "-C $linux/source $same AR=/usr/bin/ar O=$linux/um ARCH=um SUBARCH=x86_64 linux" >"$files/make"
 echo "$linux" >"$files/linux"
 sha256sum "$linux/um/linux" >"$files/sum"
 cd "$files"
