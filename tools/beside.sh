@@ -251,7 +251,15 @@ assert not is_right(takes, "1,0,Taken,0,0\n2,1,Taken,4096,0\nend,,Closed,1,8191\
 goes = "1,take,b,0\n0,take,a,0\n0,give,a,\n"
 assert is_right(goes, "1,1,Taken,0,0\n2,0,Taken,0,0\n3,0,Given,0,0\nend,,Closed,1,8191\n")
 assert not is_right(goes, "1,1,Taken,0,0\n2,0,Taken,1,0\n3,0,Given,0,0\nend,,Closed,2,8190\n")
-assert not is_right(goes, "1,1,Taken,0,0\n2,0,Taken,1,0\n3,0,NotHeld,,\nend,,Closed,2,8190\n")'
+assert not is_right(goes, "1,1,Taken,0,0\n2,0,Taken,1,0\n3,0,NotHeld,,\nend,,Closed,2,8190\n")
+# but none that the other has all the while, and not two crosswise, each taken behind the one that its core keeps
+idle = "0,take,a,0\n,round,,\n1,take,b,0\n1,give,b,\n"
+assert not is_right(idle, "1,0,Taken,0,0\n3,1,Taken,0,0\n4,1,Given,0,0\nend,,Closed,1,8191\n")
+cross = "0,take,a,0\n1,take,b,0\n0,take,c,0\n1,take,c,0\n0,give,c,\n1,give,c,\n"
+says = "1,0,Taken,0,0\n2,1,Taken,1,0\n3,0,Taken,{0},0\n4,1,Taken,{1},0\n5,0,Given,{0},0\n6,1,Given,{1},0\n"
+says += "end,,Closed,2,8190\n"
+assert is_right(cross, says.format(1, 2)) and is_right(cross, says.format(2, 0))
+assert not is_right(cross, says.format(1, 0))'
 }
 
 # replays PROGRAM: on one core every take is taken and every give given, and as many frames are held as was counted

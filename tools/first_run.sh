@@ -52,8 +52,7 @@ fresh() {
 }
 edits() { echo "$2" >"$tree/crates/$1"; }; hooks() { echo "$2" >"$work/hook.$1"; }
 links() { mv "$tree/$1" "$work/moved"; ln -s "$work/moved" "$tree/$1"; }
-# another text is there while mid is proved from a copy, and no longer when the program is built
-swaps() {
+swaps() { # another text is there while mid is proved from a copy, and no longer when the program is built
     edits low/src/lib.rt new
     hooks low "cd '$tree/crates/mid/src'; mv lib.rt ../lib; echo EVIL >lib.rt; cd - >&2"
     hooks llfree "cd '$tree/crates/mid/src'; mv ../lib lib.rt; cd - >&2"
@@ -78,8 +77,7 @@ gate() {
 }
 
 # what is changed is built again, once, with all above it that reads it; what is lacking or refused; the gate
-fresh; words=(./llfree run 1 1)
-rows <<'ROWS'
+fresh; words=(./llfree run 1 1); rows <<'ROWS'
 in a fresh clone||low mid llfree
 again, whatever rt left|hooks ci :; (cd "$tree" && "$kit/stand/rt" ci) >/dev/null|
 an edit|edits low/src/lib.rt lew|low mid llfree
@@ -123,6 +121,7 @@ another kit|words=(./llfree run 1 1); echo 'another logic 2' >"$kit/KIT-ID"|!is 
 a kit with another rt|echo 'stand-in logic 1' >"$kit/KIT-ID"; cp "$kit/bin/rt" "$work"; sed -i 's/ci_over/ci_above/; s/ci_from_nothing/ci_above/' "$kit/bin/rt"|!rt has no known step
 a clone that cannot be written to|cp "$work/rt" "$kit/bin"; chmod -R a-w "$tree"; words=($([ "$(id -u)" = 0 ] && echo setpriv --reuid=65534 --regid=65534 --clear-groups) ./llfree run 1 1)|!this clone cannot be written to
 MAKEFLAGS, CDPATH and POSIXLY_CORRECT|chmod -R u+w "$tree"; edits low/src/lib.rt flags; words=(env MAKEFLAGS=-n CDPATH=/usr POSIXLY_CORRECT=1 ./llfree run 1 1)|low mid llfree
+a shell that is too old|edits low/src/lib.rt shell; echo 'wait() { case $* in *-p*) return 2 ;; esac; builtin wait "$@"; }' >"$work/env"; words=(env BASH_ENV="$work/env" ./llfree run 1 1)|low mid llfree
 little room|words=(bash -c 'ulimit -v 60000; exec ./llfree run 1 1')|
 hardly any room|edits low/src/lib.rt room; words=(bash -c 'ulimit -v 2900; exec ./llfree run 1 1')|!not built, so nothing was run
 two at once|words=(sh -c 'make -s library & make -s library && wait $!')|low mid llfree_c
@@ -132,6 +131,7 @@ the gate: all passes|gate|=0, 18 passed, 0 failed, 0 skipped
 make takes what it proved|words=(make -s library)|llfree_c
 the gate: a source changes|gate; hooks ci 'echo mad >crates/low/src/lib.rt'|=0, 18 passed, 0 failed, 0 skipped
 make takes nothing then|words=(make -s library)|low mid llfree_c
+kernels, with MAKEFLAGS|cp "$root/tools/kernel.sh" "$tree/tools"; rm "$tree/tools/kernel_check.sh"; for it in objdump nm readelf; do ln -sf /bin/true "$kit/bin/$it"; done; words=(env MAKEFLAGS=-n tools/kernel.sh)|=1, 0 passed, 1 failed
 the gate: a part is killed|gate tools/steps.sh 'kill -9 $$'|=1, 17 passed, 1 failed, 0 skipped
 the gate: a part is missing|gate; rm "$tree/tools/c.sh"|=1, 17 passed, 1 failed, 0 skipped
 the gate: a part counts what failed, and ends well|gate tools/c.sh 'echo 5 passed, 2 failed'|=1, 22 passed, 2 failed, 0 skipped

@@ -13,7 +13,10 @@ as many for each million bytes of its text.
 """
 import argparse
 import collections
+import functools
+import itertools
 import multiprocessing
+import operator
 import os
 import random
 import subprocess
@@ -123,14 +126,72 @@ def follow(memory, line, word, block):
     (take if line.kind == 'take' else leave)(memory, line, word, block)
 
 
+def frames_of(block):
+    return range(block[0], block[0] + (1 << block[1]))
+
+
+class Holding:
+    """What a core holds in a round, by how many of its takes and gives were answered: its blocks at first, what each
+    answer changes, and of each frame when it is held, a bit for each number."""
+
+    def __init__(self, blocks, answers):
+        self.blocks, self.changes = blocks, [answer for answer in answers if answer[1]]
+        self.whole, self.frames = (2 << len(self.changes)) - 1, collections.defaultdict(int)
+        since = dict.fromkeys(blocks, 0)
+        for place, (word, block) in enumerate(self.changes, 1):
+            if word == 'Taken':
+                since[block] = place
+            else:
+                self.note(block, (1 << place) - (1 << since.pop(block)))
+        for block, first in since.items():
+            self.note(block, self.whole + 1 - (1 << first))
+
+    def note(self, block, when):
+        for frame in frames_of(block):
+            self.frames[frame] |= when
+
+    def when(self, block):
+        return any_of(self.frames.get(frame, 0) for frame in frames_of(block))
+
+
+def any_of(bits):
+    return functools.reduce(operator.or_, bits, 0)
+
+
+def has_order(one, other):
+    """Whether the answers of two cores have an order in which no frame is held by both at once: goes along those of
+    one, with the numbers of the other's that may have been answered by then."""
+    children = collections.defaultdict(dict)
+    for block in one.blocks:
+        children[block[0] // CHILD_FRAMES][block] = other.when(block)
+    bars = {child: any_of(held.values()) for child, held in children.items()}
+    reached = through(1, other.whole & ~any_of(bars.values()))
+    for word, block in one.changes:
+        child = block[0] // CHILD_FRAMES
+        if word == 'Taken':
+            children[child][block] = other.when(block)
+        else:
+            del children[child][block]
+        bars[child] = any_of(children[child].values())
+        reached = through(reached, other.whole & ~any_of(bars.values()))
+    return reached > other.whole >> 1
+
+
+def through(reached, clear):
+    """Those reached that are clear, and the clear ones straight above them, through which the sum carries each."""
+    reached &= clear
+    return reached | clear & (clear ^ clear + reached)
+
+
 def follow_round(memory, pairs):
     """The answers of one round. Its cores run side by side: a block may be given by one and taken by
-    another in either order of the answers, so each core is followed by itself, and what all of them
-    hold in the end has to be apart."""
+    another in either order of the answers, so each core is followed by itself, what all of them
+    hold in the end has to be apart, and any two have an order in which it always was."""
     if memory.cores == 1:
         for line, answer in pairs:
             follow(memory, line, *answer)
         return
+    first = [list(desk.labels) for desk in memory.desks]
     for core in {line.core for line, _ in pairs}:
         memory.held = bytearray(memory.fixed)
         for block in memory.desks[core].labels:
@@ -142,6 +203,10 @@ def follow_round(memory, pairs):
     for desk in memory.desks:
         for block in desk.labels:
             memory.hold(*block)
+    holdings = [Holding(blocks, [answer for line, answer in pairs if line.core == core])
+                for core, blocks in enumerate(first)]
+    for one, other in itertools.combinations(holdings, 2):
+        expect(has_order(one, other), 'a block of two cores at once')
 
 
 def answers_of(output):

@@ -21,7 +21,7 @@ use Rattle.frame_table.specs.declared.seats.CoreSeat.{CoreSeat}
 use Rattle.core_frames.specs.declared.shared.allocator.Allocator.{Allocator}
 use Rattle.core_frames.specs.declared.shared.allocator.Core.{Core}
 use Rattle.core_frames.specs.declared.free_counts.FreeCounts.{FreeCounts}
-use Rattle.core_frames.specs.Cores.{memory_of, seat_of, lent_by, known_by, StepsAlone, IsOutOf}
+use Rattle.core_frames.specs.Cores.{memory_of, seat_of, lent_by, known_by, StepsAlone, KeepsHabit, IsOutOf}
 use Rattle.core_frames.specs.FreeCounts.{frames_read, huge_read, AreCountsOf}
 use Rattle.core_frames.specs.Joins.{AreBuddies}
 use Rattle.core_frames.specs.Uses.{HasTaken, HasSplit, HasJoined, LendsAsMany}
@@ -123,3 +123,7 @@ CountIsWrong = (a : Allocator) (counts : FreeCounts) (c : Core)
 -- no call at a desk lends more or fewer blocks
 abbrev pub DeskLends : Type 0
 DeskLends = (most : ℕ) (c d : Core) → lent_by d ≢ lent_by c → ¬ LendsAsMany most c d
+
+-- no call that keeps what a core remembers of its gives leaves another memory of them
+abbrev pub HabitIsAnother : Type 0
+HabitIsAnother = (c d : Core) → d.habit ≢ c.habit → ¬ KeepsHabit c d

@@ -17,6 +17,7 @@ ghost use Rattle.core_frames.specs.WrongAnswers.{KeptOverlapAtClosing, KeptIsLos
 ghost use Rattle.core_frames.specs.WrongAnswers.{KeptIsClearAtStop, KeptOverlapAtStop};
 ghost use Rattle.core_frames.specs.WrongAnswers.{KeptIsLostAtStop, SeatIsElsewhere};
 ghost use Rattle.core_frames.specs.WrongAnswers.{SplitIsWrong, JoinIsWrong, CountIsWrong, DeskLends};
+ghost use Rattle.core_frames.specs.WrongAnswers.{HabitIsAnother};
 
 use frame_model::every_run_from_an_opening_fits;
 
@@ -109,10 +110,11 @@ pub fn gives_free_their_block()
 
 /// No split, no join and no count answers what is wrong: no blocks that are not the two halves of the
 /// block, not the block of both, or not out, and no number that was not read, or of more than there is;
-/// and no call at a desk lends.
+/// no call at a desk lends; and none that keeps a core's habit changes it.
 pub fn wrong_halves_and_counts_are_not_told()
     ensures split { SplitIsWrong }
     ensures join { JoinIsWrong }
     ensures counts { CountIsWrong }
     ensures desk { DeskLends }
+    ensures habit { HabitIsAnother }
 {}

@@ -36,4 +36,5 @@ returns c = record {
     λ less few is. absurd (omega (arith, less, few, is.huge)),
   );
   desk = λ most c d other is. other is.lent;
+  habit = λ c d other is. other is;
 }
