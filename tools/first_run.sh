@@ -1,12 +1,13 @@
 #!/usr/bin/env bash
-# Tries what ./llfree and make build, when they do so again, and what they refuse, in a small tree, with the kit's rt over
-# a stand-in for its other programs (tools/stand_in.sh); what the gate's last lines say; and with the kit itself a tree
-# with a crate for each rule of rt ci, which rt ci and make have to refuse. The last line counts.
+# Tries what ./llfree and make build and refuse, in a small tree, with the kit's rt over a stand-in for its other programs
+# (tools/stand_in.sh); what the gate's last lines say; and a crate for each rule of rt ci, which the whole kit has to
+# refuse, by rt ci and by make. The last line counts.
 set -u
 . "$(dirname "$0")/holds.sh"
 unset LLFREE_UNPROVED RT_JOBS
 root=$(cd "$(dirname "$0")/.." && pwd) work=$folder real=$(dirname "$(rt doc)") tree="$folder/a tree" kit=$folder/kit
-mkdir -p "$kit"/{bin,c,stand,toolchain/bin,logic_built,rattle/{logic,antt},rlibs/std.rlib/toolchain} "$work/bin"; : >"$kit/rlibs/std.rlib/format"
+mkdir -p "$kit"/{bin,c,stand,toolchain/bin,logic_built,rattle/{logic,antt},rlibs/std.rlib/toolchain} "$work/bin"
+: >"$kit/rlibs/std.rlib/format"
 for name in bin/{rattle,rattle-link} toolchain/bin/clang stand/rt; do cp "$root/tools/stand_in.sh" "$kit/$name"; done
 cp "$real"/{WHAT,bin/rtlib.py} "$kit/bin" && mv "$kit/bin/WHAT" "$kit" && ln -s "$real/rattle/std" "$kit/rattle"
 sed "1a import os, sys\nif sys.argv[1:2] in (['ci'], ['try']): os.execv('$kit/stand/rt', sys.argv)" "$real/bin/rt" |
@@ -131,7 +132,6 @@ the gate: all passes|gate|=0, 18 passed, 0 failed, 0 skipped
 make takes what it proved|words=(make -s library)|llfree_c
 the gate: a source changes|gate; hooks ci 'echo mad >crates/low/src/lib.rt'|=0, 18 passed, 0 failed, 0 skipped
 make takes nothing then|words=(make -s library)|low mid llfree_c
-kernels, with MAKEFLAGS|cp "$root/tools/kernel.sh" "$tree/tools"; rm "$tree/tools/kernel_check.sh"; for it in objdump nm readelf; do ln -sf /bin/true "$kit/bin/$it"; done; words=(env MAKEFLAGS=-n tools/kernel.sh)|=1, 0 passed, 1 failed
 the gate: a part is killed|gate tools/steps.sh 'kill -9 $$'|=1, 17 passed, 1 failed, 0 skipped
 the gate: a part is missing|gate; rm "$tree/tools/c.sh"|=1, 17 passed, 1 failed, 0 skipped
 the gate: a part counts what failed, and ends well|gate tools/c.sh 'echo 5 passed, 2 failed'|=1, 22 passed, 2 failed, 0 skipped
@@ -139,6 +139,7 @@ the gate: a part counts nothing, and ends badly|gate tools/c.sh 'echo 1 passed, 
 the gate: a mutant that fits no more|gate crates/low/must-fail/two.edit|=1, 18 passed, 1 failed, 0 skipped
 the gate: a tool is missing|gate tools/c.sh 'echo "skipped: this, for want of that (those)"; echo 0 passed, 0 failed'|=0, skipped: this, for want of that (those);17 passed, 0 failed, 1 skipped
 the gate: a page is another|gate tools/definitions.py 'echo new >docs/new'|=1, 17 passed, 1 failed, 0 skipped
+kernels, with MAKEFLAGS|cp "$root/tools/kernel.sh" "$tree/tools"; rm "$tree/tools/kernel_check.sh"; for it in objdump nm readelf; do ln -sf /bin/true "$kit/bin/$it"; done; words=(env MAKEFLAGS=-n tools/kernel.sh)|=1, 0 passed, 1 failed
 ROWS
 
 # what no program has to be built for, and just what the program has as no command; what it refuses for its sizes is its own
