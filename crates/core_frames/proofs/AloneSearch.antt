@@ -310,11 +310,10 @@ emptied now was core (Some ws) new k h a =
     )
 
 -- after a load
-pub loaded_then : (key now : Key) (core seen : ℕ) (old mid new : Option (List ℕ)) → IsSeen (local_place now core) seen old mid
-    → Turns (IsDrainedOf key core) mid new → Turns (IsDrainedOf key core) old new
-loaded_then key now core seen None mid new load a = tt
-loaded_then key now core seen (Some ws) mid new load a =
-    subst (λ o. Turns (IsDrainedOf key core) o new) load.1 a
+pub loaded_then : (R : List ℕ → List ℕ → Type 0) (place seen : ℕ) (old mid new : Option (List ℕ)) → IsSeen place seen old mid
+    → Turns R mid new → Turns R old new
+loaded_then R place seen None mid new load a = tt
+loaded_then R place seen (Some ws) mid new load a = subst (λ o. Turns R o new) load.1 a
 
 -- the reservation that came out is ended
 pub drained_then : (key now : Key) (core : ℕ) (kind : Kind) (tree : ℕ) (old mid new : Option (List ℕ)) → now ≡ key → tree < tree_count key

@@ -1,7 +1,7 @@
 -- How the own view changes, step by step: what it pays, reserves and lends.
 use Rattle.std.proofs.Common.{◌≡◌, ⊎_elim, ℕ, ◌-◌, ◌^◌, ◌<◌, ◌≤◌, Option, None, Some, refl, ap, sym, subst, ◌∙◌, arith}
 use Rattle.std.specs.Bool.{IsTrue}
-use Rattle.std.specs.Prelude.{true, false, ℤ, pos, ◌+ℤ◌, ◌-ℤ◌}
+use Rattle.std.specs.Prelude.{Bool, true, false, ℤ, pos, ◌+ℤ◌, ◌-ℤ◌}
 use Rattle.std.proofs.lemmas.Bool.{cases_eq}
 use Rattle.std.proofs.lemmas.Nat.{pow_pos}
 use Rattle.std.proofs.lemmas.Bool.Decides.{nat_tests}
@@ -13,14 +13,15 @@ use Rattle.frame_model.specs.declared.view.View.{View}
 use Rattle.frame_model.specs.Key.{tree_count, tree_of}
 use Rattle.frame_model.specs.Block.{IsBlock}
 use Rattle.frame_model.specs.View.{counted, count_in, paid_on, NoneBut, IsIdle}
-use Rattle.frame_model.specs.Steps.{effect, reserve, collect, local_pay, local_refund, tree_refund, swap_local, unreserve, after_load}
+use Rattle.frame_model.specs.Steps.{effect, reserve, collect, tree_pay, local_pay, local_refund, tree_refund, swap_local, unreserve, after_load}
 use Rattle.frame_model.specs.Steps.Amounts.{more, less, rest_amount, rest_tree, more_of, less_of}
-use Rattle.frame_model.specs.Steps.Conditions.{CanReserve, CanCollect, CanLocalPay, CanLocalRefund, CanTreeRefund, CanSwapLocal}
+use Rattle.frame_model.specs.Steps.Conditions.{CanReserve, CanCollect, CanTreePay, CanLocalPay, CanLocalRefund, CanTreeRefund, CanSwapLocal}
 use Rattle.frame_model.specs.Steps.Conditions.{CanUnreserve}
 use Rattle.frame_core.specs.Moves.{after}
 use Rattle.frame_model.proofs.Amounts.{count_none, count_here, count_else}
 use Rattle.low_frames.specs.Takes.{IsAsBefore, HasHandedOut}
 use Rattle.low_frames.specs.Gives.{HasTakenBack}
+use Rattle.core_frames.specs.Places.{HasPaidIf}
 use Rattle.core_frames.specs.Search.{HasPaid, HasReserved, HasRefunded, HasPutDown, HasLentOne, HasTakenOne, Reserves}
 
 -- what is not above 0
@@ -96,6 +97,13 @@ module _ (t : ℕ → ℕ) (v u w : View) (before : IsAsBefore v u) where
       (ap (λ r. more_of r n u.paid) is ∙ ap (more tree n) (ap (λ x. x.paid) before ∙ none) ∙ more_none tree n)
       (ap (λ x. x.reserving) before) (ap (λ x. x.lent) before)
 
+  pub paid_tree : (tree seen n : ℕ) → v.paid ≡ None → w ≡ after t (tree_pay tree seen n) u → HasPaid tree n v w
+  paid_tree tree seen n none e =
+      changed v u w v.paid (more tree n u.paid) (counted tree n) v.reserving u.reserving v.reserving v.lent u.lent v.lent
+      (t u.moves) u.lost before e
+      (ap (more tree n) (ap (λ x. x.paid) before ∙ none) ∙ more_none tree n)
+      (ap (λ x. x.reserving) before) (ap (λ x. x.lent) before)
+
   pub refunded_own : (core seen tree resting n : ℕ) → v.paid ≡ counted tree n → rest_in seen ≡ Some (tree, resting)
       → w ≡ after t (local_refund core seen n) u → HasRefunded v w
   refunded_own core seen tree resting n paid is e =
@@ -124,6 +132,14 @@ pub can_collect : (key was : Key) (v u : View) (tree : ℕ) → key ≡ was → 
     → CanCollect key u tree
 can_collect key was v u tree k inside idle before = record {
   inside = subst (λ (x : Key). tree < tree_count x) (sym k) inside;
+  paid = none_but_none tree u.paid (ap (λ x. x.paid) before ∙ idle.paid);
+}
+
+pub can_pay_tree : (key was : Key) (v u : View) (tree seen n : ℕ) → key ≡ was → tree < tree_count was → IsIdle v → IsAsBefore v u
+    → n ≤ free_in seen → CanTreePay key u tree seen n
+can_pay_tree key was v u tree seen n k inside idle before enough = record {
+  inside = subst (λ (x : Key). tree < tree_count x) (sym k) inside;
+  enough = enough;
   paid = none_but_none tree u.paid (ap (λ x. x.paid) before ∙ idle.paid);
 }
 
@@ -295,6 +311,16 @@ pub then_lent : (v u w : View) → IsAsBefore v u → HasLentOne u w → HasLent
 then_lent v u w e f =
     changed v u w v.paid u.paid v.paid v.reserving u.reserving v.reserving v.lent (u.lent +ℤ pos 1) (v.lent +ℤ pos 1) w.moves w.lost e f
     (ap (λ y. y.paid) e) (ap (λ y. y.reserving) e) (ap (λ y. y.lent +ℤ pos 1) e)
+
+-- a view that is left as it was, and then pays frames or not
+pub then_paid : (v u w : View) (tree n : ℕ) → IsAsBefore v u → HasPaid tree n u w → HasPaid tree n v w
+then_paid v u w tree n e f =
+    changed v u w v.paid (counted tree n) (counted tree n) v.reserving u.reserving v.reserving v.lent u.lent v.lent w.moves w.lost e f refl
+    (ap (λ y. y.reserving) e) (ap (λ y. y.lent) e)
+
+pub then_paid_if : (v u w : View) (tree n : ℕ) (made : Bool) → IsAsBefore v u → HasPaidIf tree n made u w → HasPaidIf tree n made v w
+then_paid_if v u w tree n true e f = then_paid v u w tree n e f
+then_paid_if v u w tree n false e f = before_twice v u w e f
 
 -- a view that reserves a tree, and puts it down
 pub put_down_after : (v u w : View) (tree n : ℕ) → IsIdle v → HasReserved tree n v u → HasPutDown u w → IsAsBefore v w

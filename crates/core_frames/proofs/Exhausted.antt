@@ -1,10 +1,11 @@
 -- Where nobody else steps and nothing rests: no tree is reserved, and each tree word counts all that is not held.
-use Rattle.std.proofs.Common.{◌≡◌, ⊎_elim, ℕ, zero, suc, ◌+◌, ◌*◌, ◌^◌, ◌<◌, ◌≤◌, List, [], ◌∷◌, None, refl, ap, ◌∙◌, arith}
+use Rattle.std.proofs.Common.{◌≡◌, ⊎_elim, ℕ, zero, suc, ◌+◌, ◌*◌, ◌^◌, ◌<◌, ◌≤◌, List, [], ◌∷◌, Option, None, Some, refl, ap, ◌∙◌, arith}
 use Rattle.std.specs.Prelude.{Bool, true, false, if◌then◌else◌}
 use Rattle.std.specs.List.{sum_by, range_with_len, All}
 use Rattle.std.proofs.Math.Logic.{∥∥₁_elim}
 use Rattle.std.proofs.Math.Nat.{ℕ_set}
 use Rattle.std.proofs.lemmas.Bool.{cases_lt, cases_eq}
+use Rattle.std.proofs.lemmas.Bool.Decides.{nat_tests}
 use Rattle.std.proofs.lemmas.Nat.{pow_pos}
 use Rattle.std.proofs.lemmas.List.Sums.{sum_by-cons}
 use Rattle.std.proofs.lemmas.List.Elements.{All-head, All-tail}
@@ -21,6 +22,7 @@ use Rattle.low_frames.specs.Alone.{IsFreeIn}
 use Rattle.low_frames.proofs.RoomLemmas.{FitsAlone, entries_alone, range_alone, free_block_counts}
 use Rattle.core_frames.specs.Search.{IsBlockOf}
 use Rattle.core_frames.specs.Alone.{NothingRests, WereTried, HasNoneOf}
+use Rattle.core_frames.specs.Places.{NothingRestsOn}
 use Rattle.core_frames.proofs.Carried.{in_a_tree}
 
 -- Sums.
@@ -126,31 +128,30 @@ unfolding cores_on
 cores_none key ws t none =
     range_zero (λ k. is_on t (rest_of key ws k)) 0 key.cores (λ k l h. ap (is_on t) (none k (omega arith)) ∙ is_on_none t)
 
-module _ (A : Type 0) (key : Key) (ws : List ℕ) (v : View) (fits : FitsAlone A key ws v) (alone : A) (idle : IsIdle v)
-    (none : NothingRests key ws) where
-  -- each tree word counts all that is not held
-  pub trees_exact : (t : ℕ) → t < tree_count key → tree_free_of key ws t + held_in_tree key ws t ≡ size_of key t
-  trees_exact t h =
+-- and where nothing rests on one tree
+
+count_off : (t : ℕ) (r : Option (ℕ × ℕ)) → is_on t r ≡ 0 → count_on t r ≡ 0
+unfolding is_on count_on
+count_off t None e = refl
+count_off t (Some r) e = grind (arith, nat_tests)
+
+resting_off : (key : Key) (ws : List ℕ) (t : ℕ) → NothingRestsOn key t ws → resting_on key ws t ≡ 0
+unfolding resting_on
+resting_off key ws t none =
+    range_zero (λ k. count_on t (rest_of key ws k)) 0 key.cores (λ k l h. count_off t (rest_of key ws k) (none k (omega arith)))
+
+module _ (A : Type 0) (key : Key) (ws : List ℕ) (v : View) (fits : FitsAlone A key ws v) (alone : A) (idle : IsIdle v) where
+  -- a tree word counts all that is not held
+  tree_exact : (t : ℕ) → t < tree_count key → resting_on key ws t ≡ 0 → tree_free_of key ws t + held_in_tree key ws t ≡ size_of key t
+  tree_exact t h off =
       ∥∥₁_elim fits (ℕ_set _ _)
       (λ f. omega (
         arith,
         f.1.1.0.trees_add_up t h,
-        resting_none key ws t none,
+        off,
         total_none key (paid_on t) v f.1.0 (count_none t) (count_none t)
             (ap (count_in t) idle.paid ∙ count_none t) (λ u is rest. paid_at_rest t key u is rest)
             f.1.1.0.each (f.1.1.1 alone),
-      ))
-
-  -- no tree is reserved
-  pub none_reserved : (t : ℕ) → t < tree_count key → reserved_of key ws t ≡ 0
-  none_reserved t h =
-      ∥∥₁_elim fits (ℕ_set _ _)
-      (λ f. omega (
-        arith,
-        f.1.1.0.reserved_once t h,
-        cores_none key ws t none,
-        total_none key (reserves t) v f.1.0 (is_at_none t) (is_at_none t) (ap (is_at t) idle.reserving ∙ is_at_none t)
-            (λ u is rest. reserving_at_rest t key u is rest) f.1.1.0.each (f.1.1.1 alone),
       ))
 
   held_few : (c : ℕ) → c < key.children → held_of key ws c ≤ 512
@@ -169,6 +170,36 @@ module _ (A : Type 0) (key : Key) (ws : List ℕ) (v : View) (fits : FitsAlone A
       (λ d l h. held_few d (omega arith)) (omega arith) (omega (arith, inside))
       (omega (arith, room.0, entries_alone A key ws v fits alone c inside))
 
+  -- where nothing rests on its tree, whose word counts too few, the block is not free
+  pub short_of : (order : ℕ) (b : FrameBlock) → IsBlockOf key order b → NothingRestsOn key (tree_of b.frame) ws
+      → tree_free_of key ws (tree_of b.frame) < 2 ^ order → ¬ IsFreeIn key ws b
+  short_of order b is none few free =
+      let t : ℕ = tree_of b.frame in
+      omega (
+        arith,
+        few,
+        tree_exact t (in_a_tree key b is.is_block) (resting_off key ws t none),
+        tree_has_room order b is free,
+      )
+
+module _ (A : Type 0) (key : Key) (ws : List ℕ) (v : View) (fits : FitsAlone A key ws v) (alone : A) (idle : IsIdle v)
+    (none : NothingRests key ws) where
+  -- each tree word counts all that is not held
+  pub trees_exact : (t : ℕ) → t < tree_count key → tree_free_of key ws t + held_in_tree key ws t ≡ size_of key t
+  trees_exact t h = tree_exact A key ws v fits alone idle t h (resting_none key ws t none)
+
+  -- no tree is reserved
+  pub none_reserved : (t : ℕ) → t < tree_count key → reserved_of key ws t ≡ 0
+  none_reserved t h =
+      ∥∥₁_elim fits (ℕ_set _ _)
+      (λ f. omega (
+        arith,
+        f.1.1.0.reserved_once t h,
+        cores_none key ws t none,
+        total_none key (reserves t) v f.1.0 (is_at_none t) (is_at_none t) (ap (is_at t) idle.reserving ∙ is_at_none t)
+            (λ u is rest. reserving_at_rest t key u is rest) f.1.1.0.each (f.1.1.1 alone),
+      ))
+
   -- once each tree was tried, no block of the order is free
   pub exhausted : (order : ℕ) → WereTried key order 0 (tree_count key) ws → HasNoneOf key order ws
   exhausted order tried b is free =
@@ -180,7 +211,12 @@ module _ (A : Type 0) (key : Key) (ws : List ℕ) (v : View) (fits : FitsAlone A
       (λ (flag : 0 < reserved_of key ws t). omega (arith, flag, none_reserved t inside))
       (λ counts.
       ⊎_elim
-      (λ (few : tree_free_of key ws t < 2 ^ order). omega (arith, few, trees_exact t inside, tree_has_room order b is free))
+      (λ (few : tree_free_of key ws t < 2 ^ order). omega (
+        arith,
+        few,
+        trees_exact t inside,
+        tree_has_room A key ws v fits alone idle order b is free,
+      ))
       (λ (many : 4096 < tree_free_of key ws t). omega (arith, many, (range_alone A key ws v fits).tree_free t inside))
       counts)
       passed)

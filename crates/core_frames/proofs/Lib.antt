@@ -23,5 +23,7 @@ mod LeftLemmas
 mod Adopting
 mod DeskLemmas
 mod FoundLemmas
+pub mod LookLemmas
+pub mod PlaceLemmas
 pub mod FillLemmas
 pub mod GivenWords

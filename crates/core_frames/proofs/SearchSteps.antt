@@ -173,6 +173,10 @@ module _ {T H : Type 0} {t : ℕ → ℕ} {exact : ℕ → Type 0} (ticks : Tick
     alone = λ alone. keeps_found a.key (NoneIsFree a.key In) a.words b.words (none.alone alone);
   }
 
+  -- at least so many moves of more
+  pub made_within : (a b : Mover T H) (least n k : ℕ) → n ≤ k → HasMade exact least n a b → HasMade exact least k a b
+  made_within a b least n k few f h = f (ticks.below (a.view.moves + n) (a.view.moves + k) (omega (arith, few)) h)
+
 -- What is asked where frames of a tree are paid.
 
 module _ {T H : Type 0} (a b : Mover T H) (tree n : ℕ) (r : Option ℕ) (k : ℤ) (same : b.key ≡ a.key) (there : tree < tree_count a.key)

@@ -1,9 +1,10 @@
 -- The moves that a take, a give and a split, and their parts, make at most.
-use Rattle.std.specs.Prelude.{ℕ, ◌+◌, ◌*◌}
-use Rattle.frame_words.specs.Runs.{child_words}
+use Rattle.std.specs.Prelude.{ℕ, ◌+◌, ◌*◌, nat_eq, if◌then◌else◌}
+use Rattle.frame_words.specs.Geometry.{huge_order}
+use Rattle.frame_words.specs.Runs.{child_words, group_size}
 use Rattle.frame_model.specs.declared.key.Key.{Key}
 use Rattle.frame_model.specs.Key.{tree_count}
-use Rattle.low_frames.specs.Bounds.{attempt, most_in_tree, most_in_tree_singles, most_to_give_back}
+use Rattle.low_frames.specs.Bounds.{attempt, most_in_tree, most_at_place, most_in_tree_singles, most_to_give_back}
 
 -- a tree becomes the core's: the local word is swapped, and the tree that it had is unreserved
 abbrev pub most_to_install : ℕ
@@ -53,6 +54,15 @@ most_elsewhere key = passes * most_in_pass key + most_to_drain * key.cores
 abbrev pub most_moves : Key → ℕ
 most_moves key = most_in_own_tree + passes * most_in_pass key + most_to_drain * key.cores
 
+-- frames are paid for just one block: from the own reservation, from the word of its tree, and once more
+-- from there after the drain of each core
+abbrev pub most_to_pay_at : Key → ℕ
+most_to_pay_at key = attempt + attempt + most_to_drain * key.cores + attempt
+
+-- a take of just one block: frames are paid, the block is taken, or they are refunded
+abbrev pub most_to_take_at : Key → ℕ
+most_to_take_at key = most_to_pay_at key + most_at_place + most_to_refund
+
 -- a tree is reserved, and installed
 abbrev pub most_to_reserve : ℕ
 most_to_reserve = attempt + most_to_install
@@ -80,6 +90,11 @@ most_in_join = 2 + 1
 -- two blocks are told apart: both are kept, one load is made, and both are recalled
 abbrev pub to_tell_apart : ℕ
 to_tell_apart = 2 + 1 + 2
+
+-- a look at a block of the order: the entry of its child is loaded, and the bit words that it has part in,
+-- unless it is the child
+abbrev pub most_to_look : ℕ → ℕ
+most_to_look order = if nat_eq order huge_order then 1 else 1 + group_size order
 
 -- k single frames of the own tree: they are paid, taken, and the rest is refunded
 abbrev pub most_in_fill : ℕ → ℕ

@@ -4,6 +4,7 @@ pub mod PlainAgree
 pub mod PlainState
 pub mod Search
 pub mod Alone
+pub mod Places
 pub mod Missed
 pub mod WorkedMisses
 pub mod Searches
@@ -21,4 +22,5 @@ pub mod Left
 pub mod Refusals
 pub mod WrongAnswers
 pub mod FreeCounts
+pub mod Looks
 pub mod Fills

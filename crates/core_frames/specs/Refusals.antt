@@ -3,6 +3,7 @@ use Rattle.std.specs.Prelude.{◌≡◌, ◌≢◌, ℕ, ◌+◌, ◌<◌, ◌�
 use Rattle.frame_words.specs.Geometry.{huge_order}
 use Rattle.frame_words.specs.declared.fault.Fault.TheVariants as fault
 use Rattle.frame_words.specs.declared.geometry.Geometry.{Geometry}
+use Rattle.frame_words.specs.declared.fault.TakeFault.{TakeFault}
 use Rattle.frame_words.specs.declared.fault.TakeFault.TheVariants.{BadOrder, NoBlock, Contended}
 use Rattle.frame_model.specs.declared.block.FrameBlock.{FrameBlock}
 use Rattle.frame_model.specs.Key.{tree_count}
@@ -15,6 +16,7 @@ use Rattle.core_frames.specs.Cores.{memory_of, number_of, view_in, moves_by, los
 use Rattle.core_frames.specs.Cores.{StepsAlone, AreNumbered}
 use Rattle.core_frames.specs.Search.{IsBlockOf}
 use Rattle.core_frames.specs.Left.{IsUnadoptedFor}
+use Rattle.core_frames.specs.Places.{HasSuchBlock, IsRefusedAt}
 use Rattle.core_frames.specs.Ranges.{IsUnopenedFor, MayHoldBack}
 use Rattle.core_frames.specs.Uses.{IsRefusedFor, IsRefusedAtDesk}
 
@@ -45,6 +47,20 @@ abbrev pub FreeIsRefused : Type 0
 FreeIsRefused = (a : Allocator) (n : ℕ) (c d : Core) (words : List ℕ) (b : FrameBlock)
     → StepsAlone a c → known_by c ≡ Some words → IsBlockOf (memory_of a) n b → IsFreeIn (memory_of a) words b
     → (¬ IsRefusedFor a n c d NoBlock) × (¬ IsRefusedFor a n c d Contended)
+
+-- no core that steps alone and knows the words is refused a free block at its place, whatever it is told
+abbrev pub FreePlaceIsRefused : Type 0
+FreePlaceIsRefused = (a : Allocator) (b : FrameBlock) (c d : Core) (words : List ℕ) (fault : TakeFault)
+    → StepsAlone a c → known_by c ≡ Some words → HasSuchBlock (memory_of a) b → IsFreeIn (memory_of a) words b
+    → ¬ IsRefusedAt a b c d fault
+
+-- no take of just one block that the memory has is refused with no move; none is refused as without a block
+-- where an exchange was lost, and none as contended where none was
+abbrev pub PlaceIsRefused : Type 0
+PlaceIsRefused = (a : Allocator) (b : FrameBlock) (c d : Core) (fault : TakeFault)
+    → (HasSuchBlock (memory_of a) b → moves_by d ≤ moves_by c → ¬ IsRefusedAt a b c d fault)
+    × (losses_by c < losses_by d → ¬ IsRefusedAt a b c d NoBlock)
+    × (losses_by d ≤ losses_by c → ¬ IsRefusedAt a b c d Contended)
 
 -- no desk says what its allocator may not, nor that memory is wanting after a step
 abbrev pub DeskIsRefused : Type 0

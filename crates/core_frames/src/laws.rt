@@ -1,13 +1,14 @@
 //! What bounds come to, and what would be wrong, and is told: laws, proved as contracts of functions
 //! that do nothing.
 
-ghost use Rattle.core_frames.specs.BoundNumbers.{TakeInNumbers, GiveInNumbers, SplitInNumbers};
-ghost use Rattle.core_frames.specs.BoundNumbers.{JoinInNumbers, TellingInNumbers, TreeInNumbers};
-ghost use Rattle.core_frames.specs.BoundNumbers.{DeskMovesTooMuch};
+ghost use Rattle.core_frames.specs.BoundNumbers.{TakeInNumbers, PlaceInNumbers, GiveInNumbers};
+ghost use Rattle.core_frames.specs.BoundNumbers.{SplitInNumbers, JoinInNumbers, LookInNumbers};
+ghost use Rattle.core_frames.specs.BoundNumbers.{TellingInNumbers, TreeInNumbers, DeskMovesTooMuch};
 ghost use Rattle.core_frames.specs.Missed.{MissesTheWithheld, NobodyWithholds};
 ghost use Rattle.core_frames.specs.Uses.{GivesFreeTheirBlock};
 ghost use Rattle.core_frames.specs.Refusals.{OrderIsLawful, OrderIsUnlawful, MovesTooLittle};
 ghost use Rattle.core_frames.specs.Refusals.{LossIsUntold, FreeIsRefused, DeskIsRefused, LeftIsRefused};
+ghost use Rattle.core_frames.specs.Refusals.{PlaceIsRefused, FreePlaceIsRefused};
 ghost use Rattle.core_frames.specs.Refusals.{RangesAreRefused, ClosingIsRefused, NumberIsAnother};
 ghost use Rattle.core_frames.specs.WorkedMisses.{MissesAHugeFrame, AreSearched, LooksAtAHugeFrame};
 ghost use Rattle.core_frames.specs.WorkedMisses.{FindsAHugeFrame, ReservingWithholds, PayingWithholds};
@@ -25,9 +26,11 @@ use frame_model::every_run_from_an_opening_fits;
 /// at a desk makes more than its own.
 pub fn bounds_are_these()
     ensures take { TakeInNumbers }
+    ensures place { PlaceInNumbers }
     ensures give { GiveInNumbers }
     ensures split { SplitInNumbers }
     ensures join { JoinInNumbers }
+    ensures look { LookInNumbers }
     ensures telling { TellingInNumbers }
     ensures tree { TreeInNumbers }
     ensures desk { DeskMovesTooMuch }
@@ -65,14 +68,16 @@ pub fn worked_views_withhold()
 
 /// No take that is refused says what is wrong: none that the order is bad but one above 9, and each of
 /// those; none that it found no block, without as many moves as there are trees, or that it was
-/// contended, without a loss; none to one core of all that knows a free one; and none through a desk
-/// either.
+/// contended, without a loss; none to one core of all that knows a free one; nor such of just one block;
+/// and none through a desk either.
 pub fn wrong_refused_takes_are_not_told()
     ensures order_is_lawful { OrderIsLawful }
     ensures order_is_unlawful { OrderIsUnlawful }
     ensures moves { MovesTooLittle }
     ensures losses { LossIsUntold }
     ensures free { FreeIsRefused }
+    ensures place { PlaceIsRefused }
+    ensures free_place { FreePlaceIsRefused }
     ensures desk { DeskIsRefused }
 {}
 

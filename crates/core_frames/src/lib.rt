@@ -6,6 +6,8 @@ mod free_counts;
 mod gives;
 mod joins;
 mod laws;
+mod looks;
+mod places;
 mod plain;
 mod ranges;
 mod search;
@@ -23,6 +25,8 @@ pub use laws::{
     wrong_halves_and_counts_are_not_told, wrong_refusals_are_not_told,
     wrong_refused_takes_are_not_told,
 };
+pub use looks::is_free_by;
+pub use places::take_at_by;
 pub use plain::PlainAllocator;
 pub use ranges::MOST_RANGES;
 pub use search::{Habit, Start};

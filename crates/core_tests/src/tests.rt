@@ -4,6 +4,7 @@ mod cores;
 mod cues;
 mod desk;
 mod lists;
+mod place_takes;
 mod places;
 mod plain;
 mod scripted;

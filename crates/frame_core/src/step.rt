@@ -28,7 +28,7 @@ pub enum Step {
 
 impl Step {
     /// The word that changes.
-    #[inline]
+    #[inline(always)]
     pub fn place(self) -> Place
         ensures { result ≡ place_in self }
     {

@@ -15,3 +15,4 @@ pub mod GiveAlone
 pub mod WideAlone
 pub mod SinglesAlone
 pub mod SinglesLemmas
+pub mod PlaceLemmas

@@ -51,6 +51,22 @@ most_words = child_words / 2
 abbrev pub most_to_give_back : ℕ
 most_to_give_back = 1 + most_words + 1
 
+-- a claim of k bit words at their place: each of them is loaded, and each is tried
+abbrev pub most_to_claim_words : ℕ → ℕ
+most_to_claim_words k = k + attempt * k
+
+-- a take of a run at its place: frames are charged, the run is claimed, and the block goes out, or they are refunded
+abbrev pub most_at_run : ℕ
+most_at_run = attempt + attempt + 1
+
+-- a take of bit words at their place: the same with these in place of a run
+abbrev pub most_at_words : ℕ
+most_at_words = attempt + most_to_claim_words most_words + 1
+
+-- a take of just one block: no other makes as many as one of several bit words
+abbrev pub most_at_place : ℕ
+most_at_place = most_at_words
+
 -- single frames of a bit word, k together: each run is tried and each frame goes out, and one try more finds none
 abbrev pub most_in_word_singles : ℕ → ℕ
 most_in_word_singles k = attempt * (k + 1) + k

@@ -5,5 +5,6 @@ pub mod Groups
 pub mod Alone
 pub mod Outcomes
 pub mod Parts
+pub mod Places
 pub mod Singles
 pub mod SinglesAlone

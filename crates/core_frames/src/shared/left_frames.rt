@@ -8,6 +8,7 @@ ghost use Rattle.frame_model.specs.Block.{block};
 ghost use Rattle.frame_core.specs.Image.{key_in};
 ghost use Rattle.core_frames.specs.LeftFrames.{bit_in, AreBitWordsOf, AreFlagsOf, IsShown, HasCleared};
 
+use crate::places::lies_within;
 use frame_core::Image;
 use frame_words::{CHILD_WORDS, Fault, HUGE_ORDER, WORD_FRAMES, child_of, frames_of};
 use std::alloc::Global;
@@ -40,14 +41,13 @@ impl LeftFrames {
             (IsShown frames self.now.bits.items self.now.huge.items (block frame order))
             (¬ IsShown frames self.now.bits.items self.now.huge.items (block frame order)) }
     {
-        let n = frames_of(order);
-        if frame % n != 0 || n > frames || frame > frames - n {
+        if !lies_within(frames, frame, order) {
             return false;
         }
         if order == HUGE_ORDER {
             return self.huge[child_of(frame) as usize];
         }
-        are_set(self.bits.as_slice(), frame, frame + n)
+        are_set(self.bits.as_slice(), frame, frame + frames_of(order))
     }
 
     /// The block is left no more.

@@ -28,11 +28,11 @@ pub(super) struct Words {
 // The first frame of the block that a take answered, or why it was refused, in how many moves, how
 // many cues were not made, the words afterwards, and those of the latest stop.
 #[derive(Drop)]
-struct Outcome {
-    answer: Result<u32, TakeFault>,
-    moves: u64,
-    skipped: u32,
-    after: Words,
+pub(super) struct Outcome {
+    pub(super) answer: Result<u32, TakeFault>,
+    pub(super) moves: u64,
+    pub(super) skipped: u32,
+    pub(super) after: Words,
     stop: Option<Words>,
 }
 
@@ -79,7 +79,7 @@ fn taken(m: &mut PlainMoves, order: u8) -> Result<PlainBlock, Fail>
 }
 
 // The same child, of which the first frame is held if it is in use.
-fn open_used(alloc: Global, in_use: bool) -> Result<PlainMoves, Fail>
+pub(super) fn open_used(alloc: Global, in_use: bool) -> Result<PlainMoves, Fail>
     ensures company { IfOk result IsByItself }
     ensures begins { IfOk result (λ m. MayBegin 0 (⟦<PlainMoves as Moves>⟧.at m)) }
 {
@@ -118,7 +118,7 @@ fn run(alloc: Global, in_use: bool, cues: &[Cue]) -> Result<Outcome, Fail> {
     outcome_of(alloc, &m, before, answer)
 }
 
-fn outcome_of(
+pub(super) fn outcome_of(
     alloc: Global,
     m: &ScriptMoves,
     before: u64,
@@ -180,7 +180,12 @@ fn losses() -> [Cue; 8] {
 }
 
 // The words of a child that is no huge frame, and of whose frames none but the first 64 are held.
-fn words_with(entry: u32, tree: (u32, bool), rest: Option<(u32, u32)>, bits: u64) -> Words {
+pub(super) fn words_with(
+    entry: u32,
+    tree: (u32, bool),
+    rest: Option<(u32, u32)>,
+    bits: u64,
+) -> Words {
     Words {
         entry: (entry, false),
         tree,

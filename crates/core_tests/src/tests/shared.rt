@@ -142,6 +142,44 @@ fn a_huge_frame_is_split_to_the_end(rt: HostRuntime) -> Result<(), Fail> {
     Ok(())
 }
 
+// The block of the order at this frame.
+fn block_at(rt: &impl Abort, allocator: &Allocator, core: &mut Core, frame: u32, order: u8) -> Block
+    requires { IsCoreOf allocator.now core.old }
+    ensures core { IsCoreOf allocator.now core.new }
+    ensures block { IsOutOf allocator.now result }
+{
+    let Ok(block) = allocator.take_at(core, frame, order) else {
+        panic!(rt; "it is free");
+    };
+    block
+}
+
+// Asks for a block of which a frame is held.
+fn is_held_at(rt: &impl Abort, allocator: &Allocator, core: &mut Core, frame: u32, order: u8)
+    requires { IsCoreOf allocator.now core.old }
+    ensures { IsCoreOf allocator.now core.new }
+{
+    let answer = allocator.take_at(core, frame, order);
+    assert!(rt; answer.err() == Some(TakeFault::NoBlock));
+}
+
+// What rests with another core is no hindrance.
+#[test]
+fn each_core_takes_at_a_place(rt: HostRuntime) -> Result<(), Fail> {
+    let (allocator, mut first, mut second) = open_for_two(rt.alloc(), 1)?;
+    let _lowest = block(&rt, &allocator, &mut first, 0);
+    let frame = block_at(&rt, &allocator, &mut second, 7, 0);
+    assert!(rt; (frame.frame(), frame.order()) == (7, 0));
+    is_held_at(&rt, &allocator, &mut first, 0, 3);
+    is_held_at(&rt, &allocator, &mut second, 0, 9);
+    let eight = block_at(&rt, &allocator, &mut first, 8, 3);
+    assert!(rt; (eight.frame(), eight.order()) == (8, 3));
+    allocator.give(&mut second, eight);
+    let image = close_two(rt.alloc(), allocator, first, second)?;
+    assert!(rt; (image.free(0), image.word(0, 0)) == (510, 129));
+    Ok(())
+}
+
 #[test]
 fn one_core_of_all_keeps_what_they_kept(rt: HostRuntime) -> Result<(), Fail> {
     let (allocator, mut first, mut second) = open_for_two(rt.alloc(), 8)?;

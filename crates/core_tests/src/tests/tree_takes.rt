@@ -1,7 +1,7 @@
 //! Takes in a tree between whose moves strangers step: which exchanges are lost, in how many moves a
 //! block is found, and the words before each move and afterwards.
 
-ghost use Rattle.std.specs.Prelude.{◌≡◌, ◌≤◌, true, IfOk};
+ghost use Rattle.std.specs.Prelude.{◌≡◌, ◌+◌, ◌%◌, ◌^◌, ◌≤◌, true, IfOk};
 ghost use Rattle.frame_model.specs.View.{IsIdle};
 ghost use Rattle.plain_moves.specs.PlainState.{IsByItself};
 ghost use Rattle.low_frames.specs.Outcomes.{MayTakeOf};
@@ -9,7 +9,7 @@ ghost use Rattle.low_frames.specs.Outcomes.{MayTakeOf};
 use super::cues::{lose, stop, stranger};
 use frame_core::{HeldBlock, Image, Moves, Place};
 use frame_words::{Geometry, frames_of, tree_free};
-use low_frames::take_in_tree;
+use low_frames::{take_at, take_in_tree};
 use plain_moves::{Act, PlainMoves};
 use script_moves::{Cue, ScriptMoves};
 use std::alloc::Global;
@@ -126,6 +126,31 @@ fn run(alloc: Global, order: u8, cues: &[Cue]) -> Result<Outcome, Fail>
         Some(held) => Some(held.frame()),
         None => None,
     };
+    outcome_of(alloc, &m, frame, before)
+}
+
+// Takes the block of the order at this frame of a free child by the script.
+fn run_at(alloc: Global, frame: u32, order: u8, cues: &[Cue]) -> Result<Outcome, Fail>
+    requires order { order ≤ 9 }
+    requires aligned { frame % 2 ^ order ≡ 0 }
+    requires inside { frame + 2 ^ order ≤ 512 }
+{
+    let mut m = script(alloc, order, cues)?;
+    let before = m.plain().moves();
+    let found = match take_at(&mut m, frame, order) {
+        Some(held) => Some(held.frame()),
+        None => None,
+    };
+    outcome_of(alloc, &m, found, before)
+}
+
+// What a take left that began after so many moves.
+fn outcome_of(
+    alloc: Global,
+    m: &ScriptMoves,
+    frame: Option<u32>,
+    before: u64,
+) -> Result<Outcome, Fail> {
     let after = words_of(&m.plain().image(alloc)?)?;
     let stop = match m.stopped() {
         Some(image) => Some(words_of(image)?),
@@ -216,6 +241,25 @@ fn answers(
     Ok(())
 }
 
+// The same of a take of just the block of this first frame and order.
+fn answers_at(
+    rt: &impl Abort,
+    alloc: Global,
+    at: (u32, u8),
+    cues: &[Cue],
+    want: (Option<u32>, u64, u32),
+    after: Words,
+) -> Result<(), Fail>
+    requires order { at.1 ≤ 9 }
+    requires aligned { at.0 % 2 ^ at.1 ≡ 0 }
+    requires inside { at.0 + 2 ^ at.1 ≤ 512 }
+{
+    let outcome = run_at(alloc, at.0, at.1, cues)?;
+    assert!(rt; (outcome.frame, outcome.moves, outcome.skipped) == want);
+    assert!(rt; outcome.after == after);
+    Ok(())
+}
+
 #[test]
 fn takes_beside_nobody(rt: HostRuntime) -> Result<(), Fail> {
     let alloc = rt.alloc();
@@ -242,6 +286,62 @@ fn takes_beside_nobody(rt: HostRuntime) -> Result<(), Fail> {
         &[],
         (Some(0), 15, 0),
         words_with(256, 256, b"ffff0000"),
+    )
+}
+
+// A take at a place looks at its own words alone: that the lowest block is free does not matter. Where a
+// stranger claims a frame of it, the block is refused, and nothing stays claimed; where it claims a frame
+// beside, the exchange is tried again.
+#[test]
+fn takes_at_a_place(rt: HostRuntime) -> Result<(), Fail> {
+    let alloc = rt.alloc();
+    answers_at(
+        &rt,
+        alloc,
+        (64, 0),
+        &[],
+        (Some(64), 5, 0),
+        words_with(511, 511, b"01000000"),
+    )?;
+    answers_at(
+        &rt,
+        alloc,
+        (256, 7),
+        &[],
+        (Some(256), 7, 0),
+        words_with(384, 384, b"0000ff00"),
+    )?;
+    answers_at(
+        &rt,
+        alloc,
+        (256, 8),
+        &[],
+        (Some(256), 11, 0),
+        words_with(256, 256, b"0000ffff"),
+    )?;
+    answers_at(
+        &rt,
+        alloc,
+        (64, 0),
+        &claims(0, 1, 2),
+        (None, 4, 0),
+        words_with(511, 510, b"01000000"),
+    )?;
+    answers_at(
+        &rt,
+        alloc,
+        (65, 0),
+        &claims(0, 1, 3),
+        (Some(65), 7, 0),
+        words_with(510, 510, b"03000000"),
+    )?;
+    answers_at(
+        &rt,
+        alloc,
+        (0, 7),
+        &claims(0, 1, 5),
+        (None, 9, 0),
+        words_with(511, 383, b"01000000"),
     )
 }
 

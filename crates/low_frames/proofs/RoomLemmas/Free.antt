@@ -116,7 +116,7 @@ unfolding held_at
 free_bits key ws b free x h = omega (arith, free x h)
 
 -- a free block of at most a word is a clear run of it
-free_is_run : (key : Key) (ws : List ℕ) (child order : ℕ) (b : FrameBlock) → order ≤ 6 → IsBlockIn key child order b → IsFreeIn key ws b
+pub free_is_run : (key : Key) (ws : List ℕ) (child order : ℕ) (b : FrameBlock) → order ≤ 6 → IsBlockIn key child order b → IsFreeIn key ws b
     → IsClearRun (bit_word_of key ws (b.frame / 64)) order (b.frame % 64)
 free_is_run key ws child order b few is free =
     let n : 2 ^ b.order ≡ 2 ^ order = ap (λ o. 2 ^ o) is.has_order in
