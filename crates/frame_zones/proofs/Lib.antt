@@ -12,3 +12,5 @@ pub mod Closed
 pub mod Reopened
 pub mod Stopped
 pub mod Found
+pub mod Placed
+mod Looked

@@ -7,6 +7,7 @@ pub mod Stops
 pub mod Uses
 pub mod Fills
 pub mod Faults
+pub mod Places
 pub mod Laws
 pub mod Splits
 pub mod Openings
@@ -15,5 +16,6 @@ pub mod Closing
 pub mod Reopening
 pub mod Keeping
 pub mod FreeCounts
+pub mod Looks
 pub mod Homes
 pub mod MoveBounds

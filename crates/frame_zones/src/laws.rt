@@ -3,7 +3,8 @@
 
 ghost use Rattle.std.specs.Prelude.{◌≢◌};
 ghost use Rattle.frame_zones.specs.Zones.{IsOutOfItsZone};
-ghost use Rattle.frame_zones.specs.MoveBounds.{TakeInZoneInNumbers, TakeMovesTooMuch, ZoneMovesTooMuch};
+ghost use Rattle.frame_zones.specs.MoveBounds.{TakeInZoneInNumbers, PlaceInZoneInNumbers};
+ghost use Rattle.frame_zones.specs.MoveBounds.{TakeMovesTooMuch, PlaceMovesTooMuch, ZoneMovesTooMuch};
 ghost use Rattle.frame_zones.specs.Laws.{OwnsInZone, LiesInZone, AreFramesApart};
 
 use crate::block::ZoneBlock;
@@ -21,10 +22,12 @@ pub fn blocks_lie_in_zones(zones: &Zones, one: &ZoneBlock, two: &ZoneBlock)
     let (_, _, _) = (zones, one, two);
 }
 
-/// The bound on moves of a take in a zone is this number; and no take, give or split is said to keep to a
-/// bound that it does not.
+/// The bounds on moves of a take in a zone, and of one of just one block, are these numbers; and no take, give
+/// or split is said to keep to a bound that it does not.
 pub fn bounds_in_zones_are_these()
     ensures take { TakeInZoneInNumbers }
+    ensures place { PlaceInZoneInNumbers }
     ensures within { TakeMovesTooMuch }
+    ensures for_place { PlaceMovesTooMuch }
     ensures at_most { ZoneMovesTooMuch }
 {}

@@ -121,3 +121,49 @@ fn a_block_is_split_kept_and_given(rt: HostRuntime) -> Result<(), Fail> {
     assert!(rt; zones.keep(&mut core, high) == (1, 384, 7));
     Ok(())
 }
+
+// The first frame of just this block, which is taken, and stays held.
+fn taken_at(zones: &Zones, core: &mut ZoneCore, frame: u64, order: u8) -> Result<u64, TakeFault>
+    requires { AreCoresOf zones.now core.old }
+    ensures { AreCoresOf zones.now core.new }
+{
+    match zones.take_at(core, frame, order) {
+        Ok(block) => Ok(zones.frame_of(&block)),
+        Err(fault) => Err(fault),
+    }
+}
+
+#[test]
+fn just_this_block_is_taken_where_it_is_free(rt: HostRuntime) -> Result<(), Fail> {
+    let (zones, mut first, mut second) = open_for_two(rt.alloc(), 1)?;
+    let Ok(block) = zones.take_at(&mut first, 8448, 6) else {
+        return Err(Fail::from("a block of the second zone"));
+    };
+    assert!(rt; (zones.frame_of(&block), block.order()) == (8448, 6));
+    assert!(rt; taken_at(&zones, &mut second, 8448, 6) == Err(TakeFault::NoBlock));
+    assert!(rt; taken_at(&zones, &mut second, 8511, 0) == Err(TakeFault::NoBlock));
+    assert!(rt; taken_at(&zones, &mut second, 8192, 9) == Err(TakeFault::NoBlock));
+    zones.give(&mut second, block);
+    assert!(rt; taken_at(&zones, &mut second, 8448, 8) == Ok(8448));
+    assert!(rt; taken(&zones, &mut first, 0) == Ok(0));
+    assert!(rt; taken_at(&zones, &mut second, 0, 0) == Err(TakeFault::NoBlock));
+    assert!(rt; taken_at(&zones, &mut second, 1, 0) == Ok(1));
+    Ok(())
+}
+
+#[test]
+fn no_block_is_taken_where_there_is_none(rt: HostRuntime) -> Result<(), Fail> {
+    let (zones, mut core, _second) = open_for_two(rt.alloc(), 1)?;
+    // held back
+    assert!(rt; taken_at(&zones, &mut core, 8200, 3) == Err(TakeFault::NoBlock));
+    assert!(rt; taken_at(&zones, &mut core, 0, 4) == Err(TakeFault::NoBlock));
+    // not aligned
+    assert!(rt; taken_at(&zones, &mut core, 8449, 1) == Err(TakeFault::NoBlock));
+    // in the hole, and past the end
+    assert!(rt; taken_at(&zones, &mut core, 512, 0) == Err(TakeFault::NoBlock));
+    assert!(rt; taken_at(&zones, &mut core, 8191, 0) == Err(TakeFault::NoBlock));
+    assert!(rt; taken_at(&zones, &mut core, 8704, 0) == Err(TakeFault::NoBlock));
+    assert!(rt; taken_at(&zones, &mut core, 8448, 10) == Err(TakeFault::BadOrder));
+    assert!(rt; zones.free_frames(&mut core) == 2 * 504);
+    Ok(())
+}
