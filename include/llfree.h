@@ -63,8 +63,8 @@ extern "C" {
 
 enum llfree_status LLFREE_STATUS_TYPE {
     LLFREE_OK = 0,
-    LLFREE_NO_BLOCK = 1,      /* no block of the order was found; with one thread none is free, with several
-                                 one may be (see llfree_take) */
+    LLFREE_NO_BLOCK = 1,      /* no block of the order was found, or the one that was named was not free; with
+                                 one thread it is so, with several one may be free (see llfree_take) */
     LLFREE_BAD_ORDER = 2,     /* orders are 0 to 9, and a block of order 0 has no halves */
     LLFREE_NOT_HELD = 3,      /* no such block is held: another order, given before, never taken; or the
                                  struct is empty */
@@ -220,6 +220,21 @@ static inline enum llfree_status llfree_take_retry(llfree_core *handle, uint8_t 
     return status;
 }
 
+/* Takes exactly this block, the 2^order frames from frame on, where all of them are free. A block grows in place by the
+ * one behind it. A kernel has a page where it wants one, and takes frames out of use. A run of huge frames is one at
+ * each of its places. It does not matter which core has the tree in reserve. The block is on the list then, as one of
+ * llfree_take. On failure nothing more is held. It never locks or waits.
+ *  - NO_BLOCK: the memory has no such block (frame is no multiple of 2^order, or a frame of it is in no zone). Or after
+ *    at least one step, without losing an exchange, it was not free as the call saw it.
+ *  - CONTENDED: an exchange was lost to another core. Or the library's list had no place for the block, which is free
+ *    again (with cores of llfree_open tested: never seen).
+ *  - BAD_ORDER, CLOSED_HANDLE.
+ * Where no other thread is in a call, a block that there is is refused only if a frame of it is held: by a block inside
+ * of it or around it, in a range, or at rest with a core (tested, not proved; llfree_drain gives back what rests).
+ * Otherwise it may be refused though it is free, while another core searches its tree: try again. */
+LLFREE_NODISCARD
+enum llfree_status llfree_take_at(llfree_core *handle, uint32_t frame, uint8_t order);
+
 /* Gives exactly this block, whichever core took it. On NOT_HELD and CLOSED_HANDLE nothing changes. (That a held
  * block is not refused is tested, not proved.) Of several gives of one block at the same time at most one
  * succeeds. A give never locks or waits. */
@@ -250,6 +265,36 @@ enum llfree_status llfree_split_to(llfree_core *handle, uint32_t frame, uint8_t 
  * or waits. */
 LLFREE_NODISCARD
 enum llfree_status llfree_order_at(llfree_core *handle, uint32_t frame, uint8_t *order);
+
+/* Tells whether all frames of this block are free: a look, which takes and changes nothing, by at most nine loads.
+ * Exact where no other thread is in a call; else as the look sees it, and another core may take the block before the
+ * next call. False where the memory has no such block (an order above 9, a frame that is no multiple of 2^order, or
+ * one of its frames in no zone), where a frame of it rests with a core (llfree_drain), and if the handle is closed. It
+ * never locks or waits. */
+bool llfree_is_free(llfree_core *handle, uint32_t frame, uint8_t order);
+
+/* Takes a run: count huge frames, 1 to 512 (2 MiB to 1 GiB), that lie side by side in one zone, and writes the first
+ * frame of the first one. That is a multiple of 512 times count, which is rounded up to a power of two. From then on
+ * each is a block of order 9, which is given, split and told by itself: (frame + 512 * i, 9) for each i below count.
+ * The first place that looks free is tried, in the order of frames; where a huge frame of it is refused, those before
+ * it go back, and the look goes on behind. It looks at each child of the memory at most, so it is for large and rare
+ * requests. On failure *frame is unchanged, and nothing more is held. It never locks or waits.
+ *  - NO_BLOCK: the last look found no run. It went from frame 0 on, or on behind the last place that was tried. No
+ *    exchange was lost in a take (tested).
+ *  - CONTENDED: the same, and an exchange was lost to another core (tested): try again. Or the library's list had no
+ *    place for a huge frame (with cores of llfree_open tested: never seen).
+ *  - BAD_ORDER (count is 0 or above 512), CLOSED_HANDLE.
+ * Where no other thread is in a call, a run is found if there is one (tested). A frame that rests with a core keeps
+ * its huge frame from being free: llfree_drain gives it back. */
+LLFREE_NODISCARD
+enum llfree_status llfree_take_run(llfree_core *handle, uint32_t count, uint32_t *frame);
+
+/* Gives count huge frames, 1 to 512, that lie side by side in one zone from this frame on, whichever cores took them:
+ * a run, a part of one, or huge frames that were taken one by one. It never locks or waits.
+ *  - NOT_HELD: one of them is not held, or not as a block of order 9, or lies in another zone: nothing changes. Or
+ *    another core gave or split one of them meanwhile, which is a program's error: those before it are given.
+ *  - BAD_ORDER (count is 0 or above 512), CLOSED_HANDLE: nothing changes. */
+enum llfree_status llfree_give_run(llfree_core *handle, uint32_t frame, uint32_t count);
 
 /* The frames of all zones of the memory, those of the ranges too; 0 if the handle is closed. */
 uint32_t llfree_frames(llfree_core *handle);
@@ -327,8 +372,8 @@ typedef struct llfree_block {
 #define LLFREE_EMPTY { false, 0, 0 }
 
 /* As llfree_open, but without the list: the allocator has only its words, and only the functions for structs
- * below take, give and split. With its cores llfree_take answers CONTENDED in place of a block, and llfree_give
- * and llfree_split answer NOT_HELD. */
+ * below take, give and split. With its cores llfree_take and llfree_take_at answer CONTENDED in place of a block, and
+ * llfree_give and llfree_split answer NOT_HELD. */
 LLFREE_NODISCARD
 enum llfree_status llfree_open_unchecked(llfree_core *handles, size_t cores, uint32_t frames,
                                          const llfree_range *ranges, size_t count);
@@ -346,6 +391,12 @@ enum llfree_status llfree_open_zones_unchecked(llfree_core *handles, size_t core
 LLFREE_NODISCARD
 enum llfree_status llfree_take_block(llfree_core *handle, uint8_t order, llfree_block *block);
 
+/* Takes exactly this block into an empty struct. On failure the struct is unchanged and nothing more is held: NO_BLOCK,
+ * BAD_ORDER and CLOSED_HANDLE as llfree_take_at. CONTENDED only if another core won a race, OPEN_HANDLE if the struct
+ * holds a block. It works with cores of llfree_open too; such a block is not on their list. */
+LLFREE_NODISCARD
+enum llfree_status llfree_take_block_at(llfree_core *handle, uint32_t frame, uint8_t order, llfree_block *block);
+
 /* Gives the block that the struct holds, whichever core took it, and empties the struct. On NOT_HELD (an empty
  * struct) and CLOSED_HANDLE nothing changes. It never locks or waits. */
 enum llfree_status llfree_give_block(llfree_core *handle, llfree_block *block);
@@ -358,7 +409,7 @@ enum llfree_status llfree_split_block(llfree_core *handle, llfree_block *block, 
 
 /* Single frames that rest with a core. Beside each core is a list of up to 128 frames, which only the calls below
  * use. A frame that is given rests there, and is the next one that is taken: neither makes a step that other cores
- * see. Where none rests, a take lets up to 64 of the tree that the core has reserved rest first. This is for frames
+ * see. Where none rests, a take lets up to 8 of the tree that the core has reserved rest first. This is for frames
  * that are soon taken again on the same CPU, and for many in a row. (Which frame is taken first, and how many come to
  * rest, is tested, not proved.)
  *  - A frame that rests counts as held in llfree_free_frames; llfree_resting says how many do. After a kill, or
@@ -377,14 +428,14 @@ LLFREE_NODISCARD
 enum llfree_status llfree_take_frame(llfree_core *handle, llfree_block *block);
 
 /* Gives the single frame that the struct holds, whichever core took it and by whichever call for structs, and
- * empties the struct. The frame rests with this core. If 128 rest there already, 64 of them go back first. On
+ * empties the struct. The frame rests with this core. If 128 rest there already, 16 of them go back first. On
  * NOT_HELD (an empty struct), BAD_ORDER (a larger block) and CLOSED_HANDLE nothing changes. It never locks or
  * waits. */
 enum llfree_status llfree_give_frame(llfree_core *handle, llfree_block *block);
 
 /* Takes a single frame into each of count empty structs, from the first one on, as repeated calls of llfree_take_frame
  * do, and writes how many came. They are fewer only if the last of these calls found none; the structs after them stay
- * empty. Fewer than 64 frames rest then, if not all came from those that rested. On failure the structs and *taken are
+ * empty. Fewer than 8 frames rest then, if not all came from those that rested. On failure the structs and *taken are
  * unchanged and nothing more is held: NO_BLOCK and CONTENDED as that call, only if count is not 0 and no frame came;
  * CLOSED_HANDLE; OPEN_HANDLE if a struct holds a block. */
 LLFREE_NODISCARD

@@ -53,6 +53,9 @@ public:
     // A block of 2^order frames, or an empty one where it is refused.
     [[nodiscard]] block take(std::uint8_t order);
 
+    // Just this block, or an empty one where it is refused.
+    [[nodiscard]] block take_at(std::uint32_t frame, std::uint8_t order);
+
     // The calls of llfree.h, by frame and order.
     [[nodiscard]] enum llfree_status take(std::uint8_t order, std::uint32_t &frame)
     {
@@ -142,6 +145,12 @@ inline block memory::take(std::uint8_t order)
 {
     std::uint32_t frame = 0;
     return take(order, frame) == LLFREE_OK ? block(*this, frame, order) : block();
+}
+
+inline block memory::take_at(std::uint32_t frame, std::uint8_t order)
+{
+    bool is_taken = llfree_pool_take_at(desks_.get(), count_, frame, order) == LLFREE_OK;
+    return is_taken ? block(*this, frame, order) : block();
 }
 
 // The frames of a memory, frame 0 of which lies at base, as whole blocks. What is larger or wants a larger alignment

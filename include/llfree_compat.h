@@ -1,6 +1,6 @@
-/* The names of llfree-c over this library, for programs written for that one: llfree_init, llfree_get, llfree_put,
- * llfree_frames, llfree_cores and llfree_metadata_size. An answer is one number, `val`, negative where a call is
- * refused. What is not declared here cannot be had; docs/C.md lists it.
+/* The names of llfree-c over this library, for programs written for that one: llfree_init, llfree_get, llfree_get_at,
+ * llfree_put, llfree_frames, llfree_cores and llfree_metadata_size. An answer is one number, `val`, negative where a call
+ * is refused. What is not declared here cannot be had; docs/C.md lists it.
  *
  * The duties of llfree.h hold: one call at a time for each core, whichever thread makes it.
  *
@@ -174,6 +174,12 @@ static inline void llfree_end(llfree_t *self)
     memset(self, 0, sizeof *self);
 }
 
+static inline bool llfree_has_block(const llfree_t *self, uint64_t frame, uint8_t order)
+{
+    return order <= LLFREE_MAX_ORDER && frame < self->frames && frame % ((uint32_t)1 << order) == 0 &&
+           frame + ((uint32_t)1 << order) <= self->frames;
+}
+
 /* Takes a block, in up to four tries, as theirs does; `val` is its first frame. */
 static inline llfree_result_t llfree_get(llfree_t *self, size_t core, llflags_t flags)
 {
@@ -181,6 +187,22 @@ static inline llfree_result_t llfree_get(llfree_t *self, size_t core, llflags_t 
     enum llfree_status status = llfree_take_retry(llfree_handle_of(self, core), flags.order, &frame, 4);
 
     return status == LLFREE_OK ? llfree_result(frame) : llfree_result_of(status);
+}
+
+/* Takes the block at this frame, in up to four tries while other cores are in the way; `val` is the frame.
+ * LLFREE_ERR_MEMORY where a frame of it is held. */
+static inline llfree_result_t llfree_get_at(llfree_t *self, size_t core, uint64_t frame, llflags_t flags)
+{
+    llfree_core *handle = llfree_handle_of(self, core);
+
+    if (self->cores == 0)
+        return llfree_result(LLFREE_ERR_INIT);
+    if (!llfree_has_block(self, frame, flags.order))
+        return llfree_result(LLFREE_ERR_ADDRESS);
+    enum llfree_status status = llfree_take_at(handle, (uint32_t)frame, flags.order);
+    for (int tries = 4; tries > 1 && status == LLFREE_CONTENDED; tries--)
+        status = llfree_take_at(handle, (uint32_t)frame, flags.order);
+    return status == LLFREE_OK ? llfree_result((int64_t)frame) : llfree_result_of(status);
 }
 
 /* Gives a block. A part of one that is held is given, too: the block is split down to it, while no other thread puts
@@ -193,7 +215,7 @@ static inline llfree_result_t llfree_put(llfree_t *self, size_t core, uint64_t f
 
     if (self->cores == 0)
         return llfree_result(LLFREE_ERR_INIT);
-    if (frame >= self->frames || flags.order > LLFREE_MAX_ORDER || frame % ((uint32_t)1 << flags.order) != 0)
+    if (!llfree_has_block(self, frame, flags.order))
         return llfree_result(LLFREE_ERR_ADDRESS);
     enum llfree_status status = llfree_give(handle, first, whole);
     while (status == LLFREE_NOT_HELD && whole < LLFREE_MAX_ORDER) {

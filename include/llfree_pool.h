@@ -87,6 +87,18 @@ static inline enum llfree_status llfree_pool_take(llfree_desk *desks, size_t cou
     return status;
 }
 
+/* llfree_take_at through a desk, again where an exchange was lost to other cores. */
+LLFREE_NODISCARD
+static inline enum llfree_status llfree_pool_take_at(llfree_desk *desks, size_t count, uint32_t frame, uint8_t order)
+{
+    llfree_desk *desk = llfree_sit(desks, count);
+    enum llfree_status status = llfree_take_at(&desk->core, frame, order);
+    for (int tries = LLFREE_POOL_TRIES; tries > 1 && status == LLFREE_CONTENDED; tries--)
+        status = llfree_take_at(&desk->core, frame, order);
+    llfree_leave(desk);
+    return status;
+}
+
 /* llfree_give through a desk. */
 static inline enum llfree_status llfree_pool_give(llfree_desk *desks, size_t count, uint32_t frame, uint8_t order)
 {

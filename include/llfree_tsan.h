@@ -103,6 +103,17 @@ static inline enum llfree_status llfree_take_told(llfree_core *handle, void *add
     return status;
 }
 
+/* llfree_take_at. */
+LLFREE_NODISCARD
+static inline enum llfree_status llfree_take_at_told(llfree_core *handle, void *address, uint32_t frame, uint8_t order)
+{
+    enum llfree_status status = llfree_take_at(handle, frame, order);
+
+    if (status == LLFREE_OK)
+        llfree_tell(address, frame, order, true);
+    return status;
+}
+
 /* llfree_give, of a memory without holes. */
 static inline enum llfree_status llfree_give_told(llfree_core *handle, void *address, uint32_t frame,
                                                   uint8_t order)
@@ -121,6 +132,18 @@ static inline enum llfree_status llfree_give_told_in(llfree_core *handle, void *
     return llfree_give(handle, frame, order);
 }
 
+/* llfree_take_run. Each of its huge frames is given by itself, by llfree_give_told. */
+LLFREE_NODISCARD
+static inline enum llfree_status llfree_take_run_told(llfree_core *handle, void *address, uint32_t count,
+                                                      uint32_t *frame)
+{
+    enum llfree_status status = llfree_take_run(handle, count, frame);
+
+    for (uint32_t i = 0; status == LLFREE_OK && i < count; i++)
+        llfree_tell(address, *frame + 512 * i, 9, true);
+    return status;
+}
+
 /* llfree_take_block. */
 LLFREE_NODISCARD
 static inline enum llfree_status llfree_take_block_told(llfree_core *handle, void *address, uint8_t order,
@@ -130,6 +153,18 @@ static inline enum llfree_status llfree_take_block_told(llfree_core *handle, voi
 
     if (status == LLFREE_OK)
         llfree_tell(address, block->frame, block->order, true);
+    return status;
+}
+
+/* llfree_take_block_at. */
+LLFREE_NODISCARD
+static inline enum llfree_status llfree_take_block_at_told(llfree_core *handle, void *address, uint32_t frame,
+                                                           uint8_t order, llfree_block *block)
+{
+    enum llfree_status status = llfree_take_block_at(handle, frame, order, block);
+
+    if (status == LLFREE_OK)
+        llfree_tell(address, frame, order, true);
     return status;
 }
 

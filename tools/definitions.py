@@ -70,6 +70,9 @@ PAGES = [
             "llfree_order_at"]),
         ("several threads: blocks in structs", [
             "llfree_take_block", "llfree_give_block", "llfree_split_block"]),
+        ("several threads: a take of just this block", ["llfree_take_at", "llfree_take_block_at"]),
+        ("several threads: looks at a block, and runs of huge frames", [
+            "llfree_is_free", "llfree_take_run", "llfree_give_run"]),
         ("several threads: single frames that rest with a core", [
             "llfree_take_frame", "llfree_give_frame", "llfree_drain"]),
         ("several threads: single frames that rest with a core, by number", [
@@ -84,7 +87,8 @@ PAGES = [
             "llfree_free_frames", "llfree_free_huge", "llfree_free_frames_of", "llfree_free_huge_of"]),
         ("several threads: zones, and homes that are set", ["llfree_zones", "llfree_home", "llfree_set_home"]),
         ("what no take answers and no stop leaves", [
-            "wrong_takes_are_not_told", "wrong_answers_are_not_given", "wrong_images_are_not_left"]),
+            "wrong_takes_are_not_told", "wrong_takes_of_one_block_are_not_told", "wrong_answers_are_not_given",
+            "wrong_images_are_not_left"]),
     ]),
     ("threads", "Threads", [
         ("what words and views that agree say of blocks and counters", ["every_fit_is_safe"]),

@@ -72,7 +72,9 @@ for _name, _answer, *_arguments in (
         ('reopen', _u32, _to(Handle), _size, _u32, _to(_u64), _size, _to(Claim), _size),
         ('take', _u32, _to(Handle), _u8, _to(_u32)), ('give', _u32, _to(Handle), _u32, _u8),
         ('split', _u32, _to(Handle), _u32, _u8), ('split_to', _u32, _to(Handle), _u32, _u8, _u8),
-        ('order_at', _u32, _to(Handle), _u32, _to(_u8)),
+        ('order_at', _u32, _to(Handle), _u32, _to(_u8)), ('take_at', _u32, _to(Handle), _u32, _u8),
+        ('is_free', ctypes.c_bool, _to(Handle), _u32, _u8), ('take_run', _u32, _to(Handle), _u32, _to(_u32)),
+        ('give_run', _u32, _to(Handle), _u32, _u32),
         ('take_frame', _u32, _to(Handle), _to(Block)),
         ('give_frame', _u32, _to(Handle), _to(Block)),
         ('take_number', _u32, _to(Handle), _to(_u32)), ('give_number', _u32, _to(Handle), _u32),
@@ -131,6 +133,11 @@ class Core:
         self._takes(tries, 'take', order, frame)
         return frame.value
 
+    def take_at(self, frame, order, tries=1):
+        """Exactly this block is taken, or Refused. It tries again where other cores may be in the way."""
+        order = _fits(order, 8, Status.BAD_ORDER)
+        self._takes(tries, 'take_at', _fits(frame, 32, Status.NO_BLOCK), order)
+
     def give(self, frame, order):
         _checked(self._call('give', _fits(frame, 32, Status.NOT_HELD), _fits(order, 8, Status.NOT_HELD)))
 
@@ -148,6 +155,20 @@ class Core:
         order = _u8()
         _checked(self._call('order_at', _fits(frame, 32, Status.NOT_HELD), order))
         return order.value
+
+    def is_free(self, frame, order):
+        """Whether all frames of this block are free, as one look sees it."""
+        return 0 <= frame < 1 << 32 and 0 <= order < 256 and self._call('is_free', frame, order)
+
+    def take_run(self, count, tries=1):
+        """The first frame of 1 to 512 huge frames side by side, or Refused. From then on each is given by itself."""
+        frame, count = _u32(), _fits(count, 32, Status.BAD_ORDER)
+        self._takes(tries, 'take_run', count, frame)
+        return frame.value
+
+    def give_run(self, frame, count):
+        """Gives huge frames that lie side by side, where each is held."""
+        _checked(self._call('give_run', _fits(frame, 32, Status.NOT_HELD), _fits(count, 32, Status.BAD_ORDER)))
 
     def take_frame(self, tries=1):
         """A single frame, or Refused: the one that came to rest with this core last, if any. give_frame gives it."""

@@ -59,6 +59,51 @@ class Calls(unittest.TestCase):
             second.give(frame, 3)
         self.assertEqual(first.free_huge(), 32)
 
+    def test_a_block_at_a_place(self):
+        first, second = llfree.open(1124, cores=2, kept=[(3, 2)])
+        status = llfree.Status
+        held = {3, 4, *range(520, 528)}
+        second.take_at(520, 3)
+        for order in range(10):
+            for frame in range(0, 1200):
+                block = range(frame, frame + (1 << order))
+                if frame % len(block) == 0 and block.stop <= 1124 and held.isdisjoint(block):
+                    first.take_at(frame, order)
+                    self.assertEqual(second.order_at(frame), order)
+                    self.refused(status.NO_BLOCK, second.take_at, frame, order)
+                    second.give(frame, order)
+                else:
+                    self.refused(status.NO_BLOCK, first.take_at, frame, order)
+        for frame in (-1, 1 << 31, 1 << 32):
+            self.refused(status.NO_BLOCK, first.take_at, frame, 0, tries=3)
+        for order in (-1, 10, 255, 256, 1 << 40):
+            self.refused(status.BAD_ORDER, first.take_at, 0, order)
+        first.give(520, 3)
+        self.assertEqual((first.free_frames(), first.free_huge()), (1122, 1))
+        second.close()
+        self.refused(status.CLOSED_HANDLE, second.take_at, 0, 0)
+
+    def test_runs_of_huge_frames(self):
+        first, second = llfree.open(20 * 512 + 7, cores=2, kept=[(512, 1)])
+        status = llfree.Status
+        for count, place in ((1, 0), (2, 2), (3, 4), (4, 4), (5, 8), (8, 8)):
+            self.assertEqual(first.take_run(count), 512 * place)
+            self.assertEqual([second.order_at(512 * (place + i)) for i in range(count)], [9] * count)
+            self.assertFalse(second.is_free(512 * place, 0) or second.is_free(512 * place, 9))
+            self.refused(status.NOT_HELD, second.give_run, 512 * place, count + 1)
+            second.give_run(512 * place, count)
+            self.refused(status.NOT_HELD, second.give_run, 512 * place, count)
+            self.assertTrue(second.is_free(512 * place, 9))
+        for count in (9, 16, 17, 512):
+            self.refused(status.NO_BLOCK, first.take_run, count)
+        for count in (-1, 0, 513, 1 << 32):
+            self.refused(status.BAD_ORDER, first.take_run, count)
+            self.refused(status.BAD_ORDER, first.give_run, 0, count)
+        for frame, order in ((-1, 0), (1 << 32, 0), (0, -1), (0, 256), (0, 10), (512, 0), (20 * 512 + 7, 0), (1, 1)):
+            self.assertFalse(first.is_free(frame, order))
+        self.refused(status.NOT_HELD, first.give_run, -1, 1)
+        self.assertEqual((first.free_frames(), first.free_huge()), (20 * 512 + 6, 19))
+
     def test_numbers_that_c_has_no_room_for(self):
         core, = llfree.open(1024)
         status = llfree.Status
@@ -90,12 +135,12 @@ class Calls(unittest.TestCase):
         for wrong in (taken[0], taken[128] + (1 << 32), -1, None):
             self.refused(status.NOT_HELD, second.give_frame, wrong)
         first.give_frame(taken[128])
-        self.assertEqual((first.resting(), second.free_frames()), (65, 4096 - 65))
-        again = [first.take_frame() for _ in range(65)]
-        self.assertEqual(again, taken[:63:-1])
+        self.assertEqual((first.resting(), second.free_frames()), (113, 4096 - 113))
+        again = [first.take_frame() for _ in range(113)]
+        self.assertEqual(again, taken[:15:-1])
         for frame in again:
             second.give_frame(frame)
-        self.assertEqual((first.resting(), second.resting(), first.free_frames()), (0, 65, 4096 - 65))
+        self.assertEqual((first.resting(), second.resting(), first.free_frames()), (0, 113, 4096 - 113))
         second.drain()
         self.assertEqual((second.resting(), first.free_huge()), (0, 8))
         frame = first.take_frame()
@@ -144,7 +189,7 @@ class Calls(unittest.TestCase):
         self.assertEqual((second.resting(), second.take_frames(3)), (100, taken[99:96:-1]))
         second.give_frames(taken[99:96:-1] + taken[100:])
         self.refused(status.NOT_HELD, first.give_frame, taken[0])
-        self.assertLess(64, second.resting())
+        self.assertEqual(second.resting(), 128)  # 97 and 415: once full, each 16 more make it full again
         second.drain()
         self.assertEqual(first.free_huge(), 1)
 

@@ -6,7 +6,7 @@
 #include <stdatomic.h>
 
 /* FRAMES are two trees, MANY two for each core. */
-enum { MOST = 128, HALF = 64, FRAMES = 16 * 512, CORES = 4, MANY = CORES * FRAMES, ROOM = 200 };
+enum { MOST = 128, REFILL = 8, FLUSH = 16, FRAMES = 16 * 512, CORES = 4, MANY = CORES * FRAMES, ROOM = 200 };
 #if defined __SANITIZE_THREAD__ || defined __SANITIZE_ADDRESS__
 enum { ROUNDS = 2000 };
 #else
@@ -79,17 +79,19 @@ static void statuses(void)
     CHECK(llfree_take_frames(&h[0], blocks, 4, &taken) == LLFREE_CLOSED_HANDLE && taken == 77);
 }
 
-/* Of ample memory all that are wanted come, whatever rested before; each is had once, and goes back. */
+/* Of ample memory all that are wanted come, whatever rested before; each is had once, and goes back. From one give on
+ * where 128 rest, 16 go back: 113 rest then, and 128 again after 15 more. */
 static void counts(void)
 {
-    static const size_t wanted[] = { 0, 1, 2, 63, 64, 65, 127, 128, 129, 200, 1000, 4096, FRAMES };
+    static const size_t rested_before[] = { 0, 1, 7, 8, 9, 16, 111, 112, 113, 127, 128 };
+    static const size_t wanted[] = { 0, 1, 7, 8, 9, 15, 16, 17, 111, 112, 113, 127, 128, 129, 200, 1000, 4096, FRAMES };
     static llfree_block blocks[FRAMES + 1], few[MOST];
     llfree_core h[2];
 
-    for (size_t rested = 0; rested <= MOST; rested += rested == 0 || rested == MOST - 1 ? 1 : 63)
+    for (size_t b = 0; b < sizeof rested_before / sizeof *rested_before; b++)
         for (size_t i = 0; i < sizeof wanted / sizeof *wanted; i++) {
             static unsigned char seen[FRAMES];
-            size_t n = wanted[i], taken = 77;
+            size_t rested = rested_before[b], n = wanted[i], taken = 77;
             open_two(h, FRAMES);
             memset(seen, 0, sizeof seen);
             CHECK(llfree_take_frames(&h[1], few, rested, &taken) == LLFREE_OK && taken == rested);
@@ -97,14 +99,14 @@ static void counts(void)
             CHECK(llfree_give_frames(&h[0], few, rested) == LLFREE_OK && llfree_resting(&h[0]) == rested);
             CHECK(llfree_take_frames(&h[0], blocks, n, &taken) == LLFREE_OK && taken == n);
             uint32_t rests = llfree_resting(&h[0]);
-            CHECK(n <= rested ? rests == rested - n : rests < HALF);
+            CHECK(n <= rested ? rests == rested - n : rests < REFILL);
             CHECK(llfree_free_frames(&h[1]) == FRAMES - n - rests);
             for (size_t k = 0; k < n; k++)
                 CHECK(blocks[k].live && blocks[k].order == 0 && blocks[k].frame < FRAMES && !seen[blocks[k].frame]++);
             CHECK(are_empty(&blocks[n], FRAMES + 1 - n));
             CHECK(llfree_give_frames(&h[0], blocks, n) == LLFREE_OK && are_empty(blocks, n));
             uint32_t then = llfree_resting(&h[0]);
-            CHECK(rests + n <= MOST ? then == rests + n : HALF < then && then <= MOST);
+            CHECK(then == (rests + n <= MOST ? rests + n : 113 + (rests + n - 129) % FLUSH));
             CHECK(llfree_free_frames(&h[1]) == FRAMES - then);
             llfree_drain(&h[0]);
             CHECK(llfree_free_frames(&h[1]) == FRAMES && llfree_free_huge(&h[1]) == FRAMES / 512);

@@ -104,6 +104,30 @@ static void puts_of_parts(void)
     llfree_end(&self);
 }
 
+static void gets_at(void)
+{
+    static const struct {
+        uint64_t frame;
+        size_t order;
+    } none[] = { { END, 0 }, { 1, 1 }, { 511, 9 }, { 0, 10 }, { 0, 100000 }, { END - 1, 1 }, { END / 512 * 512, 9 },
+                 { (uint64_t)1 << 32, 0 }, { UINT64_MAX, 0 } };
+
+    CHECK(llfree_ok(open_as(2, END, LLFREE_INIT_FREE)));
+    for (size_t i = 0; i < sizeof none / sizeof *none; i++)
+        CHECK(llfree_get_at(&self, i, none[i].frame, llflags(none[i].order)).val == LLFREE_ERR_ADDRESS);
+    for (size_t order = 0; order <= LLFREE_MAX_ORDER; order++)
+        for (uint64_t f = 0; f + (1u << order) <= END; f += 512) {
+            CHECK(llfree_get_at(&self, order, f, llflags(order)).val == (int64_t)f);
+            CHECK(llfree_get_at(&self, order, f, llflags(order / 2)).val == LLFREE_ERR_MEMORY);
+            CHECK(llfree_put(&self, f, f, llflags(order)).val == LLFREE_ERR_OK);
+        }
+    for (uint64_t f = 0; f < END; f++)
+        CHECK(llfree_get_at(&self, f, f, llflags(0)).val == (int64_t)f);
+    CHECK(llfree_get(&self, 0, llflags(0)).val == LLFREE_ERR_MEMORY);
+    llfree_end(&self);
+    CHECK(llfree_get_at(&self, 0, 0, llflags(0)).val == LLFREE_ERR_INIT);
+}
+
 static void mark(uint64_t frame, uint8_t order, unsigned char from)
 {
     for (uint64_t f = frame; f < frame + (1u << order); f++)
@@ -120,7 +144,9 @@ static void *work(void *number)
         uint64_t r = next_random(&random);
         if (round < ROUNDS && count < HELD && r & 64) {
             uint8_t order = r % 16 < 12 ? 0 : r % 10;
-            llfree_result_t result = llfree_get(&self, core, llflags(order));
+            uint64_t place = (r >> 32) % (END - 512) >> order << order;
+            llfree_result_t result = r & 1 << 20 ? llfree_get(&self, core, llflags(order)) :
+                                                   llfree_get_at(&self, core, place, llflags(order));
             if (!llfree_ok(result))
                 continue;
             mark((uint64_t)result.val, order, 0);
@@ -146,6 +172,7 @@ int main(void)
     all_held(3 * 512);
     all_held(1);
     puts_of_parts();
+    gets_at();
     CHECK(llfree_ok(open_as(CORES, END, LLFREE_INIT_FREE)));
     for (size_t i = 0; i < CORES; i++)
         CHECK(pthread_create(&threads[i], NULL, work, (void *)(uintptr_t)i) == 0);

@@ -44,6 +44,12 @@ void blocks(llfree::memory &memory)
         llfree::block single = memory.take(0);
         CHECK(refusal([&] { (void)single.split(); }) == LLFREE_BAD_ORDER && single);
         CHECK(!memory.take(10));
+        {
+            const std::uint32_t at = block.frame(), place = at ^ 512;
+            CHECK(!memory.take_at(at, 0) && !memory.take_at(at + 1, 1) && !memory.take_at(at, 10));
+            llfree::block other = memory.take_at(place, 2);
+            CHECK(other && other.frame() == place && other.order() == 2 && !memory.take_at(place, 2));
+        }
         auto [frame, order] = block.release();
         CHECK(!block && memory.give(frame, order) == LLFREE_OK && memory.give(frame, order) == LLFREE_NOT_HELD);
     }

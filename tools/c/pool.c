@@ -62,7 +62,9 @@ static void *work(void *number)
             run_of(1 + (r >> 16) % 512, 1u << (r >> 32) % 10);
         if (r & 1 && held < HELD - 1) {
             uint8_t order = r >> 8 & 7;
-            if (llfree_pool_take(desks, DESKS, order, &frames[held]) != LLFREE_OK)
+            frames[held] = (uint32_t)(r >> 20) % FRAMES >> order << order;
+            if ((r & 128 ? llfree_pool_take(desks, DESKS, order, &frames[held]) :
+                           llfree_pool_take_at(desks, DESKS, frames[held], order)) != LLFREE_OK)
                 continue;
             turn(frames[held], order, 1);
             orders[held++] = order;
@@ -170,6 +172,10 @@ int main(void)
     }
     CHECK(llfree_free_frames(&desks[3].core) == FRAMES && llfree_free_huge(&desks[0].core) == FRAMES / 512);
 
+    CHECK(llfree_pool_take_at(desks, DESKS, 5 * 512, 9) == LLFREE_OK);
+    CHECK(llfree_pool_take_at(desks, DESKS, 5 * 512 + 8, 3) == LLFREE_NO_BLOCK);
+    CHECK(llfree_pool_take_at(desks, DESKS, FRAMES, 0) == LLFREE_NO_BLOCK);
+    CHECK(llfree_pool_give(desks, DESKS, 5 * 512, 9) == LLFREE_OK);
     CHECK(llfree_pool_take(desks, DESKS, 9, &frame) == LLFREE_OK);
     CHECK(llfree_frame_at(owner, llfree_address(owner, frame)) == frame);
     CHECK((char *)llfree_address(owner, 3) - (char *)owner == 12288);

@@ -233,6 +233,14 @@ static void no_calls(void)
     CHECK(llfree_open(cores, CORES, FRAMES, kept, 2) == LLFREE_OK && open_plain(&memory) == LLFREE_OK);
     CHECK(calls > 0);
     calls = 0;
+    for (uint8_t order = 0; order <= LARGEST; order++) {
+        CHECK(llfree_take_at(&cores[0], 2048, order) == LLFREE_OK);
+        CHECK(llfree_take_at(&cores[1], 2048, 0) == LLFREE_NO_BLOCK);
+        CHECK(llfree_take_block_at(&cores[2], 2048, LARGEST, &block) == LLFREE_NO_BLOCK);
+        CHECK(llfree_give(&cores[1], 2048, order) == LLFREE_OK);
+        CHECK(llfree_take_block_at(&cores[2], 2048, order, &block) == LLFREE_OK);
+        CHECK(llfree_give_block(&cores[0], &block) == LLFREE_OK);
+    }
     for (uint8_t order = 1; order <= LARGEST; order++) {
         CHECK(llfree_take(&cores[0], order, &frame) == LLFREE_OK);
         CHECK(llfree_split(&cores[1], frame, order) == LLFREE_OK);
@@ -263,6 +271,9 @@ static void no_calls(void)
         CHECK(llfree_plain_split(&memory, frame, order) == LLFREE_OK);
         CHECK(llfree_plain_give(&memory, frame, order - 1) == LLFREE_OK);
     }
+    CHECK(llfree_take_run(&cores[0], 3, &frame) == LLFREE_OK && !llfree_is_free(&cores[1], frame + 1024, LARGEST));
+    CHECK(llfree_take_run(&cores[1], 9, &frame) == LLFREE_NO_BLOCK && llfree_give_run(&cores[2], frame, 4) != LLFREE_OK);
+    CHECK(llfree_give_run(&cores[2], frame, 3) == LLFREE_OK && llfree_is_free(&cores[1], frame + 1024, LARGEST));
     while (llfree_take(&cores[0], 0, &frame) == LLFREE_OK)
         ;
     while (llfree_plain_take(&memory, 0, &frame) == LLFREE_OK)

@@ -5,7 +5,7 @@
 #include <sched.h>
 #include <stdatomic.h>
 
-enum { MOST = 128, HALF = 64, FRAMES = 16 * 512, RING = 256, PAIRS = 2, MIXED = 40000 };
+enum { MOST = 128, REFILL = 8, FLUSH = 16, FRAMES = 16 * 512, RING = 256, PAIRS = 2, MIXED = 40000 };
 #if defined __SANITIZE_THREAD__ || defined __SANITIZE_ADDRESS__
 enum { ROUNDS = 30000 };
 #else
@@ -108,7 +108,7 @@ static void last_first(void)
     close_two(h);
 }
 
-/* From one give on where 128 rest, the 64 that came first go back. */
+/* From one give on where 128 rest, the 16 that came first go back. */
 static void borders(void)
 {
     static llfree_block blocks[3 * MOST];
@@ -124,7 +124,7 @@ static void borders(void)
         }
         llfree_drain(&h[0]);
         for (uint32_t i = 0; i < count; i++) {
-            resting = (resting == MOST ? HALF : resting) + 1;
+            resting = (resting == MOST ? MOST - FLUSH : resting) + 1;
             give(&h[0], &blocks[i]);
             CHECK(llfree_resting(&h[0]) == resting && resting <= MOST);
             CHECK(llfree_free_frames(&h[1]) == FRAMES - count + 1 + i - resting);
@@ -142,7 +142,7 @@ static void borders(void)
     }
 }
 
-/* Where none rests others come to rest with one that is taken, at most 64 with it, and count as held. Of a fresh memory
+/* Where none rests others come to rest with one that is taken, at most 8 with it, and count as held. Of a fresh memory
  * most are had in order, and all of a tree before the next one. */
 static void batches(void)
 {
@@ -159,12 +159,12 @@ static void batches(void)
         take(&h[0], &blocks[i]);
         uint32_t x = blocks[i].frame, rests = llfree_resting(&h[0]);
         CHECK(x < FRAMES && !seen[x]++ && x / TREE == blocks[i / TREE * TREE].frame / TREE);
-        CHECK(rested > 0 ? rests == rested - 1 : rests < HALF);
+        CHECK(rested > 0 ? rests == rested - 1 : rests < REFILL);
         CHECK(llfree_free_frames(&h[1]) == FRAMES - 1 - i - rests);
         batches += rested == 0;
         ascend += i > 0 && x == blocks[i - 1].frame + 1;
     }
-    CHECK(batches <= FRAMES / HALF + FRAMES / TREE && ascend >= FRAMES / 10 * 9);
+    CHECK(batches <= FRAMES / REFILL + FRAMES / TREE && ascend >= FRAMES / 10 * 9);
     CHECK(llfree_take_frame(&h[0], &(llfree_block) LLFREE_EMPTY) == LLFREE_NO_BLOCK && llfree_resting(&h[0]) == 0);
     /* and where no two free frames lie side by side */
     for (uint32_t i = 0; i < FRAMES; i++)
@@ -175,6 +175,29 @@ static void batches(void)
             take(&h[1], &blocks[i]);
     CHECK(llfree_free_frames(&h[0]) == 0 && llfree_resting(&h[1]) == 0);
     close_two(h);
+}
+
+/* Of a memory that is about as large as a batch, too: 7 come to rest with the first frame and with each eighth one
+ * behind it, or as many as there are. */
+static void small_batches(void)
+{
+    static llfree_block blocks[2 * REFILL + 1];
+    llfree_core h[2];
+
+    for (uint32_t frames = 1; frames <= 2 * REFILL + 1; frames++) {
+        uint64_t seen = 0;
+        open_two(h, frames);
+        memset(blocks, 0, sizeof blocks);
+        for (uint32_t i = 0; i < frames; i++) {
+            uint32_t left = frames - 1 - i, rests = REFILL - 1 - i % REFILL < left ? REFILL - 1 - i % REFILL : left;
+            take(&h[0], &blocks[i]);
+            CHECK(blocks[i].frame < frames && !(seen >> blocks[i].frame & 1));
+            seen |= 1ull << blocks[i].frame;
+            CHECK(llfree_resting(&h[0]) == rests && llfree_free_frames(&h[1]) == left - rests);
+        }
+        CHECK(llfree_take_frame(&h[0], &(llfree_block) LLFREE_EMPTY) == LLFREE_NO_BLOCK && llfree_resting(&h[0]) == 0);
+        close_two(h);
+    }
 }
 
 /* A take is refused only where nothing rests; what rests is hidden from larger takes and from others till a drain. */
@@ -197,7 +220,7 @@ static void refusals(void)
     take(&h[0], &blocks[0]);
     for (uint32_t i = 0; i < 512; i++)
         give(&h[0], &blocks[i]);
-    CHECK(llfree_resting(&h[0]) > HALF && llfree_take_block(&h[0], LARGEST, &huge) == LLFREE_NO_BLOCK);
+    CHECK(llfree_resting(&h[0]) > MOST - FLUSH && llfree_take_block(&h[0], LARGEST, &huge) == LLFREE_NO_BLOCK);
     llfree_drain(&h[0]);
     CHECK(llfree_take_block(&h[1], LARGEST, &huge) == LLFREE_OK && huge.frame == 0);
     CHECK(llfree_take_frame(&h[0], &blocks[0]) == LLFREE_NO_BLOCK);
@@ -210,28 +233,28 @@ static void closings(void)
     enum { WORDS = 9 * 8, SMALL = 8 * 512 };
     static uint64_t words[WORDS];
     llfree_core h[2];
-    llfree_block blocks[HALF] = { LLFREE_EMPTY }, one = LLFREE_EMPTY;
+    llfree_block blocks[MOST] = { LLFREE_EMPTY }, one = LLFREE_EMPTY;
 
     open_two(h, SMALL);
-    for (int i = 0; i < HALF; i++)
+    for (int i = 0; i < MOST; i++)
         take(&h[0], &blocks[i]);
     llfree_drain(&h[0]);
-    for (int i = 0; i < HALF; i++)
+    for (int i = 0; i < MOST; i++)
         give(&h[1], &blocks[i]);
-    CHECK(llfree_free_frames(&h[0]) == SMALL - HALF);
+    CHECK(llfree_free_frames(&h[0]) == SMALL - MOST);
     llfree_close(&h[1]);
     CHECK(llfree_free_frames(&h[0]) == SMALL);
     close_two(h);
 
     open_two(h, SMALL);
-    for (int i = 0; i < HALF; i++)
+    for (int i = 0; i < MOST; i++)
         take(&h[0], &blocks[i]);
     take(&h[0], &one);
     llfree_drain(&h[0]);
-    for (int i = 0; i < HALF; i++)
+    for (int i = 0; i < MOST; i++)
         give(&h[0], &blocks[i]);
-    CHECK(llfree_close_image(&h[0], words, WORDS - 1) == LLFREE_NO_ROOM && llfree_resting(&h[0]) == HALF);
-    CHECK(llfree_close_image(&h[0], words, WORDS) == LLFREE_CORES_OPEN && llfree_resting(&h[0]) == HALF);
+    CHECK(llfree_close_image(&h[0], words, WORDS - 1) == LLFREE_NO_ROOM && llfree_resting(&h[0]) == MOST);
+    CHECK(llfree_close_image(&h[0], words, WORDS) == LLFREE_CORES_OPEN && llfree_resting(&h[0]) == MOST);
     llfree_close(&h[1]);
     CHECK(llfree_close_image(&h[0], words, WORDS) == LLFREE_OK && !h[0].live);
     for (uint32_t c = 0; c < 8; c++) {
@@ -324,7 +347,7 @@ static void numbers(void)
 }
 
 /* All frames by number, in zones with a hole between them: each once, the others are not held, and from one give on
- * where 128 rest the 64 that came first go back. */
+ * where 128 rest the 16 that came first go back. */
 static void numbers_of_zones(void)
 {
     static const llfree_range two[2] = { { 1024, 700 }, { 4096, 600 } };
@@ -338,7 +361,7 @@ static void numbers_of_zones(void)
     for (uint32_t i = 0; i < ALL; i++) {
         f = frames[i] = take_number(&h[0]);
         CHECK(((1024 <= f && f < 1724) || (4096 <= f && f < 4696)) && !seen[f]++);
-        CHECK(llfree_resting(&h[0]) < HALF);
+        CHECK(llfree_resting(&h[0]) < REFILL);
     }
     f = 77;
     for (int k = 0; k < 2; k++)
@@ -347,7 +370,7 @@ static void numbers_of_zones(void)
         if (x >= 4096 + 600 || !seen[x])
             is_not_held(h, x);
     for (uint32_t i = 0; i < ALL; i++) {
-        resting = (resting == MOST ? HALF : resting) + 1;
+        resting = (resting == MOST ? MOST - FLUSH : resting) + 1;
         CHECK(llfree_give_number(&h[1], frames[i]) == LLFREE_OK && llfree_resting(&h[1]) == resting);
         CHECK(llfree_free_frames(&h[0]) == i + 1 - resting);
         is_not_held(h, frames[i]);
@@ -583,6 +606,7 @@ int main(void)
     last_first();
     borders();
     batches();
+    small_batches();
     refusals();
     closings();
     numbers();

@@ -24,6 +24,15 @@ static enum llfree_status take(llfree_core *core, uint8_t order, uint32_t *frame
 #endif
 }
 
+static enum llfree_status take_at(llfree_core *core, uint32_t frame, uint8_t order)
+{
+#ifdef UNTOLD
+    return llfree_take_at(core, frame, order);
+#else
+    return llfree_take_at_told(core, memory, frame, order);
+#endif
+}
+
 static enum llfree_status give(llfree_core *core, uint32_t frame, uint8_t order)
 {
 #ifdef UNTOLD
@@ -39,15 +48,16 @@ static uint64_t *number_in(uint32_t frame)
     return (uint64_t *)(memory + (size_t)LLFREE_FRAME_BYTES * frame);
 }
 
-/* By turns a block is given whole, and in halves. A frame counts who had it. */
+/* By turns a block is taken anywhere and at a place, and is given whole and in halves. A frame counts who had it. */
 static void *work(void *core)
 {
     uint64_t random = 77 + (uint64_t)((llfree_core *)core - cores), *sum = &written[(llfree_core *)core - cores];
 
     for (uint64_t i = 0; i < rounds; i++) {
         uint8_t order = next_random(&random) % ORDERS;
-        uint32_t frame;
-        if (take(core, order, &frame) != LLFREE_OK) {
+        uint32_t frame = next_random(&random) % (FRAMES / 2) >> order << order;
+        frame += i % 8 < 4 ? 0 : has_hole ? SECOND : FRAMES / 2;
+        if ((i % 4 < 2 ? take(core, order, &frame) : take_at(core, frame, order)) != LLFREE_OK) {
             sched_yield();
             continue;
         }
@@ -98,6 +108,12 @@ static void others(void)
     CHECK(llfree_give_told(&cores[0], memory, UINT32_MAX, 0) == LLFREE_NOT_HELD);
     CHECK(llfree_give_told(&cores[0], memory, 0, 255) == LLFREE_NOT_HELD);
     CHECK(llfree_give_told(&cores[0], memory, FRAMES - 1, 1) == LLFREE_NOT_HELD);
+    for (int i = 0; i < CORES; i++)
+        llfree_drain(&cores[i]);
+    CHECK(llfree_take_block_at_told(&cores[1], memory, 40, 3, &block) == LLFREE_OK);
+    CHECK(llfree_take_at_told(&cores[0], memory, 47, 0) == LLFREE_NO_BLOCK);
+    *number_in(47) = 0;
+    CHECK(llfree_give_block_told(&cores[0], memory, &block) == LLFREE_OK);
 }
 
 /* Of zones numbers of the hole, of both sides of a border and past the end are told of no tool. */

@@ -107,6 +107,15 @@ impl<F: Form> Core<F> {
         last
     }
 
+    /// Takes exactly the block of the order that begins at this frame, where all of its frames are free.
+    /// [`Refused::NoBlock`]: there is no such block, or it was not free; beside other cores it may be free for all that.
+    pub fn take_at(&mut self, frame: u32, order: u8) -> Result<Block<F>, Refused> {
+        match F::take_at(&mut self.handle, frame, order) {
+            Ok(right) => Ok(Block { right, memory: self.memory }),
+            Err(status) => refused(status),
+        }
+    }
+
     /// Gives a block back, whichever core took it. What is refused comes back.
     pub fn give(&mut self, block: Block<F>) -> Result<(), (Refused, Block<F>)> {
         let Block { right, memory } = self.own(block)?;
@@ -129,6 +138,13 @@ impl<F: Form> Core<F> {
         } else {
             Err((Refused::OtherMemory, block))
         }
+    }
+
+    /// Whether all frames of this block are free, as one look sees it; exact where no other core is in a call. False
+    /// where the memory has no such block.
+    pub fn is_free(&mut self, frame: u32, order: u8) -> bool {
+        // SAFETY: a handle behind `&mut`; any number is safe.
+        unsafe { sys::llfree_is_free(&mut self.handle, frame, order) }
     }
 
     /// The frames of the memory, of all zones, those that are kept too.
@@ -192,7 +208,7 @@ impl<F: Form> Core<F> {
         }
     }
 
-    /// Gives a single frame, which rests with this core, whichever core took it. If 128 rest there already, 64 of them
+    /// Gives a single frame, which rests with this core, whichever core took it. If 128 rest there already, 16 of them
     /// go back first. What is refused comes back: [`Refused::BadOrder`] for a larger block.
     pub fn give_frame(&mut self, block: Block<F>) -> Result<(), (Refused, Block<F>)> {
         let Block { right, memory } = self.own(block)?;
@@ -278,6 +294,33 @@ impl Core<Checked> {
         (status == 0).then_some(order)
     }
 
+    /// Takes a run: 1 to 512 huge frames, blocks of order 9, side by side in one zone. The first frame is a multiple of
+    /// 512 times their number, which is rounded up to a power of two. [`Refused::BadOrder`]: another number.
+    pub fn take_run(&mut self, count: u32) -> Result<Parts, Refused> {
+        let mut frame = 0;
+        // SAFETY: a handle behind `&mut`, and a local; any number is safe.
+        match unsafe { sys::llfree_take_run(&mut self.handle, count, &mut frame) } {
+            0 => Ok(Parts { frame, order: 9, left: count, memory: self.memory }),
+            status => refused(status),
+        }
+    }
+
+    /// Gives what is left of a run, in one call. What is refused comes back: of another memory, of a smaller order, or
+    /// nothing left.
+    pub fn give_run(&mut self, run: Parts) -> Result<(), (Refused, Parts)> {
+        if run.memory != self.memory {
+            return Err((Refused::OtherMemory, run));
+        }
+        if run.order != 9 {
+            return Err((Refused::BadOrder, run));
+        }
+        // SAFETY: a handle behind `&mut`; any number is safe.
+        match unsafe { sys::llfree_give_run(&mut self.handle, run.frame, run.left) } {
+            0 => Ok(()),
+            status => Err((Refused::of(status).err().unwrap_or(Refused::Unknown), run)),
+        }
+    }
+
     /// Splits a block into all its blocks of an order, its own at most, in one call. What is refused comes back.
     pub fn split_to(&mut self, block: Block, order: u8) -> Result<Parts, (Refused, Block)> {
         let block = self.own(block)?;
@@ -289,7 +332,7 @@ impl Core<Checked> {
     }
 }
 
-/// What [`Core::split_to`] made of a block, in the order of their frames.
+/// What [`Core::split_to`] made of a block, or [`Core::take_run`] took, in the order of their frames.
 #[derive(Debug)]
 #[must_use = "a block that is dropped stays held until its memory is closed"]
 pub struct Parts {

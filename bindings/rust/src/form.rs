@@ -15,6 +15,8 @@ pub trait Form: Sized {
     #[doc(hidden)]
     fn take(handle: &mut Handle, order: u8) -> Result<Self::Right, u32>;
     #[doc(hidden)]
+    fn take_at(handle: &mut Handle, frame: u32, order: u8) -> Result<Self::Right, u32>;
+    #[doc(hidden)]
     fn give(handle: &mut Handle, right: Self::Right) -> Result<(), (u32, Self::Right)>;
     #[doc(hidden)]
     fn split(handle: &mut Handle, right: Self::Right) -> Result<(Self::Right, Self::Right), (u32, Self::Right)>;
@@ -59,6 +61,14 @@ impl Form for Checked {
         let mut frame = 0;
         // SAFETY: as above; `frame` is a local.
         match unsafe { sys::llfree_take(handle, order, &mut frame) } {
+            0 => Ok(Place { frame, order }),
+            status => Err(status),
+        }
+    }
+
+    fn take_at(handle: &mut Handle, frame: u32, order: u8) -> Result<Place, u32> {
+        // SAFETY: as above; any number is safe.
+        match unsafe { sys::llfree_take_at(handle, frame, order) } {
             0 => Ok(Place { frame, order }),
             status => Err(status),
         }
@@ -141,6 +151,15 @@ impl Form for Unchecked {
         let mut right = EMPTY;
         // SAFETY: as above; the struct is an empty local.
         match unsafe { sys::llfree_take_block(handle, order, &mut right) } {
+            0 => Ok(right),
+            status => Err(status),
+        }
+    }
+
+    fn take_at(handle: &mut Handle, frame: u32, order: u8) -> Result<Struct, u32> {
+        let mut right = EMPTY;
+        // SAFETY: as above; any number is safe, and the struct is an empty local.
+        match unsafe { sys::llfree_take_block_at(handle, frame, order, &mut right) } {
             0 => Ok(right),
             status => Err(status),
         }

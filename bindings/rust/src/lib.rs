@@ -17,6 +17,8 @@
 //! of a fork, calls through a core that is in a call. One heap stands behind `rattle_alloc` (in the installed library
 //! that is `malloc`).
 //!
+//! [`Core::take_at`] takes just the block that begins at a frame: what grows in place, or has to lie there.
+//!
 //! Single frames that are soon taken again may rest with a core ([`Core::take_frame`]); in the [`Unchecked`] form
 //! several come and go at once ([`Core::take_frames`]).
 //!

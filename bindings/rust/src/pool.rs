@@ -62,6 +62,11 @@ impl<P: Processor, const N: usize, F: Form> Pool<P, N, F> {
         self.with(|core| core.take_retry(order, TRIES)).map(|block| Frames::of(self, block))
     }
 
+    /// Takes exactly this block, as [`Core::take_at`], which gives itself back.
+    pub fn take_at(&self, frame: u32, order: u8) -> Result<Frames<'_, P, N, F>, Refused> {
+        self.with(|core| core.take_at(frame, order)).map(|block| Frames::of(self, block))
+    }
+
     /// The cores again, to close them or to leave an image.
     pub fn into_cores(self) -> [Core<F>; N] {
         self.desks.map(|desk| desk.core.into_inner())

@@ -6,7 +6,7 @@ use core::fmt;
 #[derive(Clone, Copy, Debug, PartialEq, Eq)]
 #[non_exhaustive]
 pub enum Refused {
-    /// No block of the order was found; beside other cores one may be free.
+    /// No block of the order was found, or the one that was asked for was not free; beside other cores one may be free.
     NoBlock = 1,
     /// Orders are 0 to 9, and a block of order 0 has no halves.
     BadOrder = 2,

@@ -49,7 +49,9 @@ extern "C" {
     pub fn llfree_split(handle: *mut Handle, frame: u32, order: u8) -> u32;
     pub fn llfree_split_to(handle: *mut Handle, frame: u32, order: u8, to: u8) -> u32;
     pub fn llfree_order_at(handle: *mut Handle, frame: u32, order: *mut u8) -> u32;
+    pub fn llfree_take_at(handle: *mut Handle, frame: u32, order: u8) -> u32;
     pub fn llfree_take_block(handle: *mut Handle, order: u8, block: *mut Struct) -> u32;
+    pub fn llfree_take_block_at(handle: *mut Handle, frame: u32, order: u8, block: *mut Struct) -> u32;
     pub fn llfree_give_block(handle: *mut Handle, block: *mut Struct) -> u32;
     pub fn llfree_split_block(handle: *mut Handle, block: *mut Struct, upper: *mut Struct) -> u32;
     pub fn llfree_take_frame(handle: *mut Handle, block: *mut Struct) -> u32;
@@ -60,6 +62,10 @@ extern "C" {
     pub fn llfree_give_number(handle: *mut Handle, frame: u32) -> u32;
     pub fn llfree_drain(handle: *mut Handle);
     pub fn llfree_resting(handle: *mut Handle) -> u32;
+
+    pub fn llfree_is_free(handle: *mut Handle, frame: u32, order: u8) -> bool;
+    pub fn llfree_take_run(handle: *mut Handle, count: u32, frame: *mut u32) -> u32;
+    pub fn llfree_give_run(handle: *mut Handle, frame: u32, count: u32) -> u32;
 
     pub fn llfree_frames(handle: *mut Handle) -> u32;
     pub fn llfree_free_frames(handle: *mut Handle) -> u32;

@@ -61,7 +61,10 @@ fn blocks_wander<F: Form>() {
                         (1, Some(block)) => give(owners, &mut core, block),
                         (_, popped) => {
                             mine.extend(popped);
-                            if let Ok(block) = core.take((r >> 8) as u8 % 10) {
+                            let order = (r >> 8) as u8 % 10;
+                            let place = (r >> 32) as u32 % FRAMES >> order << order;
+                            let block = if r & 8 == 0 { core.take(order) } else { core.take_at(place, order) };
+                            if let Ok(block) = block {
                                 owners.turn(&block, 1);
                                 mine.push(block);
                                 taken += 1;
@@ -144,7 +147,8 @@ fn a_hundred_threads_share_eight_cores() {
         }
     });
     assert_eq!(pool.with(|core| core.free_frames()), FRAMES);
-    let block = pool.take(9).expect("a huge frame").into_block();
+    let block = pool.take_at(512 * 7, 9).expect("a huge frame").into_block();
+    assert_eq!((block.frame(), pool.take_at(512 * 7, 0).err()), (512 * 7, Some(Refused::NoBlock)));
     let [mut core, ..] = pool.into_cores();
     assert_eq!(core.free_huge(), FRAMES / 512 - 1);
     core.give(block).expect("given by hand");
@@ -182,6 +186,41 @@ fn what_is_refused() {
 }
 
 #[test]
+fn runs_of_huge_frames() {
+    let [mut a, mut b]: [Core; 2] = Core::open(20 * 512 + 7, &[Range { first: 512, frames: 1 }]).expect("a memory");
+    let [mut other]: [Core; 1] = Core::open(512, &[]).expect("another memory");
+    for (count, first) in [(1, 0), (2, 2), (3, 4), (4, 4), (5, 8), (8, 8), (9, 0), (16, 0), (512, 0)] {
+        match a.take_run(count) {
+            Ok(mut run) => {
+                assert_eq!(run.len(), count as usize);
+                assert!(!b.is_free(512 * first, 9) && !b.is_free(512 * first, 0));
+                let block = run.next().expect("a huge frame");
+                assert_eq!((block.frame(), block.order()), (512 * first, 9));
+                let (refused, run) = other.give_run(run).expect_err("of another memory");
+                assert_eq!(refused, Refused::OtherMemory);
+                match b.give_run(run) {
+                    Ok(()) => assert!(count > 1),
+                    Err((refused, run)) => assert_eq!((refused, run.len(), count), (Refused::BadOrder, 0, 1)),
+                }
+                b.give(block).map_err(|(refused, _)| refused).expect("given");
+                assert!(a.is_free(512 * first, 9));
+            }
+            Err(refused) => assert_eq!((refused, count > 8), (Refused::NoBlock, true)),
+        }
+    }
+    assert!(matches!(a.take_run(0), Err(Refused::BadOrder)) && matches!(b.take_run(513), Err(Refused::BadOrder)));
+    let huge = a.take_run(1).expect("a huge frame").next().expect("one");
+    let parts = a.split_to(huge, 8).map_err(|(refused, _)| refused).expect("halves");
+    let (refused, parts) = b.give_run(parts).expect_err("no huge frames");
+    assert_eq!(refused, Refused::BadOrder);
+    for part in parts {
+        b.give(part).map_err(|(refused, _)| refused).expect("given");
+    }
+    assert!(a.is_free(20 * 512, 0) && !a.is_free(20 * 512 + 7, 0) && !a.is_free(20 * 512, 3) && !a.is_free(0, 10));
+    assert_eq!((a.free_frames(), b.free_huge()), (20 * 512 + 6, 19));
+}
+
+#[test]
 fn parts_of_a_block() {
     let [mut a, mut b]: [Core; 2] = Core::open(1024, &[]).expect("a memory");
     let [mut other]: [Core; 1] = Core::open(512, &[]).expect("another memory");
@@ -204,11 +243,49 @@ fn parts_of_a_block() {
     assert_eq!((a.free_frames(), b.free_huge()), (1024, 2));
 }
 
+/// Just the block that is asked for is taken, where none of its frames is out, by either core and again when it was given.
+fn takes_at_places<F: Form>() {
+    let kept = [Range { first: 3, frames: 2 }];
+    let [mut a, mut b]: [Core<F>; 2] = Core::open(1_024 + 100, &kept).expect("a memory");
+    let has = |frame: u32, order: u8| {
+        let behind = frame + (1 << order);
+        frame % (1 << order) == 0 && behind <= 1_124 && (frame > 4 || behind <= 3)
+    };
+    let held = b.take_at(520, 3).expect("eight frames");
+    for order in 0..10 {
+        for frame in 0..1_200 {
+            let is_free = has(frame, order) && (frame >= 528 || frame + (1 << order) <= 520);
+            let core = if frame >> order & 1 == 0 { &mut a } else { &mut b };
+            match core.take_at(frame, order) {
+                Ok(block) => {
+                    assert!(is_free, "frame {frame}, order {order}");
+                    assert_eq!((block.frame(), block.order()), (frame, order));
+                    assert_eq!(a.take_at(frame, order / 2).unwrap_err(), Refused::NoBlock);
+                    b.give(block).map_err(|(refused, _)| refused).expect("given");
+                }
+                Err(refused) => assert_eq!((refused, is_free), (Refused::NoBlock, false), "frame {frame}, order {order}"),
+            }
+        }
+    }
+    for order in [10, 255] {
+        assert_eq!(a.take_at(0, order).unwrap_err(), Refused::BadOrder);
+    }
+    assert_eq!(a.take_at(u32::MAX, 0).unwrap_err(), Refused::NoBlock);
+    a.give(held).map_err(|(refused, _)| refused).expect("given");
+    assert_eq!((a.free_frames(), b.free_huge()), (1_122, 1));
+}
+
+#[test]
+fn blocks_at_places() {
+    takes_at_places::<Checked>();
+    takes_at_places::<Unchecked>();
+}
+
 fn rest(core: &mut Core<Unchecked>, block: Block<Unchecked>) {
     core.give_frame(block).map_err(|(refused, _)| refused).expect("a frame rests");
 }
 
-/// What came to rest last is taken first; from one give on where 128 rest, 64 go back.
+/// What came to rest last is taken first; from one give on where 128 rest, 16 go back.
 #[test]
 fn frames_rest_with_a_core() {
     let [mut a, mut b]: [Core<Unchecked>; 2] = Core::open(4_096, &[]).expect("a memory");
@@ -220,12 +297,12 @@ fn frames_rest_with_a_core() {
     for (given, block) in (1..).zip(blocks) {
         assert_eq!((block.order(), block.frames()), (0, 1));
         rest(&mut a, block);
-        let resting = if given == 129 { 65 } else { given };
+        let resting = if given == 129 { 113 } else { given };
         assert_eq!((a.resting(), b.resting(), b.free_frames()), (resting, 0, 4_096 - 129 + given - resting));
     }
-    let mut again: Vec<_> = (0..65).map(|_| a.take_frame().expect("it rested")).collect();
-    assert!(again.iter().map(Block::frame).eq(numbers[64..].iter().rev().copied()), "the last one comes first");
-    assert_eq!((a.resting(), a.free_frames()), (0, 4_096 - 65));
+    let mut again: Vec<_> = (0..113).map(|_| a.take_frame().expect("it rested")).collect();
+    assert!(again.iter().map(Block::frame).eq(numbers[16..].iter().rev().copied()), "the last one comes first");
+    assert_eq!((a.resting(), a.free_frames()), (0, 4_096 - 113));
 
     rest(&mut a, again.remove(0));
     let other = a.take(0).expect("the calls for blocks leave alone what rests");
@@ -250,9 +327,9 @@ fn checked_frames_rest_with_a_core() {
     blocks.into_iter().for_each(|block| a.give_frame(block).map_err(|(refused, _)| refused).expect("it rests"));
     assert_eq!((a.resting(), b.order_at(numbers[0]), b.order_at(numbers[128])), (128, None, Some(0)));
     a.give_frame(last).map_err(|(refused, _)| refused).expect("it rests");
-    assert_eq!((a.resting(), b.free_frames()), (65, 4_096 - 65));
-    let again: Vec<_> = (0..65).map(|_| a.take_frame().expect("it rested")).collect();
-    assert!(again.iter().map(Block::frame).eq(numbers[64..].iter().rev().copied()), "the last one comes first");
+    assert_eq!((a.resting(), b.free_frames()), (113, 4_096 - 113));
+    let again: Vec<_> = (0..113).map(|_| a.take_frame().expect("it rested")).collect();
+    assert!(again.iter().map(Block::frame).eq(numbers[16..].iter().rev().copied()), "the last one comes first");
     again.into_iter().for_each(|block| b.give(block).map_err(|(refused, _)| refused).expect("a frame is a block"));
     let single = b.take(0).expect("a block");
     a.give_frame(single).map_err(|(refused, _)| refused).expect("a block of order 0 rests");

@@ -14,7 +14,7 @@ use Rattle.frame_zones.specs.Zones.{zone_count, core_at}
 use Rattle.frame_zones.specs.declared.zones.Zones.{Zones}
 use Rattle.zone_slots.specs.Calls.{zones_of, SharesOne}
 use Rattle.zone_slots.specs.FrameCalls.{resting_in, KeepsRest, lent_out_in}
-use Rattle.zone_slots.specs.Resting.{most_resting, half_resting, one_in, singles_in}
+use Rattle.zone_slots.specs.Resting.{most_resting, refill_frames, flush_frames, one_in, singles_in}
 use Rattle.zone_slots.specs.Uses.{EachLendsSame}
 use Rattle.zone_slots.specs.declared.core_state.CoreState.{CoreState}
 use Rattle.zone_slots.specs.declared.single_frame.SingleFrame.{SingleFrame}
@@ -41,7 +41,7 @@ pub record Filled (n : ℕ) (before after : List BlockHandle) (s t : CoreState) 
   pub taken : FillsFirst n before after s t
   pub same : n ≡ 0 → t ≡ s
   pub enough : n ≤ length (resting_in s) → RestFewer n s t
-  pub rests : length (resting_in s) < n → length (resting_in t) < half_resting
+  pub rests : length (resting_in s) < n → length (resting_in t) < refill_frames
 
 -- none did yet
 pub none_filled : (hs : List BlockHandle) (s : CoreState) → Filled 0 hs hs s s
@@ -59,13 +59,13 @@ none_filled hs s =
       rests = λ less. absurd (omega (arith, less));
     }
 
--- where none or some rest, one is taken: fewer than 64 rest then
-still_few : (h : BlockHandle) (t u : CoreState) → length (resting_in t) < half_resting → TakesFrame h t u
-    → length (resting_in u) < half_resting
+-- where none or some rest, one is taken: fewer than 8 rest then
+still_few : (h : BlockHandle) (t u : CoreState) → length (resting_in t) < refill_frames → TakesFrame h t u
+    → length (resting_in u) < refill_frames
 still_few h t u few took =
-    elim (cases_order (length (resting_in t)) 0) as (λ _. length (resting_in u) < half_resting) [
+    elim (cases_order (length (resting_in t)) 0) as (λ _. length (resting_in u) < refill_frames) [
       | inl none ↦ took.few (nil_from_length (resting_in t) none)
-      | inr less ↦ elim less as (λ _. length (resting_in u) < half_resting) [
+      | inr less ↦ elim less as (λ _. length (resting_in u) < refill_frames) [
         | inl below ↦ absurd (omega (arith, below))
         | inr above ↦ omega (arith, (took.rested above).one, few)
       ]
@@ -100,11 +100,11 @@ one_filled n before items h s t u inside long so shared took =
           let was = so.enough (omega (arith, few)) in
           let hit = took.rested (omega (arith, few, was.fewer)) in
           record { fewer = omega (arith, was.fewer, hit.one); core = hit.core ∙ was.core };
-      rests = λ less. elim (cases_order (length (resting_in s)) n) as (λ _. length (resting_in u) < half_resting) [
+      rests = λ less. elim (cases_order (length (resting_in s)) n) as (λ _. length (resting_in u) < refill_frames) [
         | inl same ↦
             let was = so.enough (omega (arith, same)) in
             took.few (nil_from_length (resting_in t) (omega (arith, was.fewer, same)))
-        | inr other ↦ elim other as (λ _. length (resting_in u) < half_resting) [
+        | inr other ↦ elim other as (λ _. length (resting_in u) < refill_frames) [
           | inl below ↦ still_few h t u (so.rests below) took
           | inr above ↦ absurd (omega (arith, less, above))
         ]
@@ -223,7 +223,7 @@ pub record Given (n : ℕ) (before after : List BlockHandle) (s t : CoreState) :
   pub others : drop n after ≡ drop n before
   pub lent : LendsTheseNoMore (take n before) s t
   pub room : length (resting_in s) + n ≤ most_resting → RestMore n s t
-  pub full : most_resting < length (resting_in s) + n → half_resting < length (resting_in t)
+  pub full : most_resting < length (resting_in s) + n → most_resting < length (resting_in t) + flush_frames
 
 -- none did yet
 pub none_given : (hs : List BlockHandle) (s : CoreState) → Given 0 hs hs s s
@@ -295,12 +295,12 @@ one_given n before items h empty d s t u inside long at nothing so shared gave =
           let was = so.room (omega (arith, few)) in
           let rests = gave.rests (omega (arith, few, was.more)) in
           record { more = omega (arith, was.more, rests.one); core = rests.core ∙ was.core };
-      full = λ many. elim (cases_order (length (resting_in t)) most_resting) as (λ _. half_resting < length (resting_in u)) [
+      full = λ many. elim (cases_order (length (resting_in t)) most_resting) as (λ _. most_resting < length (resting_in u) + flush_frames) [
         | inl same ↦ omega (arith, gave.full same)
-        | inr other ↦ elim other as (λ _. half_resting < length (resting_in u)) [
-          | inl below ↦ elim (cases_order (length (resting_in s) + n) most_resting) as (λ _. half_resting < length (resting_in u)) [
+        | inr other ↦ elim other as (λ _. most_resting < length (resting_in u) + flush_frames) [
+          | inl below ↦ elim (cases_order (length (resting_in s) + n) most_resting) as (λ _. most_resting < length (resting_in u) + flush_frames) [
             | inl same ↦ absurd (omega (arith, below, same, (so.room (omega (arith, same))).more))
-            | inr order ↦ elim order as (λ _. half_resting < length (resting_in u)) [
+            | inr order ↦ elim order as (λ _. most_resting < length (resting_in u) + flush_frames) [
               | inl less ↦ absurd (omega (arith, less, many))
               | inr past ↦ omega (arith, so.full past, (gave.rests below).one)
             ]

@@ -4,7 +4,7 @@ use Rattle.std.proofs.lemmas.List.{length_push}
 use Rattle.frame_words.specs.declared.fault.TakeFault.TheVariants.{BadOrder, NoBlock, Contended}
 use Rattle.zone_slots.specs.Calls.{zones_of}
 use Rattle.zone_slots.specs.FrameCalls.{resting_in, RefusesSingle, LendsOneLess, RestsLast}
-use Rattle.zone_slots.specs.Resting.{most_resting, half_resting}
+use Rattle.zone_slots.specs.Resting.{most_resting, flush_frames}
 use Rattle.zone_slots.specs.declared.core_state.CoreState.{CoreState}
 use Rattle.zone_slots.specs.declared.single_frame.SingleFrame.{SingleFrame}
 use Rattle.llfree_c.specs.Frames.{GivesFrame, RefusesFrameAs}
@@ -48,10 +48,10 @@ one_lost h s t refused = (
 pub has_order : (h : BlockHandle) (s t : CoreState) → RefusesSingle s t BadOrder → RefusesFrameAs h bad_order s t
 has_order h s t refused = absurd (omega (arith, refused.why.0.0))
 
--- a single frame was given: it rests, or half of those that rested went back before
+-- a single frame was given: it rests, or 16 of those that rested went back before
 pub frame_given : (n : ℕ) (f : SingleFrame) (s t : CoreState) → LendsOneLess n s t
     → (length (resting_in s) < most_resting → RestsLast f s t)
-    → (length (resting_in s) ≡ most_resting → resting_in t ≡ drop half_resting (resting_in s) ++ f ∷ []) → GivesFrame n s t
+    → (length (resting_in s) ≡ most_resting → resting_in t ≡ drop flush_frames (resting_in s) ++ f ∷ []) → GivesFrame n s t
 frame_given n f s t lent rests full = record {
   lent = lent;
   rests = λ room.
@@ -61,7 +61,7 @@ frame_given n f s t lent rests full = record {
     arith,
     all,
     ap length (full all),
-    length_push (drop half_resting (resting_in s)) f,
-    length-drop half_resting (resting_in s),
+    length_push (drop flush_frames (resting_in s)) f,
+    length-drop flush_frames (resting_in s),
   );
 }

@@ -6,7 +6,7 @@ use Rattle.frame_zones.specs.Zones.{zone_count}
 use Rattle.frame_zones.specs.declared.zones.Zones.{Zones}
 use Rattle.zone_slots.specs.Calls.{zones_of, SharesOne, KeepsCore}
 use Rattle.zone_slots.specs.FrameCalls.{resting_in, KeepsRest, lent_out_in}
-use Rattle.zone_slots.specs.Resting.{most_resting, half_resting, one_in}
+use Rattle.zone_slots.specs.Resting.{most_resting, refill_frames, flush_frames, one_in}
 use Rattle.zone_slots.specs.declared.core_state.CoreState.{CoreState}
 use Rattle.llfree_c.specs.Blocks.{IsOutOfOne, IsOfTheAllocator}
 use Rattle.llfree_c.specs.Frames.{FindsNoFrame, LosesFrame}
@@ -80,11 +80,11 @@ pub record FindsNoMore (hs : List BlockHandle) (s t : CoreState) : Type 0 where
   pub why : FindsNoFrame core t ⊎ LosesFrame core t
 
 -- The first n structs were filled: all, or the core found no frame more. Where enough rested, all were and no step was
--- made; else fewer than 64 rest then.
+-- made; else fewer than 8 rest then.
 pub record TakesFrames (n : ℕ) (before after : List BlockHandle) (s t : CoreState) : Type 0 where
   pub taken : FillsFirst n before after s t
   pub enough : length before ≤ length (resting_in s) → (n ≡ length before) × RestFewer n s t
-  pub rests : length (resting_in s) < length before → length (resting_in t) < half_resting
+  pub rests : length (resting_in s) < length before → length (resting_in t) < refill_frames
   pub fewer : n < length before → FindsNoMore (take n after) s t
 
 -- why no single frame was taken into these structs: one carries a block; or none rested, and none was found and no
@@ -96,13 +96,13 @@ RefusesFramesAs held status s t = KeepsRest s t
     ⊎ ((status ≡ contended) × (resting_in s ≡ []) × LosesFrame s t))
 
 -- The single frame of each struct was given through the core, and all are empty. Where there was room for all to rest,
--- no step was made; else more than 64 rest then.
+-- no step was made; else more than 112 rest then.
 pub record GivesFrames (before after : List BlockHandle) (s t : CoreState) : Type 0 where
   pub singles : All CarriesSingle before
   pub empty : All CarriesNothing after
   pub lent : LendsTheseNoMore before s t
   pub room : length (resting_in s) + length before ≤ most_resting → RestMore (length before) s t
-  pub full : most_resting < length (resting_in s) + length before → half_resting < length (resting_in t)
+  pub full : most_resting < length (resting_in s) + length before → most_resting < length (resting_in t) + flush_frames
 
 -- why what these structs carry was not given as single frames: one carries nothing; or one a larger block
 abbrev pub KeepsFramesAs : (held : List BlockHandle) → (status : ℕ) → CoreState → CoreState → Type 0

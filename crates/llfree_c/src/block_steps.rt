@@ -96,7 +96,7 @@ pub(crate) fn split_block(
 
 // The struct that carries the block, by its number over all zones.
 #[tactic(auto, using(crate::proofs::CarriedBlocks::carried_out))]
-fn carried(state: &CoreState, held: ZoneBlock) -> BlockHandle
+pub(crate) fn carried(state: &CoreState, held: ZoneBlock) -> BlockHandle
     requires { IsOutFor state.now held }
     ensures { IsCarriedFor state.now held result }
 {

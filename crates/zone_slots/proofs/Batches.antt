@@ -19,7 +19,7 @@ use Rattle.frame_zones.specs.declared.zones.Zones.{Zones}
 use Rattle.frame_zones.specs.declared.zones.ZoneCore.{ZoneCore}
 use Rattle.zone_slots.specs.Calls.{zones_of, SharesOne}
 use Rattle.zone_slots.specs.FrameCalls.{resting_in, LendsAsManyInEach, TakesSingle, RefusesOne, RefusesSingle}
-use Rattle.zone_slots.specs.Resting.{IsSingleIn, AreSingles, one_in, singles_in, lent_besides, LendAsManyBesides, IsSingleOfZone, ComeToRest, BringsNone}
+use Rattle.zone_slots.specs.Resting.{refill_frames, IsSingleIn, AreSingles, one_in, singles_in, lent_besides, LendAsManyBesides, IsSingleOfZone, ComeToRest, BringsNone}
 use Rattle.zone_slots.specs.Rights.{IsRightIn}
 use Rattle.zone_slots.specs.Uses.{EachLendsSame, IsRefusedBlock}
 use Rattle.zone_slots.specs.declared.core_state.CoreState.{CoreState}
@@ -154,7 +154,7 @@ taken_then f s m t same taken as_many =
 
 -- a take of one was refused behind a batch that brought none
 pub then_refused : (fault : TakeFault) (s m t : CoreState) → SharesOne s m → resting_in s ≡ []
-    → (resting_in m ≡ [] → BringsNone (zones_of s) 64 s.core m.core) → RefusesOne m t fault → RefusesSingle s t fault
+    → (resting_in m ≡ [] → BringsNone (zones_of s) refill_frames s.core m.core) → RefusesOne m t fault → RefusesSingle s t fault
 then_refused fault s m t same none brings refused =
     let zones : zones_of m ≡ zones_of s = λ i. (arc_value (same i)).zones in
     let why : IsRefusedBlock (zones_of s) 0 m.core t.core fault =
@@ -163,7 +163,7 @@ then_refused fault s m t same none brings refused =
       core = m.core;
       batch = brought;
       why = why;
-      lent = λ z a x within. why.1 z a x within ∙ lends_none (zones_of s) 64 s.core m.core brought z a x within;
+      lent = λ z a x within. why.1 z a x within ∙ lends_none (zones_of s) refill_frames s.core m.core brought z a x within;
       none = none;
       none_then = refused.none_then;
     }
@@ -175,8 +175,8 @@ refused_from (Ok f) s m t same core none refused = tt
 refused_from (Err e) s m t same core none refused =
     let zones : zones_of m ≡ zones_of s = λ i. (arc_value (same i)).zones in record {
       core = refused.core;
-      batch = subst (λ (c : ZoneCore). BringsNone (zones_of s) 64 c refused.core) core
-          (subst (λ (zs : Zones). BringsNone zs 64 m.core refused.core) zones refused.batch);
+      batch = subst (λ (c : ZoneCore). BringsNone (zones_of s) refill_frames c refused.core) core
+          (subst (λ (zs : Zones). BringsNone zs refill_frames m.core refused.core) zones refused.batch);
       why = subst (λ (zs : Zones). IsRefusedBlock zs 0 refused.core t.core e) zones refused.why;
       lent = subst (λ (c : ZoneCore). EachLendsSame (zones_of s) c t.core) core
           (subst (λ (zs : Zones). EachLendsSame zs m.core t.core) zones refused.lent);

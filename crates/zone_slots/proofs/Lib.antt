@@ -15,3 +15,6 @@ pub mod Rested
 pub mod Batches
 pub mod Parted
 pub mod FrameNumbers
+pub mod Placed
+pub mod WrongPlaces
+pub mod Running

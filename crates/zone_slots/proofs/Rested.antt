@@ -5,7 +5,7 @@ use Rattle.std.specs.List.{sum_by}
 use Rattle.std.proofs.lemmas.Bool.{cases_eq, cases_order, lt-leb}
 use Rattle.std.proofs.lemmas.Int.{ints}
 use Rattle.std.proofs.lemmas.List.Elements.{All-append, All-drop, All-pop, All-push, All-same, All-take}
-use Rattle.std.proofs.lemmas.List.{length-append, length-take, take-append-le, take_all}
+use Rattle.std.proofs.lemmas.List.{append_assoc, drop_at, length-append, length-take, take-append-drop, take-append-le, take_all}
 use Rattle.std.proofs.lemmas.List.Sums.{sum_by-append, sum_by-take-drop, sum_by_push}
 use Rattle.atomic_table.specs.declared.shared.Seat.{Seat}
 use Rattle.core_frames.specs.Cores.{memory_of, lent_by}
@@ -207,6 +207,15 @@ newer n xs turned left le e l =
     let gone : length (take n xs) ≡ n = omega (length-take n xs, le, arith) in
     let long : length (drop n xs) ≡ length turned - n = omega (all, gone, arith) in
     l ∙ ap (take (length turned - n)) e ∙ front (length turned - n) (drop n xs) (take n xs) long
+
+-- the first n moved behind the next n, and then behind the rest
+pub moved_back : {X : Type 0} (n : ℕ) (all first others next rest moved : List X) → first ≡ take n all → others ≡ drop n all
+    → length first ≡ n → next ≡ take n others → rest ≡ drop n others
+    → moved ≡ drop n (first ++ rest) ++ take n (first ++ rest) → next ++ moved ≡ drop n all ++ take n all
+moved_back n all first others next rest moved is_first is_others long is_next is_rest is =
+    let both : next ++ rest ≡ others = ap₂ (λ p q. p ++ q) is_next is_rest ∙ take-append-drop n others in
+    ap (λ l. next ++ l) (is ∙ ap₂ (λ p q. p ++ q) (drop_at first rest n long) (front n first rest long))
+    ∙ sym (append_assoc next rest first) ∙ ap₂ (λ p q. p ++ q) (both ∙ is_others) is_first
 
 -- a frame that rested left: it is lent besides
 pub left_rest : (zs : Zones) (c : ZoneCore) (before after : List SingleFrame) (f : SingleFrame) → before ≡ after ++ f ∷ []

@@ -9,7 +9,7 @@ use Rattle.frame_zones.specs.declared.image.ZoneImage.{ZoneImage}
 use Rattle.frame_zones.specs.declared.zones.ZoneCore.{ZoneCore}
 use Rattle.zone_slots.specs.Blocks.{IsRightThrough}
 use Rattle.zone_slots.specs.Calls.{zones_of, KeepsCore, RefusesBlock}
-use Rattle.zone_slots.specs.Resting.{half_resting, one_in, lent_besides, BringsNone}
+use Rattle.zone_slots.specs.Resting.{refill_frames, one_in, lent_besides, BringsNone}
 use Rattle.zone_slots.specs.Uses.{EachLendsSame, IsRefusedBlock}
 use Rattle.zone_slots.specs.declared.core_state.CoreState.{CoreState}
 use Rattle.zone_slots.specs.declared.single_frame.SingleFrame.{SingleFrame}
@@ -71,7 +71,7 @@ pub record RefusesOne (s t : CoreState) (fault : TakeFault) : Type 0 where
 -- then was refused; each zone lends as many as before
 pub record RefusesSingle (s t : CoreState) (fault : TakeFault) : Type 0 where
   pub core : ZoneCore
-  pub batch : BringsNone (zones_of s) half_resting s.core core
+  pub batch : BringsNone (zones_of s) refill_frames s.core core
   pub why : IsRefusedBlock (zones_of s) 0 core t.core fault
   pub lent : EachLendsSame (zones_of s) s.core t.core
   pub none : resting_in s ≡ []

@@ -7,7 +7,7 @@ use Rattle.zone_slots.specs.Calls.{zones_of, last_laid, KeepsCore, CountsNone, C
 use Rattle.zone_slots.specs.FrameCalls.{resting_in, KeepsRest, RestsLast, RefusesSingle}
 use Rattle.zone_slots.specs.FrameCalls.{LendsOneMore, LendsOneLess, LendsAsManyInEach}
 use Rattle.zone_slots.specs.Looks.{HasBlockOf}
-use Rattle.zone_slots.specs.Resting.{most_resting, half_resting}
+use Rattle.zone_slots.specs.Resting.{most_resting, refill_frames, flush_frames}
 use Rattle.zone_slots.specs.declared.core_state.CoreState.{CoreState}
 use Rattle.zone_slots.specs.declared.single_frame.SingleFrame.{SingleFrame}
 
@@ -30,28 +30,28 @@ pub record GoesBack (frame : ℕ) (s t : CoreState) : Type 0 where
   pub rest : KeepsRest s t
 
 -- a single frame was taken through the core, and this very one was laid down at its slot: where some rested, the one
--- that came last, and the core is as it was in each zone; where none did, fewer than 64 rest then
+-- that came last, and the core is as it was in each zone; where none did, fewer than 8 rest then
 pub record TakesNumber (frame : ℕ) (s t : CoreState) : Type 0 where
   pub is_frame : HasBlockOf (zones_of s) 0 frame
   pub laid : last_laid t ≡ Some (block frame 0)
   pub lent : LendsOneMore frame s t
   pub rested : 0 < length (resting_in s) → LeavesLast frame s t × KeepsCore s t
-  pub few : resting_in s ≡ [] → length (resting_in t) < half_resting
+  pub few : resting_in s ≡ [] → length (resting_in t) < refill_frames
 
 -- the single frame that was taken found no slot, and is counted; as many are lent out in each zone as before
 pub record FindsNoPlace (s t : CoreState) : Type 0 where
   pub counted : CountsOne s t
   pub lent : LendsAsManyInEach s t
   pub rested : 0 < length (resting_in s) → (frame : ℕ) × LeavesLast frame s t
-  pub few : resting_in s ≡ [] → length (resting_in t) < half_resting
+  pub few : resting_in s ≡ [] → length (resting_in t) < refill_frames
 
 -- why no single frame was taken by number: as none is that leaves with its right, and nothing is counted; or the one
 -- that was taken found no slot
 abbrev pub RefusesNumber : CoreState → CoreState → TakeFault → Type 0
 RefusesNumber s t fault = (RefusesSingle s t fault × CountsNone s t) ⊎ ((fault ≡ Contended) × FindsNoPlace s t)
 
--- this very single frame was given through the core, and came to rest last; where there was no room, half of those
--- that rested went back before
+-- this very single frame was given through the core, and came to rest last; where there was no room, the 16 that came
+-- first went back before
 pub record GivesNumber (frame : ℕ) (s t : CoreState) : Type 0 where
   pub is_frame : HasBlockOf (zones_of s) 0 frame
   pub lent : LendsOneLess frame s t
@@ -59,7 +59,7 @@ pub record GivesNumber (frame : ℕ) (s t : CoreState) : Type 0 where
   pub number : single.frame ≡ frame
   pub rests : length (resting_in s) < most_resting → RestsLast single s t
   pub full : length (resting_in s) ≡ most_resting
-      → resting_in t ≡ drop half_resting (resting_in s) ++ single ∷ []
+      → resting_in t ≡ drop flush_frames (resting_in s) ++ single ∷ []
 
 -- nothing was given: the core is as it was in each zone, and the same frames rest
 pub record GivesNone (s t : CoreState) : Type 0 where

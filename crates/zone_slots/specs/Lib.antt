@@ -12,10 +12,13 @@ pub mod Resting
 pub mod Calls
 pub mod Refusals
 pub mod Blocks
+pub mod Places
+pub mod Runs
 pub mod FrameCalls
 pub mod FrameNumbers
 pub mod FreeCounts
 pub mod Homes
 pub mod WrongTakes
+pub mod WrongPlaces
 pub mod Openings
 pub mod Reopenings

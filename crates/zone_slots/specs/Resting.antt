@@ -18,9 +18,13 @@ use Rattle.zone_slots.specs.declared.single_frame.SingleFrame.{SingleFrame}
 abbrev pub most_resting : ℕ
 most_resting = 128
 
--- how many of them go back where there is no place for one more, and come to rest at once at most
-abbrev pub half_resting : ℕ
-half_resting = 64
+-- how many come to rest at once at most
+abbrev pub refill_frames : ℕ
+refill_frames = 8
+
+-- how many of them go back where there is no place for one more
+abbrev pub flush_frames : ℕ
+flush_frames = 16
 
 -- it is the right to the frame of its number
 abbrev pub IsSingleIn : Zones → SingleFrame → Type 0

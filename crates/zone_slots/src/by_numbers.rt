@@ -83,9 +83,9 @@ impl Memory {
         self.give_in(core, zone, local, order)
     }
 
-    // The same in its zone, where it begins at this frame.
+    /// The same in its zone, where it begins at this frame.
     #[inline(always)]
-    fn give_in(
+    pub(crate) fn give_in(
         &self,
         core: &mut ZoneCore,
         zone: u32,

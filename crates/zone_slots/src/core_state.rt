@@ -10,6 +10,7 @@ use crate::frame_list::FrameList;
 use crate::looks::Sight;
 use crate::memory::Memory;
 use crate::parts::Parts;
+use crate::runs::GivenRun;
 use crate::zone_receipt::ZoneReceipt;
 use frame_zones::{GivenBlock, ZoneCore};
 use std::alloc::Global;
@@ -28,8 +29,10 @@ pub struct CoreState {
     pub(crate) given: Option<GivenBlock>,
     // Of the halves that its last split laid down, the lower first.
     pub(crate) halves: Option<(ZoneReceipt, ZoneReceipt)>,
-    // Of the parts that its last split into all parts of one order laid down.
+    // Of the blocks that its last split into all parts of one order, or its last take of a run, laid down.
     pub(crate) parts: Option<Parts>,
+    // Of the run that its last give of one gave.
+    pub(crate) run: Option<GivenRun>,
     // Of the block that its last look saw.
     pub(crate) seen: Option<Sight>,
     pub(crate) first: FirstZone,

@@ -1,6 +1,6 @@
 //! The single frames that rest with a core, in a list of its own.
 
-ghost use Rattle.std.specs.Prelude.{◌≡◌, ◌<◌, ◌≤◌, ◌∷◌, ◌++◌, [], length, drop, take, vec_capacity, IfOk, IfErr, IfSome, IfNone};
+ghost use Rattle.std.specs.Prelude.{◌≡◌, ◌+◌, ◌*◌, ◌<◌, ◌≤◌, ◌∷◌, ◌++◌, [], length, drop, take, vec_capacity, IfOk, IfErr, IfSome, IfNone};
 
 use crate::single_frame::SingleFrame;
 use frame_table::Block;
@@ -10,13 +10,19 @@ use std::alloc::Global;
 /// How many frames rest with a core at most.
 pub(crate) const MOST_RESTING: usize = 128;
 
-/// How many of them go back where there is no place for one more, and come to rest at once at most.
-pub(crate) const HALF: usize = 64;
+/// How many come to rest at once at most.
+pub(crate) const REFILL: usize = 8;
+
+/// How many of them go back where there is no place for one more.
+pub(crate) const FLUSH: usize = 16;
+
+// How many times as many stand behind these in a full list.
+const FLUSHES_BEHIND: usize = 7;
 
 // Room for a cache line more: behind what one core writes lies nothing that another one does.
 const ROOM: usize = 144;
 
-const BATCH_ROOM: usize = 72;
+const BATCH_ROOM: usize = 16;
 
 /// The frames that rest with a core, the one that came first in front. It has room for all from the start.
 #[derive(Drop)]
@@ -27,7 +33,7 @@ pub struct FrameList {
     pub(crate) ghost few: { length list.items ≤ 128 },
     pub(crate) ghost room: { 128 ≤ vec_capacity list },
     pub(crate) ghost no_batch: { batch.items ≡ [] },
-    pub(crate) ghost batch_room: { 64 ≤ vec_capacity batch },
+    pub(crate) ghost batch_room: { 8 ≤ vec_capacity batch },
 }
 
 impl FrameList {
@@ -70,21 +76,27 @@ impl FrameList {
         self.list.push_reserved(frame);
     }
 
-    /// Of a full list the half that came first stands last.
+    /// Of a full list the 16 that came first stand last.
     pub(crate) fn turn(&mut self)
         requires { length self.old.list.items ≡ 128 }
-        ensures turned { self.new.list.items ≡ drop 64 self.old.list.items ++ take 64 self.old.list.items }
+        ensures turned { self.new.list.items ≡ drop 16 self.old.list.items ++ take 16 self.old.list.items }
         ensures len { length self.new.list.items ≡ length self.old.list.items }
     {
-        change_halves(self.list.as_mut_slice());
+        move_back(self.list.as_mut_slice(), FLUSHES_BEHIND);
     }
 }
 
-// A rotation would have one half wait on the stack, in 7 KiB.
-fn change_halves(frames: &mut [SingleFrame])
-    requires { length frames.old ≡ 128 }
-    ensures { frames.new ≡ drop 64 frames.old ++ take 64 frames.old }
+// Puts the first 16 behind so many times 16 others, which move up one 16 after another: a rotation would have the
+// frames wait on the stack, in 7 KiB.
+fn move_back(frames: &mut [SingleFrame], times: usize)
+    requires { length frames.old ≡ 16 * times + 16 }
+    ensures { frames.new ≡ drop 16 frames.old ++ take 16 frames.old }
 {
-    let (older, newer) = frames.split_at_mut(HALF);
-    older.swap_with_slice(newer);
+    if times == 0 {
+        return;
+    }
+    let (first, others) = frames.split_at_mut(FLUSH);
+    let (next, _) = others.split_at_mut(FLUSH);
+    first.swap_with_slice(next);
+    move_back(others, times - 1);
 }

@@ -1,26 +1,26 @@
 //! Takes and gives of single frames, of which some rest with a core.
 
-ghost use Rattle.std.specs.Prelude.{◌≡◌, ◌-◌, ◌<◌, ◌≤◌, ◌∷◌, ◌++◌, [], drop, length, IfOk, IfErr};
+ghost use Rattle.std.specs.Prelude.{◌≡◌, ◌+◌, ◌-◌, ◌<◌, ◌≤◌, ◌∷◌, ◌++◌, [], drop, length, IfOk, IfErr};
 ghost use Rattle.zone_slots.specs.Calls.{zones_of, SharesOne, CountsNone, RemembersLast};
-ghost use Rattle.zone_slots.specs.Resting.{most_resting, half_resting, BringsNone};
+ghost use Rattle.zone_slots.specs.Resting.{most_resting, refill_frames, flush_frames, BringsNone};
 ghost use Rattle.zone_slots.specs.FrameCalls.{resting_in, IsSingleFor, LendsOneLess, LendsAsManyInEach};
 ghost use Rattle.zone_slots.specs.FrameCalls.{TakesSingle, TakesLastFrame, RestsLast, RefusesOne, RefusesSingle};
 
 use crate::core_state::CoreState;
-use crate::frame_list::{HALF, MOST_RESTING};
+use crate::frame_list::{FLUSH, MOST_RESTING, REFILL};
 use crate::single_frame::SingleFrame;
 use frame_words::TakeFault;
 
 impl CoreState {
     /// Takes a single frame: the one that came to rest last, with no step of the allocator. Where none rests, up
-    /// to 64 of the core's own tree come to rest first; where that has none, one as `take_block` takes it.
+    /// to 8 of the core's own tree come to rest first; where that has none, one as `take_block` takes it.
     #[inline(always)]
     pub fn take_frame(&mut self) -> Result<SingleFrame, TakeFault>
         ensures shared { SharesOne self.old self.new }
         ensures taken { IfOk result (TakesSingle self.old self.new) }
         ensures refused { IfErr result (RefusesSingle self.old self.new) }
         ensures hits { 0 < length (resting_in self.old) → TakesLastFrame result self.old self.new }
-        ensures few { resting_in self.old ≡ [] → length (resting_in self.new) < half_resting }
+        ensures few { resting_in self.old ≡ [] → length (resting_in self.new) < refill_frames }
         ensures counted { CountsNone self.old self.new }
         ensures last { RemembersLast self.old self.new }
     {
@@ -30,22 +30,22 @@ impl CoreState {
         Ok(frame)
     }
 
-    // Where the own tree had none, others of the tree where one was found come to rest behind it, so that the
-    // next batch begins at a bit word.
+    // Where the own tree had none, others of the tree where one was found come to rest behind it, so that in a
+    // fresh tree each later batch lies in one bit word.
     #[inline(never)]
     fn take_anew(&mut self) -> Result<SingleFrame, TakeFault>
         requires { resting_in self.old ≡ [] }
         ensures shared { SharesOne self.old self.new }
         ensures taken { IfOk result (TakesSingle self.old self.new) }
         ensures refused { IfErr result (RefusesSingle self.old self.new) }
-        ensures few { length (resting_in self.new) < half_resting }
+        ensures few { length (resting_in self.new) < refill_frames }
         ensures counted { CountsNone self.old self.new }
         ensures last { RemembersLast self.old self.new }
     {
-        self.refill(HALF as u32);
+        self.refill(REFILL as u32);
         let frame = self.take_one()?;
         if self.resting() == 0 {
-            self.refill(HALF as u32 - 1);
+            self.refill(REFILL as u32 - 1);
         }
         Ok(frame)
     }
@@ -53,7 +53,7 @@ impl CoreState {
     // Up to so many single frames of the own tree come to rest.
     fn refill(&mut self, most: u32)
         requires empty { resting_in self.old ≡ [] }
-        requires few { most ≤ half_resting }
+        requires few { most ≤ refill_frames }
         ensures shared { SharesOne self.old self.new }
         ensures lent { LendsAsManyInEach self.old self.new }
         ensures none { resting_in self.new ≡ []
@@ -82,7 +82,7 @@ impl CoreState {
         }
     }
 
-    /// Gives a single frame back, whichever core took it: it comes to rest. Where 128 rest, the 64 that came
+    /// Gives a single frame back, whichever core took it: it comes to rest. Where 128 rest, the 16 that came
     /// first go back before. It always succeeds.
     #[inline(always)]
     pub fn give_frame(&mut self, frame: SingleFrame)
@@ -91,7 +91,7 @@ impl CoreState {
         ensures lent { LendsOneLess frame.frame self.old self.new }
         ensures rests { length (resting_in self.old) < most_resting → RestsLast frame self.old self.new }
         ensures full { length (resting_in self.old) ≡ most_resting
-            → resting_in self.new ≡ drop half_resting (resting_in self.old) ++ frame ∷ [] }
+            → resting_in self.new ≡ drop flush_frames (resting_in self.old) ++ frame ∷ [] }
         ensures counted { CountsNone self.old self.new }
         ensures last { RemembersLast self.old self.new }
     {
@@ -109,7 +109,7 @@ impl CoreState {
         requires full { length (resting_in self.old) ≡ most_resting }
         ensures shared { SharesOne self.old self.new }
         ensures lent { LendsOneLess frame.frame self.old self.new }
-        ensures rest { resting_in self.new ≡ drop half_resting (resting_in self.old) ++ frame ∷ [] }
+        ensures rest { resting_in self.new ≡ drop flush_frames (resting_in self.old) ++ frame ∷ [] }
         ensures counted { CountsNone self.old self.new }
         ensures last { RemembersLast self.old self.new }
     {
@@ -131,19 +131,19 @@ impl CoreState {
         self.rest.push(frame);
     }
 
-    // Gives the half of the frames back that came first.
+    // Gives the 16 frames back that came first.
     fn flush(&mut self)
         requires { length (resting_in self.old) ≡ most_resting }
         ensures shared { SharesOne self.old self.new }
         ensures lent { LendsAsManyInEach self.old self.new }
-        ensures rest { resting_in self.new ≡ drop half_resting (resting_in self.old) }
-        ensures less { length (resting_in self.new) ≡ half_resting }
+        ensures rest { resting_in self.new ≡ drop flush_frames (resting_in self.old) }
+        ensures less { length (resting_in self.new) + flush_frames ≡ most_resting }
         ensures counted { CountsNone self.old self.new }
         ensures last { RemembersLast self.old self.new }
     {
         self.rest.turn();
         self.shared
-            .give_last(self.first, &mut self.core, &mut self.rest, HALF);
+            .give_last(self.first, &mut self.core, &mut self.rest, FLUSH);
     }
 
     /// Gives all frames back that rest with the core.

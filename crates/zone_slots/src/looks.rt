@@ -49,9 +49,9 @@ impl Memory {
         None
     }
 
-    // The block of this order at this frame of the zone, if it rests at its slot as this looks.
+    /// The block of this order at this frame of the zone, if it rests at its slot as this looks.
     #[inline(always)]
-    fn look_at(&self, zone: u32, frame: u32, order: u8) -> Option<Sight>
+    pub(crate) fn look_at(&self, zone: u32, frame: u32, order: u8) -> Option<Sight>
         requires { zone < zone_count self.now.zones }
         ensures seen { IfSome result (IsSightOf zone frame order) }
         ensures is_block { IfSome result (λ _.

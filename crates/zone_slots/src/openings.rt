@@ -224,6 +224,7 @@ pub(crate) fn state_over(
         given: None,
         halves: None,
         parts: None,
+        run: None,
         seen: None,
         first,
         rest,

@@ -16,16 +16,16 @@ use frame_zones::{ZoneBlock, ZoneCore};
 /// That so many blocks of one order, side by side in a zone, were laid down at their slots, each for a receipt.
 #[derive(Debug, Drop)]
 pub struct Parts {
-    zone: u32,
+    pub(crate) zone: u32,
     // The first frame of the first one.
-    frame: u32,
-    order: u8,
-    count: u32,
+    pub(crate) frame: u32,
+    pub(crate) order: u8,
+    pub(crate) count: u32,
 }
 
 impl Parts {
-    // No block, where the first one is to begin at this frame of the zone.
-    fn none(zone: u32, frame: u32, order: u8) -> Parts
+    /// No block, where the first one is to begin at this frame of the zone.
+    pub(crate) fn none(zone: u32, frame: u32, order: u8) -> Parts
         ensures { result ≡ record { zone = zone; frame = frame; order = order; count = 0 } }
     {
         Parts {
@@ -36,8 +36,8 @@ impl Parts {
         }
     }
 
-    // The next one was laid down.
-    fn add(&mut self, receipt: ZoneReceipt)
+    /// The next one was laid down.
+    pub(crate) fn add(&mut self, receipt: ZoneReceipt)
         requires { IsNextPart self.old receipt }
         ensures { AreMore 1 self.old self.new }
     {

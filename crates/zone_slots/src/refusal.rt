@@ -8,7 +8,8 @@ pub enum Refusal {
     /// No block of these numbers is held; nothing changed.
     #[error("not held")]
     NotHeld,
-    /// A block of order 0 has no halves, and no block has parts of an order above its own; nothing changed.
+    /// A block of order 0 has no halves, no block has parts of an order above its own, and there are no runs of so
+    /// many huge frames; nothing changed.
     #[error("no parts")]
     NoParts,
     /// A half or a part found no slot and is free again.
