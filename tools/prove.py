@@ -25,9 +25,10 @@ TOP = os.path.dirname(os.path.dirname(os.path.realpath(__file__)))
 PARTS = ('src', 'specs', 'proofs')
 GOALS = {'library': ['llfree_c'], 'kernel': ['llfree_c'], 'examples': ['llfree_c'], 'bench': ['llfree_bench'],
          'install': ['llfree', 'llfree_c']}
-# with which flags clang compiles the archives
-KERNEL = '-mgeneral-regs-only -mllvm -force-attribute=noredzone -fno-function-sections -fno-data-sections'
-ARCHIVES = {'libllfree_c.a': '', 'libllfree_kernel.a': KERNEL,
+# rattle calls the clang of a folder, which calls that of the kit with these flags; no archive jumps by a table
+BRANCHES = '-mllvm -min-jump-table-entries=1000000'
+KERNEL = f'{BRANCHES} -mgeneral-regs-only -mllvm -force-attribute=noredzone -fno-function-sections -fno-data-sections'
+ARCHIVES = {'libllfree_c.a': BRANCHES, 'libllfree_kernel.a': KERNEL,
             'libllfree_linux.a': f'{KERNEL} -mllvm -force-attribute=fn_ret_thunk_extern'}
 HELD = {}
 
@@ -236,7 +237,6 @@ class Build:
             lock(it, fcntl.LOCK_SH)
         lock(f'{file} placed')
         if not os.path.exists(made):
-            # rattle calls the clang of a folder: here that of the kit, with more flags
             shutil.rmtree(tools, ignore_errors=True)
             shutil.copytree(f'{self.kit}/toolchain', tools, copy_function=os.symlink)
             write(f'{tools}/bin/clang', f'#!/bin/sh\nexec "{self.kit}/toolchain/bin/clang" "$@" {ARCHIVES[file]}\n')

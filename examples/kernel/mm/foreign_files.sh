@@ -46,7 +46,7 @@ ln -s /usr/bin/bash "$files/bin/bash"
 ln -s /bin/busybox "$files/usr/bin/env"
 with_libraries "$(gcc -print-prog-name=cc1)" "$(gcc -print-prog-name=collect2)"
 for name in crt1.o Scrt1.o crti.o crtn.o crtbegin.o crtbeginS.o crtend.o crtendS.o libgcc.a libgcc_s.so libgcc_s.so.1 \
-    libc.so libc_nonshared.a libpthread.a librt.a libutil.a liblto_plugin.so; do
+    libc.so libc_nonshared.a libpthread.a librt.a libutil.a liblto_plugin.so crtbeginT.o libgcc_eh.a libc.a; do
     cp -L --parents "$(realpath "$(gcc -print-file-name=$name)")" "$files"
 done
 

@@ -1,7 +1,8 @@
 # Linux 6.1 whose page allocator is the library (docs/KERNEL.md): `make um` runs it as a program (User Mode Linux), and
 # `make mm` in QEMU; `make um-trials` and `make mm-trials` show what has to fail in boots of its own. `make foreign`
-# runs programs of others in QEMU. RUN names parts of mm/init or mm/foreign.sh, WORDS are more of the kernel's command
-# line. `make threads` tries in user space what reads the library's words.
+# runs programs of others in QEMU, and has Linux as a program compile Linux. RUN names parts of mm/init or
+# mm/foreign.sh, WORDS are more of the kernel's command line. `make threads` tries in user space what reads the
+# library's words.
 # It needs Debian's packages linux-source-6.1, xz-utils, flex, bison, bc, busybox-static or busybox, and cpio; in QEMU
 # also libelf-dev; programs of others stress-ng, libnuma-dev and libcap-dev.
 sources := /usr/src/linux-source-6.1.tar.xz
@@ -67,7 +68,8 @@ $(linux)/mm/initramfs: mm/init $(linux)/mm/image
 without_references := initcall_blacklist=m_in
 checks := llfree=bits page_poison=1 $(without_references)
 parts := shells,largest,archives,fill,oom,handlers,drain,orders,marks,order,twice,frame,used
-um_at := $(seconds) $(linux)/um.log $(linux)/um/image mem=512M con0=null,fd:1 con=null quiet initrd=$(linux)/um/initramfs
+um_words := con0=null,fd:1 con=null quiet
+um_at := $(seconds) $(linux)/um.log $(linux)/um/image mem=512M $(um_words) initrd=$(linux)/um/initramfs
 
 um: $(linux)/um/image $(linux)/um/initramfs
 	$(if $(RUN)$(WORDS),,mm/boot.sh $(um_at) run=references llfree=bits,alone)
@@ -98,14 +100,16 @@ mm-trials: $(linux)/mm/image $(linux)/mm/ordinary $(linux)/mm/initramfs
 	mm/boot.sh -l 'llfree: zone .* is not opened: no memory' $(call in_qemu,1G,image) \
 		'$(mm_words) earlyprintk=ttyS0 llfree=small'
 
-# an emulator takes its time for what others wrote
+# an emulator takes its time for what others wrote, and hours for a compilation
 foreign: override seconds := 10800
 foreign: cpus = $(SMP),sockets=$(SMP),cores=1
-foreign_parts := references,selftests,vmalloc,stress,compile
+foreign_parts := references,selftests,vmalloc,stress
 foreign_words = numa=fake=2 secretmem.enable=y run=$(or $(RUN),$(foreign_parts)) llfree=bits page_poison=1 $(WORDS)
 
 foreign: $(linux)/mm/image $(linux)/foreign/initramfs
 	mm/boot.sh $(call in_qemu,3G,image,foreign) '$(mm_words) $(foreign_words)'
+	$(if $(RUN)$(WORDS),,mm/boot.sh $(seconds) $(linux)/compile.log $(linux)/um/image mem=3G $(um_words) \
+		initrd=$(linux)/foreign/initramfs run=compile $(checks))
 
 $(out)/threads: mm/threads.c mm/llfree/words.h $(root)/include/llfree.h $(library)_c.a
 	mkdir -p $(out)
