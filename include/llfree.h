@@ -266,7 +266,7 @@ enum llfree_status llfree_split_to(llfree_core *handle, uint32_t frame, uint8_t 
 LLFREE_NODISCARD
 enum llfree_status llfree_order_at(llfree_core *handle, uint32_t frame, uint8_t *order);
 
-/* Tells whether all frames of this block are free: a look, which takes and changes nothing, by at most nine loads.
+/* Tells whether all frames of this block are free: a look, which takes and changes nothing, by at most five loads.
  * Exact where no other thread is in a call; else as the look sees it, and another core may take the block before the
  * next call. False where the memory has no such block (an order above 9, a frame that is no multiple of 2^order, or
  * one of its frames in no zone), where a frame of it rests with a core (llfree_drain), and if the handle is closed. It
