@@ -14,3 +14,4 @@ pub mod Stopped
 pub mod Found
 pub mod Placed
 mod Looked
+pub mod Pairing

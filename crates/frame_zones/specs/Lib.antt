@@ -18,4 +18,5 @@ pub mod Keeping
 pub mod FreeCounts
 pub mod Looks
 pub mod Homes
+pub mod Pairs
 pub mod MoveBounds

@@ -107,8 +107,8 @@ pub(crate) fn begun(alloc: Global, cores: u32, zones: u32) -> Result<Vec<ZoneCor
     Ok(all)
 }
 
-// The home of a core: by their numbers the cores lie as evenly among the zones as they can.
-fn home_of(number: u32, cores: u32, zones: u32) -> u32
+/// The home of a core: by their numbers the cores lie as evenly among the zones as they can.
+pub(crate) fn home_of(number: u32, cores: u32, zones: u32) -> u32
     requires number { number < cores }
     requires zones { 0 < zones }
     ensures inside { result < zones }

@@ -4,5 +4,6 @@ mod calls;
 mod closings;
 mod memory;
 mod openings;
+mod pairs;
 mod reopenings;
 mod threads;
