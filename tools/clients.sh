@@ -20,11 +20,11 @@ make -s -C "$root" library >"$folder/log" 2>&1 || { tail -n 20 "$folder/log" >&2
 
 # under COMMAND..: with jemalloc's extents out of frames
 under() { adds_up timeout 60 "${with[@]}" "$@"; }
-# adds_up COMMAND..: it ends well; each process adds up and takes, and one gives; of all their pages less than 1 % come
-# from elsewhere
+# adds_up COMMAND..: it ends well; each process adds up, takes and splits nothing, and one gives; of all their pages less
+# than 1 % come from elsewhere
 adds_up() {
     rm -f "$folder/log"
-    "$@" && grep -q '^takes .* gives [1-9]' "$folder/log" && ! grep -q '^takes 0 ' "$folder/log" &&
+    "$@" && grep -q '^takes .* gives [1-9]' "$folder/log" && ! grep -q '^takes 0 \| splits [1-9]' "$folder/log" &&
         sed 's/.*; pages \([0-9]*\), from elsewhere \([0-9]*\) .*/\1 \2/' "$folder/log" |
         awk '{ inside += $1; others += $2 } END { exit inside == 0 || 100 * others >= inside + others }'
 }

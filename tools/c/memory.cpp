@@ -102,11 +102,12 @@ struct counted : std::pmr::memory_resource {
 void is_inside(llfree::memory &memory, std::pmr::memory_resource &resource, std::byte *base, std::size_t bytes,
                std::size_t alignment, std::uint32_t held)
 {
+    const std::uint32_t free = memory.free_frames(), huge = memory.free_huge();
     void *at = resource.allocate(bytes, alignment);
     CHECK(at >= base && at < base + frames * std::size_t(LLFREE_FRAME_BYTES));
-    CHECK(reinterpret_cast<std::uintptr_t>(at) % alignment == 0 && memory.free_frames() == frames - held);
+    CHECK(reinterpret_cast<std::uintptr_t>(at) % alignment == 0 && memory.free_frames() == free - held);
     resource.deallocate(at, bytes, alignment);
-    CHECK(memory.free_frames() == frames && memory.free_huge() == frames / 512);
+    CHECK(memory.free_frames() == free && memory.free_huge() == huge);
 }
 
 // what is too large, or more than there is, comes from upstream
@@ -119,9 +120,13 @@ void upstream(llfree::memory &memory, std::byte *base)
     is_inside(memory, resource, base, 5 * 4096, 4096, 8);
     is_inside(memory, resource, base, huge_bytes, 4096, 512);
     is_inside(memory, resource, base, huge_bytes + 1, 8, 513);
-    is_inside(memory, resource, base, 1, 2 * huge_bytes, 1);
     is_inside(memory, resource, base, 3 * huge_bytes, 2 * huge_bytes, 3 * 512);
     is_inside(memory, resource, base, all_bytes, 4096, frames);
+    {
+        llfree::block first = memory.take_at(0, 9);
+        is_inside(memory, resource, base, 1, 2 * huge_bytes, 1);
+        is_inside(memory, resource, base, huge_bytes + 1, 8 * huge_bytes, 513);
+    }
     CHECK(upstream.calls == 0);
     resource.deallocate(resource.allocate(all_bytes + 1), all_bytes + 1);
     CHECK(upstream.calls == 2);
@@ -174,7 +179,7 @@ void containers(std::pmr::memory_resource *resource, char letter)
 int main()
 {
     llfree::memory memory(frames, 8);
-    void *room = std::aligned_alloc(2 * huge_bytes, frames * std::size_t(LLFREE_FRAME_BYTES));
+    void *room = std::aligned_alloc(8 * huge_bytes, frames * std::size_t(LLFREE_FRAME_BYTES));
     CHECK(room != nullptr);
     auto *base = static_cast<std::byte *>(room);
 
