@@ -7,6 +7,7 @@
  *     if (llfree_open(cores, 8, frames, NULL, 0) == LLFREE_OK)
  *         llfree_seat_all(desks, cores, 8);
  *     llfree_pool_take(desks, 8, 3, &frame), llfree_pool_give(desks, 8, frame, 3);
+ *     llfree_pool_take_run(desks, 8, 700, 1, &frame), llfree_pool_give_run(desks, 8, frame, 700);
  *
  * A program that forks while other threads run takes all desks before it, and leaves them after it on both sides:
  * pthread_atfork with functions that call llfree_sit_at_all and llfree_leave_all. A child that was forked without
