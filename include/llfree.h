@@ -13,7 +13,7 @@
  * stands where none does:
  *  1. Each pointer is to aligned memory of its type that nobody else reads or writes during the call, with as
  *     many elements as the count beside it says. Where the count is 0 it may be anything, NULL too. Two
- *     pointers of one call do not overlap.
+ *     pointers of one call do not overlap. Overlap and alignment are unchecked.
  *  2. A handle starts as LLFREE_CLOSED, or with all bytes 0. After that only the functions below read, write or
  *     copy its bytes. It may be moved, if the old bytes are never used again.
  *  3. One call at a time for each handle. Another thread may use a handle if one call happens before the other
@@ -358,7 +358,7 @@ enum llfree_status llfree_image_of_words(uint32_t frames, uint32_t cores, const 
  * An empty struct is refused. The caller has these further duties, which no call checks:
  *  6. A struct starts as LLFREE_EMPTY, or with all bytes 0. After that only the functions below write its bytes;
  *     frame and order may be read in between. It may be moved, if the old bytes are never used again, but never
- *     copied: both copies could be given. A copy is unchecked.
+ *     copied: both copies could be given. A copy, and bytes that the program wrote, are unchecked.
  *  7. A struct that holds a block is passed only with a core of the block's own allocator, and never after the
  *     last core of that allocator is closed. Unchecked.
  *  8. One call at a time for each struct. Another thread may use it if one call happens before the other, as

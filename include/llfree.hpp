@@ -1,6 +1,6 @@
-// LLFree for C++17: a memory that any thread takes from, blocks that give themselves back, and a memory resource for
-// std::pmr. It is inline over llfree_pool.h, for GCC and clang: a call waits only while all cores are taken, and what
-// that header says of forks holds. The caller lets a memory outlive its blocks and resources.
+// LLFree for C++17: a memory that any thread takes from, blocks and runs that give themselves back, and a memory
+// resource for std::pmr. It is inline over llfree_pool.h, for GCC and clang: a call waits only while all cores are
+// taken, and what that header says of forks holds. The caller lets a memory outlive its blocks, runs and resources.
 #ifndef LLFREE_HPP
 #define LLFREE_HPP
 
@@ -30,6 +30,7 @@ private:
 };
 
 class block;
+class run;
 
 // An allocator of this many frames, with 1 to 64 cores.
 class memory {
@@ -56,7 +57,11 @@ public:
     // Just this block, or an empty one where it is refused.
     [[nodiscard]] block take_at(std::uint32_t frame, std::uint8_t order);
 
-    // The calls of llfree.h, by frame and order.
+    // Frames side by side, 1 to 262144 (1 GiB), the first a multiple of the alignment, a power of two; or an empty run
+    // where they are refused.
+    [[nodiscard]] run take_run(std::size_t frames, std::size_t alignment = 1);
+
+    // The calls of llfree.h, by frame and order, and of llfree_pool.h, by frame and length.
     [[nodiscard]] enum llfree_status take(std::uint8_t order, std::uint32_t &frame)
     {
         return llfree_pool_take(desks_.get(), count_, order, &frame);
@@ -68,6 +73,14 @@ public:
     [[nodiscard]] enum llfree_status split(std::uint32_t frame, std::uint8_t order)
     {
         return llfree_pool_split(desks_.get(), count_, frame, order);
+    }
+    [[nodiscard]] enum llfree_status take_run(std::size_t frames, std::size_t alignment, std::uint32_t &frame)
+    {
+        return llfree_pool_take_run(desks_.get(), count_, frames, alignment, &frame);
+    }
+    enum llfree_status give_run(std::uint32_t frame, std::size_t frames)
+    {
+        return llfree_pool_give_run(desks_.get(), count_, frame, frames);
     }
 
     std::uint32_t frames() { return at_a_desk(llfree_frames); }
@@ -141,6 +154,50 @@ private:
     std::uint8_t order_ = 0;
 };
 
+// Frames side by side that give themselves back, or none.
+class run {
+public:
+    run() = default;
+    run(run &&other) noexcept { swap(other); }
+    run &operator=(run &&other) noexcept
+    {
+        run old(std::move(other));
+        swap(old);
+        return *this;
+    }
+    ~run()
+    {
+        if (from_ != nullptr)
+            from_->give_run(frame_, frames_);
+    }
+
+    explicit operator bool() const noexcept { return from_ != nullptr; }
+    // Of an empty run both are 0.
+    std::uint32_t frame() const noexcept { return frame_; }
+    std::size_t frames() const noexcept { return frames_; }
+
+    // Leaves the frames to the caller, who gives them by their numbers.
+    std::pair<std::uint32_t, std::size_t> release() noexcept
+    {
+        from_ = nullptr;
+        return { std::exchange(frame_, 0), std::exchange(frames_, std::size_t(0)) };
+    }
+
+private:
+    friend class memory;
+    run(memory &from, std::uint32_t frame, std::size_t frames) : from_(&from), frame_(frame), frames_(frames) {}
+    void swap(run &other) noexcept
+    {
+        std::swap(from_, other.from_);
+        std::swap(frame_, other.frame_);
+        std::swap(frames_, other.frames_);
+    }
+
+    memory *from_ = nullptr;
+    std::uint32_t frame_ = 0;
+    std::size_t frames_ = 0;
+};
+
 inline block memory::take(std::uint8_t order)
 {
     std::uint32_t frame = 0;
@@ -153,9 +210,15 @@ inline block memory::take_at(std::uint32_t frame, std::uint8_t order)
     return is_taken ? block(*this, frame, order) : block();
 }
 
-// The frames of a memory, frame 0 of which lies at base, as whole blocks. What is larger or wants a larger alignment
-// than base and 2 MiB have, or is refused, comes from upstream; where there is none that throws std::bad_alloc. A wrong
-// deallocation that the memory finds ends the program.
+inline run memory::take_run(std::size_t frames, std::size_t alignment)
+{
+    std::uint32_t frame = 0;
+    return take_run(frames, alignment, frame) == LLFREE_OK ? run(*this, frame, frames) : run();
+}
+
+// The frames of a memory, frame 0 of which lies at base: up to 2 MiB as a whole block, up to 1 GiB as a run. What is
+// larger or wants a larger alignment than base has, or is refused, comes from upstream; where there is none that throws
+// std::bad_alloc. A wrong deallocation that the memory finds ends the program.
 class resource : public std::pmr::memory_resource {
 public:
     resource(memory &from, void *base, std::pmr::memory_resource *upstream = std::pmr::null_memory_resource())
@@ -166,6 +229,7 @@ public:
 private:
     enum : std::uint8_t { most = 9, too_large };
 
+    // the smallest order of a block that has so many bytes
     static std::uint8_t order_of(std::size_t bytes, std::size_t alignment) noexcept
     {
         std::size_t size = bytes > alignment ? bytes : alignment;
@@ -173,6 +237,22 @@ private:
         while (order <= most && std::size_t(LLFREE_FRAME_BYTES) << order < size)
             order++;
         return order;
+    }
+    // the fewest frames that have so many bytes, at least one
+    static std::size_t frames_of(std::size_t bytes) noexcept
+    {
+        return bytes == 0 ? 1 : (bytes - 1) / LLFREE_FRAME_BYTES + 1;
+    }
+    enum llfree_status take(std::size_t bytes, std::size_t alignment, std::uint32_t &frame)
+    {
+        std::uint8_t order = order_of(bytes, alignment);
+        return order <= most ? from_.take(order, frame)
+                             : from_.take_run(frames_of(bytes), frames_of(alignment), frame);
+    }
+    enum llfree_status give(std::uint32_t frame, std::size_t bytes, std::size_t alignment)
+    {
+        std::uint8_t order = order_of(bytes, alignment);
+        return order <= most ? from_.give(frame, order) : from_.give_run(frame, frames_of(bytes));
     }
     bool has(void *at) const noexcept
     {
@@ -182,10 +262,9 @@ private:
 
     void *do_allocate(std::size_t bytes, std::size_t alignment) override
     {
-        std::uint8_t order = order_of(bytes, alignment);
         std::uint32_t frame;
-        bool fits = order <= most && reinterpret_cast<std::uintptr_t>(base_) % alignment == 0;
-        if (!fits || from_.take(order, frame) != LLFREE_OK)
+        bool is_aligned = reinterpret_cast<std::uintptr_t>(base_) % alignment == 0;
+        if (!is_aligned || take(bytes, alignment, frame) != LLFREE_OK)
             return upstream_->allocate(bytes, alignment);
         return llfree_address(base_, frame);
     }
@@ -193,7 +272,7 @@ private:
     {
         if (!has(at))
             upstream_->deallocate(at, bytes, alignment);
-        else if (from_.give(llfree_frame_at(base_, at), order_of(bytes, alignment)) != LLFREE_OK)
+        else if (give(llfree_frame_at(base_, at), bytes, alignment) != LLFREE_OK)
             std::terminate();
     }
     bool do_is_equal(const std::pmr::memory_resource &other) const noexcept override { return this == &other; }

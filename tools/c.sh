@@ -160,14 +160,18 @@ if command -v valgrind >/dev/null && [ -e /usr/include/valgrind/helgrind.h ]; th
     "$cc" -O1 -g -Wall -Wextra -Werror -I"$root/include" -o "$folder/duties" "$root/tools/c/duties.c" "$library" "$heap" \
         -lpthread || fails 'duties.c: not built'
     under=(valgrind -q --error-exitcode=9)
-    is_clean 'duties.c: kept: memcheck' "${under[@]}" "$folder/duties"
+    lost=(--leak-check=full --show-leak-kinds=definite --errors-for-leak-kinds=definite)
+    is_clean 'duties.c: kept: memcheck' "${under[@]}" "${lost[@]}" "$folder/duties"
     is_clean 'duties.c: kept: helgrind' "${under[@]}" --tool=helgrind "$folder/duties"
     while IFS=, read -r tool duty found; do
-        says "duties.c: $duty: $tool" "$found" "${under[@]}" --tool="$tool" "$folder/duties" $duty
+        [ "$tool" = memcheck ] && with=("${lost[@]}") || with=()
+        says "duties.c: $duty: $tool" "$found" "${under[@]}" --tool="$tool" "${with[@]}" "$folder/duties" $duty
     done <<'ROWS'
 memcheck,1,Invalid write
+helgrind,1 read,data race
 memcheck,2,uninitialised value
 memcheck,2 moved,Invalid read
+memcheck,2 overwritten,definitely lost
 helgrind,3,data race
 memcheck,6,uninitialised value
 helgrind,8,data race

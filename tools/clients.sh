@@ -1,7 +1,7 @@
 #!/usr/bin/env bash
 # Tries programs that others wrote over the library: jemalloc under a load of threads, under a compiler, under Python with
-# forks and under Redis, which saves under load; SQLite's page cache; std::pmr. Each counts frames, and finds one that is
-# out twice; what the machine lacks is said and left out. The last line counts.
+# forks and under Redis, which saves under load; mimalloc under that load of threads; SQLite's page cache; std::pmr. Each
+# counts frames, and finds one that is out twice; what the machine lacks is said and left out. The last line counts.
 set -u
 . "$(dirname "$0")/holds.sh"
 unset LD_PRELOAD
@@ -20,10 +20,13 @@ make -s -C "$root" library >"$folder/log" 2>&1 || { tail -n 20 "$folder/log" >&2
 
 # under COMMAND..: with jemalloc's extents out of frames
 under() { adds_up timeout 60 "${with[@]}" "$@"; }
-# adds_up COMMAND..: it ends well; each process adds up and takes, and one gives
+# adds_up COMMAND..: it ends well; each process adds up, takes and splits nothing, and one gives; of all their pages less
+# than 1 % come from elsewhere
 adds_up() {
     rm -f "$folder/log"
-    "$@" && grep -q '^takes .* gives [1-9]' "$folder/log" && ! grep -q '^takes 0 ' "$folder/log"
+    "$@" && grep -q '^takes .* gives [1-9]' "$folder/log" && ! grep -q '^takes 0 \| splits [1-9]' "$folder/log" &&
+        sed 's/.*; pages \([0-9]*\), from elsewhere \([0-9]*\) .*/\1 \2/' "$folder/log" |
+        awk '{ inside += $1; others += $2 } END { exit inside == 0 || 100 * others >= inside + others }'
 }
 # what the last process has told
 tells() { [ ! -e "$folder/log" ] || sed -n '$s/^/    /p' "$folder/log"; }
@@ -59,6 +62,14 @@ if links c 'stdlib.h jemalloc/jemalloc.h' -ljemalloc; then
     fi
 else
     skips "jemalloc's extents" 'jemalloc (libjemalloc-dev)'
+fi
+
+if links c mimalloc.h -lmimalloc; then
+    libraries=(-lmimalloc)
+    holds 'mimalloc: built' builds "$folder/mimalloc" "$clients/mimalloc.c"
+    holds 'mimalloc: a load of threads' timeout 60 "$folder/mimalloc"
+else
+    skips "mimalloc's arenas" 'mimalloc (libmimalloc-dev)'
 fi
 
 if links c sqlite3.h -lsqlite3; then

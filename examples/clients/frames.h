@@ -2,12 +2,23 @@
 #ifndef FRAMES_H
 #define FRAMES_H
 
-#include "llfree_pool.h"
+#include "llfree.h"
 #include "out.h"
 #include <stdatomic.h>
 #include <sys/mman.h>
 
-enum { DESKS = 8, HUGE_ORDER = 9 };
+/* the splits that the runs of llfree_pool.h make are counted */
+static _Atomic unsigned long splits;
+static inline enum llfree_status counted_split(llfree_core *handle, uint32_t frame, uint8_t order)
+{
+    atomic_fetch_add(&splits, 1);
+    return llfree_split(handle, frame, order);
+}
+#define llfree_split counted_split
+#include "llfree_pool.h"
+#undef llfree_split
+
+enum { DESKS = 8 };
 
 static struct {
     llfree_desk desks[DESKS];
@@ -17,18 +28,18 @@ static struct {
     _Atomic unsigned long takes, gives, refused, too_large;
 } region;
 
-/* Opens the region, whose addresses are aligned to 2 MiB. It allocates nothing by malloc but what the opening does. */
+/* Opens the region, whose addresses are aligned to 1 GiB. It allocates nothing by malloc but what the opening does. */
 static inline bool region_open(uint32_t frames)
 {
-    const size_t huge = (size_t)LLFREE_FRAME_BYTES << HUGE_ORDER, bytes = (size_t)LLFREE_FRAME_BYTES * frames;
+    const size_t frame = LLFREE_FRAME_BYTES, longest = frame * LLFREE_POOL_LONGEST, bytes = frame * frames;
     const int access = PROT_READ | PROT_WRITE, how = MAP_PRIVATE | MAP_ANONYMOUS | MAP_NORESERVE;
     llfree_core cores[DESKS] = { LLFREE_CLOSED };
-    void *at = mmap(NULL, bytes + huge, access, how, -1, 0), *marks = mmap(NULL, frames, access, how, -1, 0);
+    void *at = mmap(NULL, bytes + longest, access, how, -1, 0), *marks = mmap(NULL, frames, access, how, -1, 0);
 
     if (at == MAP_FAILED || marks == MAP_FAILED || llfree_open(cores, DESKS, frames, NULL, 0) != LLFREE_OK)
         return false;
     region.frames = frames;
-    region.base = (char *)(((uintptr_t)at + huge - 1) / huge * huge);
+    region.base = (char *)(((uintptr_t)at + longest - 1) / longest * longest);
     region.out.bytes = marks;
     llfree_seat_all(region.desks, cores, DESKS);
     return true;

@@ -2,7 +2,7 @@
  *
  *     LD_PRELOAD="./frames.so libjemalloc.so.2" PROGRAM
  *
- * An extent is pages side by side. What is larger than 2 MiB, or refused, comes from jemalloc's own hooks. Extents are
+ * An extent is a run of pages. What is larger than 1 GiB, or refused, comes from jemalloc's own hooks. Extents are
  * neither split nor merged, so each comes back as it was. At its end each process adds up, and tells in a line of the
  * file that FRAMES_LOG names. */
 #define _GNU_SOURCE
@@ -91,8 +91,8 @@ __attribute__((destructor)) static void ends(void)
         fails("out and free are not all", 0);
     if (log == NULL)
         return;
-    fprintf(log, "takes %lu gives %lu refused %lu too large %lu; held at the end %lu; ", region.takes, region.gives,
-            region.refused, region.too_large, region.out.taken - region.out.given);
+    fprintf(log, "takes %lu gives %lu splits %lu refused %lu too large %lu; held at the end %lu; ", region.takes,
+            region.gives, splits, region.refused, region.too_large, region.out.taken - region.out.given);
     fprintf(log, "pages %lu, from elsewhere %lu (%.1f %%) in %lu extents\n", inside, other,
             100.0 * (double)other / (double)(inside + other), outside);
     fclose(log);

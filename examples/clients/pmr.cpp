@@ -1,12 +1,11 @@
-// std::pmr's pools and containers out of page frames, by the resource of llfree.hpp. Between the two stands a resource
-// with a byte a frame, which finds a frame that is out twice. What is larger than 2 MiB comes from operator new. At the
-// end all frames are free again.
+// std::pmr's pools and containers out of page frames alone, by the resource of llfree.hpp: up to 2 MiB as blocks, above
+// it as runs. Between the two stands a resource with a byte a frame, which finds a frame that is out twice. At the end
+// all frames are free again.
 #include "llfree.hpp"
 #include "out.h"
 #include <algorithm>
 #include <atomic>
 #include <cstdio>
-#include <functional>
 #include <map>
 #include <memory>
 #include <string>
@@ -16,22 +15,19 @@
 
 namespace {
 
-constexpr std::uint32_t frames = 65536;
+constexpr std::uint32_t frames = 262144;
 constexpr std::size_t bytes = std::size_t(LLFREE_FRAME_BYTES) * frames, huge = 2 << 20;
 
 class checked : public std::pmr::memory_resource {
 public:
     checked(std::pmr::memory_resource &below, void *base) : below_(below), base_(static_cast<std::byte *>(base)) {}
     const out &marks() const { return out_; }
-    unsigned long outside() const { return outside_; }
+    unsigned long large() const { return large_; }
 
 private:
     void turn(void *at, std::size_t size, unsigned char to)
     {
-        if (std::less<void *>()(at, base_) || !std::less<void *>()(at, base_ + bytes)) {
-            outside_ += to;
-            return;
-        }
+        large_ += to && size > huge;
         std::uint32_t first = llfree_frame_at(base_, at);
         std::uint32_t last = llfree_frame_at(base_, static_cast<std::byte *>(at) + size - 1);
         out_turns(&out_, first, last - first + 1, to);
@@ -53,19 +49,24 @@ private:
     std::byte *base_;
     std::vector<unsigned char> bytes_ = std::vector<unsigned char>(frames);
     out out_ = { bytes_.data(), 0, 0 };
-    std::atomic<unsigned long> outside_ = 0;
+    std::atomic<unsigned long> large_ = 0;
 };
 
 void work(std::pmr::memory_resource *resource, char letter)
 {
     std::pmr::unordered_map<int, std::pmr::string> texts(resource);
     std::pmr::map<int, std::pmr::vector<int>> numbers(resource);
+    std::pmr::vector<int> all(resource);
     for (int i = 0; i < 20000; i++) {
         texts.emplace(i * 7919, std::pmr::string(std::size_t(i % 300), letter, resource));
         numbers[i % 1000].push_back(i);
         if (i % 3 == 0)
             texts.erase(i / 3 * 7919);
     }
+    for (int i = 0; i < 600000; i++)
+        all.push_back(letter + i);
+    if (std::adjacent_find(all.begin(), all.end(), [](int a, int b) { return b != a + 1; }) != all.end())
+        fails("a number of many was written by somebody else", 0);
     for (const auto &[key, text] : texts)
         if (text.find_first_not_of(letter) != text.npos)
             fails("a text was written by somebody else", 0);
@@ -86,7 +87,7 @@ int main()
     void *base = std::align(huge, bytes, room, space);
 
     llfree::memory memory(frames, 8);
-    llfree::resource resource(memory, base, std::pmr::new_delete_resource());
+    llfree::resource resource(memory, base);
     checked blocks(resource, base);
     {
         std::pmr::synchronized_pool_resource shared({ 0, 1 << 20 }, &blocks);
@@ -101,8 +102,8 @@ int main()
             thread.join();
     }
     const out &marks = blocks.marks();
-    std::printf("frames taken %lu, blocks from elsewhere %lu; free at the end %u of %u\n", marks.taken, blocks.outside(),
+    std::printf("frames taken %lu, runs above 2 MiB %lu; free at the end %u of %u\n", marks.taken, blocks.large(),
                 memory.free_frames(), frames);
-    if (!out_adds_up(&marks, frames, memory.free_frames()) || memory.free_huge() != frames / 512 || marks.taken == 0)
+    if (!out_adds_up(&marks, frames, memory.free_frames()) || memory.free_huge() != frames / 512 || blocks.large() == 0)
         fails("not all frames are free again", 0);
 }

@@ -31,7 +31,44 @@ static void pointers(void)
     free(words);
 }
 
-/* 2: a handle starts closed, and the old bytes of one that was moved are never used again. */
+/* Two threads, one after the other where the duty is kept. */
+static void two_threads(bool is_kept, void *(*run)(void *), void *first, void *second)
+{
+    pthread_t threads[2];
+
+    CHECK(pthread_create(&threads[0], NULL, run, first) == 0);
+    CHECK(!is_kept || pthread_join(threads[0], NULL) == 0);
+    CHECK(pthread_create(&threads[1], NULL, run, second) == 0);
+    CHECK(is_kept || pthread_join(threads[0], NULL) == 0);
+    CHECK(pthread_join(threads[1], NULL) == 0);
+}
+
+static uint64_t *image;
+
+/* Closes with an image; without a core it reads the image. */
+static void *closes_or_reads(void *core)
+{
+    const size_t count = llfree_image_words(FRAMES);
+    uint64_t sum = 0;
+
+    CHECK(core == NULL || llfree_close_image(core, image, count) == LLFREE_OK);
+    for (size_t i = 0; core == NULL && i < count; i++)
+        sum += image[i];
+    return sum > 0 ? image : NULL;
+}
+
+/* 1: nobody else reads a buffer during the call. */
+static void pointers_alone(void)
+{
+    llfree_core core = opened();
+
+    image = calloc(llfree_image_words(FRAMES), sizeof *image);
+    CHECK(image != NULL);
+    two_threads(!breaks("1", "read"), closes_or_reads, &core, NULL);
+    free(image);
+}
+
+/* 2: a handle starts closed, the old bytes of one that was moved are never used again, and calls alone write bytes. */
 static void handles(void)
 {
     llfree_core *core = malloc(sizeof *core), moved;
@@ -43,6 +80,8 @@ static void handles(void)
     CHECK(llfree_take(core, 0, &frame) == LLFREE_CLOSED_HANDLE);
     *core = opened();
     moved = *core;
+    if (breaks("2", "overwritten"))
+        memset(&moved, 0, sizeof moved), memset(core, 0, sizeof *core);
     llfree_close(&moved);
     if (breaks("2", "moved"))
         llfree_free_frames(core);
@@ -63,18 +102,6 @@ static void *calls(void *none)
 static void *gives(void *core)
 {
     return llfree_give_block(core, &block) == LLFREE_OK ? core : NULL;
-}
-
-/* Two threads, one after the other where the duty is kept. */
-static void two_threads(bool is_kept, void *(*run)(void *), void *first, void *second)
-{
-    pthread_t threads[2];
-
-    CHECK(pthread_create(&threads[0], NULL, run, first) == 0);
-    CHECK(!is_kept || pthread_join(threads[0], NULL) == 0);
-    CHECK(pthread_create(&threads[1], NULL, run, second) == 0);
-    CHECK(is_kept || pthread_join(threads[0], NULL) == 0);
-    CHECK(pthread_join(threads[1], NULL) == 0);
 }
 
 /* 3: one call at a time for each handle. */
@@ -118,6 +145,7 @@ int main(int count, char **words)
     if (count > 2)
         way = words[2];
     pointers();
+    pointers_alone();
     handles();
     calls_at_a_time();
     structs();

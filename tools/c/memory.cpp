@@ -1,4 +1,5 @@
-// llfree.hpp: blocks that give themselves back, refusals, and a memory resource under std::pmr's pools on threads.
+// llfree.hpp: blocks and runs that give themselves back, refusals, and a memory resource under std::pmr's pools on
+// threads.
 #include "llfree.hpp"
 #include <algorithm>
 #include <atomic>
@@ -15,7 +16,7 @@
 
 namespace {
 
-constexpr std::uint32_t frames = 16 * 4096;
+constexpr std::uint32_t frames = 64 * 4096;
 constexpr std::size_t huge_bytes = 512 * LLFREE_FRAME_BYTES;
 
 template <typename Call>
@@ -62,6 +63,26 @@ void blocks(llfree::memory &memory)
     CHECK(small.frames() == 8 && small.free_frames() == 4 && !small.take(3));
 }
 
+void runs(llfree::memory &memory)
+{
+    {
+        llfree::run run = memory.take_run(1029, 2048), none;
+        CHECK(run && run.frames() == 1029 && run.frame() % 2048 == 0 && memory.free_frames() == frames - 1029);
+        llfree::run five = memory.take_run(5);
+        CHECK(five && memory.free_frames() == frames - 1034);
+        five = std::move(run);
+        CHECK(!run && five.frames() == 1029 && memory.free_frames() == frames - 1029);
+        CHECK(!none && none.frames() == 0 && !memory.take_run(0) && !memory.take_run(frames + 1));
+        CHECK(!memory.take_run(512 * 512 + 1) && !memory.take_run(1, 512 * 1024));
+        auto [frame, length] = five.release();
+        CHECK(!five && memory.give_run(frame, length) == LLFREE_OK);
+        CHECK(memory.give_run(frame, length) == LLFREE_NOT_HELD);
+        run = memory.take_run(512);
+        CHECK(run && memory.free_huge() == frames / 512 - 1);
+    }
+    CHECK(memory.free_frames() == frames && memory.free_huge() == frames / 512);
+}
+
 struct counted : std::pmr::memory_resource {
     std::size_t calls = 0;
     void *do_allocate(std::size_t bytes, std::size_t alignment) override
@@ -77,25 +98,45 @@ struct counted : std::pmr::memory_resource {
     bool do_is_equal(const std::pmr::memory_resource &other) const noexcept override { return this == &other; }
 };
 
+// bytes that the memory has: just these frames are held, at a multiple of the alignment
+void is_inside(llfree::memory &memory, std::pmr::memory_resource &resource, std::byte *base, std::size_t bytes,
+               std::size_t alignment, std::uint32_t held)
+{
+    const std::uint32_t free = memory.free_frames(), huge = memory.free_huge();
+    void *at = resource.allocate(bytes, alignment);
+    CHECK(at >= base && at < base + frames * std::size_t(LLFREE_FRAME_BYTES));
+    CHECK(reinterpret_cast<std::uintptr_t>(at) % alignment == 0 && memory.free_frames() == free - held);
+    resource.deallocate(at, bytes, alignment);
+    CHECK(memory.free_frames() == free && memory.free_huge() == huge);
+}
+
 // what is too large, or more than there is, comes from upstream
 void upstream(llfree::memory &memory, std::byte *base)
 {
+    constexpr std::size_t all_bytes = frames * std::size_t(LLFREE_FRAME_BYTES);
     counted upstream;
     llfree::resource resource(memory, base, &upstream), alone(memory, base);
-    void *at = resource.allocate(huge_bytes, 4096);
-    CHECK(at >= base && at < base + frames * std::size_t(LLFREE_FRAME_BYTES) && memory.free_huge() == frames / 512 - 1);
-    resource.deallocate(at, huge_bytes, 4096);
+    is_inside(memory, resource, base, 0, 1, 1);
+    is_inside(memory, resource, base, 5 * 4096, 4096, 8);
+    is_inside(memory, resource, base, huge_bytes, 4096, 512);
+    is_inside(memory, resource, base, huge_bytes + 1, 8, 513);
+    is_inside(memory, resource, base, 3 * huge_bytes, 2 * huge_bytes, 3 * 512);
+    is_inside(memory, resource, base, all_bytes, 4096, frames);
+    {
+        llfree::block first = memory.take_at(0, 9);
+        is_inside(memory, resource, base, 1, 2 * huge_bytes, 1);
+        is_inside(memory, resource, base, huge_bytes + 1, 8 * huge_bytes, 513);
+    }
     CHECK(upstream.calls == 0);
-    resource.deallocate(resource.allocate(huge_bytes + 1), huge_bytes + 1);
-    resource.deallocate(resource.allocate(1, 2 * huge_bytes), 1, 2 * huge_bytes);
-    CHECK(upstream.calls == 4);
+    resource.deallocate(resource.allocate(all_bytes + 1), all_bytes + 1);
+    CHECK(upstream.calls == 2);
     llfree::resource odd(memory, base + 4096, &upstream);
     odd.deallocate(odd.allocate(1, 8192), 1, 8192);
-    CHECK(upstream.calls == 6);
+    CHECK(upstream.calls == 4);
 
     bool is_refused = false;
     try {
-        (void)alone.allocate(huge_bytes + 1);
+        (void)alone.allocate(all_bytes + 1);
     } catch (const std::bad_alloc &) {
         is_refused = true;
     }
@@ -106,7 +147,7 @@ void upstream(llfree::memory &memory, std::byte *base)
             all.push_back(std::move(block));
     CHECK(all.size() == frames / 512);
     resource.deallocate(resource.allocate(1), 1);
-    CHECK(upstream.calls == 8);
+    CHECK(upstream.calls == 6);
 }
 
 void containers(std::pmr::memory_resource *resource, char letter)
@@ -114,6 +155,9 @@ void containers(std::pmr::memory_resource *resource, char letter)
     std::pmr::unordered_map<int, std::pmr::string> texts(resource);
     std::pmr::map<int, std::pmr::vector<int>> numbers(resource);
     std::pmr::list<int> list(resource);
+    std::pmr::vector<int> wide(resource);
+    for (int i = 0; i < 600000; i++)
+        wide.push_back(letter + i);
     for (int i = 0; i < 6000; i++) {
         texts.emplace(i, std::pmr::string(std::size_t(i % 300), letter, resource));
         numbers[i % 100].push_back(i);
@@ -126,6 +170,8 @@ void containers(std::pmr::memory_resource *resource, char letter)
     for (const auto &[key, row] : numbers)
         CHECK(row.size() == 60 && std::all_of(row.begin(), row.end(), [k = key](int x) { return x % 100 == k; }));
     CHECK(list.size() == 6000);
+    for (int i = 0; i < 600000; i++)
+        CHECK(wide[std::size_t(i)] == letter + i);
 }
 
 }
@@ -133,11 +179,12 @@ void containers(std::pmr::memory_resource *resource, char letter)
 int main()
 {
     llfree::memory memory(frames, 8);
-    void *room = std::aligned_alloc(huge_bytes, frames * std::size_t(LLFREE_FRAME_BYTES));
+    void *room = std::aligned_alloc(8 * huge_bytes, frames * std::size_t(LLFREE_FRAME_BYTES));
     CHECK(room != nullptr);
     auto *base = static_cast<std::byte *>(room);
 
     blocks(memory);
+    runs(memory);
     upstream(memory, base);
     {
         llfree::resource resource(memory, base);

@@ -1,5 +1,6 @@
-/* Desks: a hundred threads, which come and go, on eight cores, with an owner byte a frame; runs of each length; children
- * that are forked while others are in calls, and take what is left; addresses. */
+/* Desks: a hundred threads, which come and go, on eight cores, with an owner byte a frame; runs of each length up to
+ * 512 and of some up to 1 GiB, and where they lie; children that are forked while others are in calls, and take what is
+ * left; addresses. */
 #define _GNU_SOURCE
 #include "check.h"
 #include "llfree_pool.h"
@@ -12,6 +13,7 @@ enum { DESKS = 8, FRAMES = 16 * 4096, THREADS = 100, RUNNING = 20, ROUNDS = 1000
 
 static llfree_desk desks[DESKS];
 static _Atomic unsigned char owner[FRAMES];
+static _Atomic unsigned long_runs;
 
 static void turn_all(uint32_t frame, uint32_t count, unsigned char to)
 {
@@ -34,19 +36,16 @@ static void give(uint32_t frame, uint8_t order)
 static void run_of(uint32_t length, uint32_t alignment)
 {
     uint32_t frame;
-    llfree_desk *desk = llfree_sit(desks, DESKS);
-    enum llfree_status status = llfree_desk_take_run(desk, length, alignment, &frame);
+    enum llfree_status status = llfree_pool_take_run(desks, DESKS, length, alignment, &frame);
 
-    llfree_leave(desk);
     CHECK(status == LLFREE_OK || status == LLFREE_NO_BLOCK || status == LLFREE_CONTENDED);
     if (status != LLFREE_OK)
         return;
     CHECK(frame % alignment == 0);
     turn_all(frame, length, 1);
     turn_all(frame, length, 0);
-    desk = llfree_sit(desks, DESKS);
-    CHECK(llfree_desk_give_run(desk, frame, length) == LLFREE_OK);
-    llfree_leave(desk);
+    CHECK(llfree_pool_give_run(desks, DESKS, frame, length) == LLFREE_OK);
+    long_runs += length > 512;
 }
 
 static void *work(void *number)
@@ -59,10 +58,11 @@ static void *work(void *number)
     for (int round = 0; round < ROUNDS; round++) {
         uint64_t r = next_random(&x);
         if ((r >> 12 & 15) == 0)
-            run_of(1 + (r >> 16) % 512, 1u << (r >> 32) % 10);
+            run_of(1 + (r >> 16) % (r >> 48 & 1 ? 512 : 1600), 1u << (r >> 32) % 11);
         if (r & 1 && held < HELD - 1) {
             uint8_t order = r >> 8 & 7;
-            frames[held] = (uint32_t)(r >> 20) % FRAMES >> order << order;
+            /* of the lower half, so that there are long runs above it */
+            frames[held] = (uint32_t)(r >> 20) % (FRAMES / 2) >> order << order;
             if ((r & 128 ? llfree_pool_take(desks, DESKS, order, &frames[held]) :
                            llfree_pool_take_at(desks, DESKS, frames[held], order)) != LLFREE_OK)
                 continue;
@@ -90,26 +90,91 @@ static void *work(void *number)
     return NULL;
 }
 
-/* Runs of each length and alignment: just their frames are held, and are given once. */
-static void runs(void)
+/* Takes a run and gives it: just its frames are held, and are given once. */
+static void is_whole(size_t length, size_t alignment)
 {
-    static const struct { size_t frames, alignment; } wrong[] = { { 0, 1 }, { 513, 1 }, { 1, 1024 }, { SIZE_MAX, 1 } };
     uint32_t frame = 77;
 
-    for (uint32_t alignment = 1; alignment <= 512; alignment *= 2)
-        for (uint32_t length = 1; length <= 512; length++) {
-            CHECK(llfree_desk_take_run(&desks[0], length, alignment, &frame) == LLFREE_OK && frame % alignment == 0);
-            turn_all(frame, length, 1);
-            CHECK(llfree_free_frames(&desks[1].core) == FRAMES - length);
-            turn_all(frame, length, 0);
-            CHECK(llfree_desk_give_run(&desks[1], frame, length) == LLFREE_OK);
-            CHECK(llfree_desk_give_run(&desks[0], frame, length) == LLFREE_NOT_HELD);
-            CHECK(llfree_free_frames(&desks[0].core) == FRAMES);
-        }
-    frame = 77;
+    CHECK(llfree_desk_take_run(&desks[0], length, alignment, &frame) == LLFREE_OK && frame % alignment == 0);
+    turn_all(frame, (uint32_t)length, 1);
+    CHECK(llfree_free_frames(&desks[1].core) == FRAMES - length);
+    turn_all(frame, (uint32_t)length, 0);
+    CHECK(llfree_desk_give_run(&desks[1], frame, length) == LLFREE_OK);
+    CHECK(llfree_desk_give_run(&desks[0], frame, length) == LLFREE_NOT_HELD);
+    CHECK(llfree_free_frames(&desks[0].core) == FRAMES);
+}
+
+static void runs(void)
+{
+    static const struct { size_t frames, alignment; } wrong[] = {
+        { 0, 1 }, { 262145, 1 }, { 1, 524288 }, { 513, 524288 }, { SIZE_MAX, 1 }
+    };
+    static const size_t longer[] = { 513, 767, 1023, 1024, 1025, 1536, 4095, 4097, 16384, 20736, 65535, 65536 };
+    uint32_t frame = 77;
+
+    for (size_t alignment = 1; alignment <= FRAMES; alignment *= 2) {
+        for (size_t length = 1; length <= 512; length += alignment <= 512 ? 1 : 73)
+            is_whole(length, alignment);
+        for (size_t i = 0; i < sizeof longer / sizeof *longer; i++)
+            is_whole(longer[i], alignment);
+    }
     for (size_t i = 0; i < sizeof wrong / sizeof *wrong; i++)
         CHECK(llfree_desk_take_run(&desks[0], wrong[i].frames, wrong[i].alignment, &frame) == LLFREE_BAD_ORDER &&
               llfree_desk_give_run(&desks[0], 0, wrong[i].frames) == LLFREE_NOT_HELD && frame == 77);
+    CHECK(llfree_desk_take_run(&desks[0], FRAMES + 1, 1, &frame) == LLFREE_NO_BLOCK && frame == 77);
+
+    /* one huge frame of it was given already: nothing changes */
+    CHECK(llfree_desk_take_run(&desks[0], 1027, 1, &frame) == LLFREE_OK);
+    CHECK(llfree_give(&desks[0].core, frame + 512, 9) == LLFREE_OK);
+    CHECK(llfree_desk_give_run(&desks[1], frame, 1027) == LLFREE_NOT_HELD);
+    CHECK(llfree_free_frames(&desks[1].core) == FRAMES - 515);
+    CHECK(llfree_desk_give_run(&desks[1], frame, 512) == LLFREE_OK);
+    CHECK(llfree_desk_give_run(&desks[1], frame + 1024, 3) == LLFREE_OK);
+}
+
+/* 1 GiB side by side. */
+static void longest(void)
+{
+    llfree_core core = LLFREE_CLOSED;
+    llfree_desk desk = { .is_taken = 0 };
+    uint32_t frame;
+
+    CHECK(llfree_open(&core, 1, 2 * LLFREE_POOL_LONGEST, NULL, 0) == LLFREE_OK);
+    llfree_seat_all(&desk, &core, 1);
+    for (size_t less = 0; less < 2; less++) {
+        CHECK(llfree_desk_take_run(&desk, LLFREE_POOL_LONGEST - less, LLFREE_POOL_LONGEST, &frame) == LLFREE_OK);
+        CHECK(frame % LLFREE_POOL_LONGEST == 0 && llfree_free_frames(&desk.core) == LLFREE_POOL_LONGEST + less);
+        CHECK(llfree_desk_give_run(&desk, frame, LLFREE_POOL_LONGEST - less) == LLFREE_OK);
+    }
+    CHECK(llfree_free_huge(&desk.core) == 2 * LLFREE_POOL_LONGEST / 512);
+    llfree_close(&desk.core);
+}
+
+/* Five frames, where of each eight one is held, and in the last eight another one or none (8). */
+static void places(void)
+{
+    static const struct { uint32_t held, last; bool is_found; } rows[] = {
+        { 6, 6, true },  /* the fifth is free behind the first four, and no eight are */
+        { 4, 8, true },  /* nowhere but in the last eight */
+        { 4, 4, false }, /* nowhere */
+    };
+    for (size_t row = 0; row < sizeof rows / sizeof *rows; row++) {
+        llfree_core core = LLFREE_CLOSED;
+        llfree_desk desk = { .is_taken = 0 };
+        uint32_t frame = 77, free = 0;
+
+        CHECK(llfree_open(&core, 1, 4096, NULL, 0) == LLFREE_OK);
+        llfree_seat_all(&desk, &core, 1);
+        for (uint32_t at = 0; at < 4096; at += 8) {
+            uint32_t held = at == 4088 ? rows[row].last : rows[row].held;
+            CHECK(held == 8 || llfree_take_at(&desk.core, at + held, 0) == LLFREE_OK);
+            free += held == 8 ? 8 : 7;
+        }
+        CHECK((llfree_desk_take_run(&desk, 5, 1, &frame) == LLFREE_OK) == rows[row].is_found);
+        CHECK(llfree_free_frames(&desk.core) == free - (rows[row].is_found ? 5 : 0));
+        CHECK(rows[row].is_found ? frame % 8 == 0 && llfree_desk_give_run(&desk, frame, 5) == LLFREE_OK : frame == 77);
+        llfree_close(&desk.core);
+    }
 }
 
 static void sit_at_all(void)
@@ -158,6 +223,8 @@ int main(void)
     llfree_seat_all(desks, cores, DESKS);
     CHECK(llfree_free_frames(&cores[0]) == 0 && llfree_free_frames(&desks[7].core) == FRAMES);
     runs();
+    longest();
+    places();
 #ifdef __SANITIZE_THREAD__
     fork_count = 0; /* it does not follow a fork of a program with threads */
 #endif
@@ -171,6 +238,7 @@ int main(void)
         CHECK(pthread_join(forking, NULL) == 0);
     }
     CHECK(llfree_free_frames(&desks[3].core) == FRAMES && llfree_free_huge(&desks[0].core) == FRAMES / 512);
+    CHECK(long_runs > 0);
 
     CHECK(llfree_pool_take_at(desks, DESKS, 5 * 512, 9) == LLFREE_OK);
     CHECK(llfree_pool_take_at(desks, DESKS, 5 * 512 + 8, 3) == LLFREE_NO_BLOCK);
