@@ -47,7 +47,7 @@ tries() {
 
 needs=(/usr/src/linux-source-6.1.tar.xz cc make flex bison bc patch xz busybox cpio)
 machine='Linux on the library, as a program'
-goals=(um um-trials)
+goals=(um um-trials um-compaction)
 [ "${1-}" = short ] && goals=('um RUN=shells,largest,handlers,drain,orders,marks,twice jobs=2')
 lacks "${needs[@]}" || for goal in "${goals[@]}"; do tries $goal; done
 machine='what reads the words of the library'

@@ -1,8 +1,8 @@
 # Linux 6.1 whose page allocator is the library (docs/KERNEL.md): `make um` runs it as a program (User Mode Linux), and
-# `make mm` in QEMU; `make um-trials` and `make mm-trials` show what has to fail in boots of its own. `make foreign`
-# runs programs of others in QEMU, and has Linux as a program compile Linux. RUN names parts of mm/init or
-# mm/foreign.sh, WORDS are more of the kernel's command line. `make threads` tries in user space what reads the
-# library's words.
+# `make mm` in QEMU; `make um-trials` and `make mm-trials` show what has to fail in boots of its own. `make um-compaction`
+# is `make um` with compaction. `make foreign` runs programs of others in QEMU, and has Linux as a program compile Linux.
+# RUN names parts of mm/init or mm/foreign.sh, WORDS are more of the kernel's command line. `make threads` tries in user
+# space what reads the library's words.
 # It needs Debian's packages linux-source-6.1, xz-utils, flex, bison, bc, busybox-static or busybox, and cpio; in QEMU
 # also libelf-dev; programs of others stress-ng, libnuma-dev and libcap-dev.
 sources := /usr/src/linux-source-6.1.tar.xz
@@ -18,7 +18,7 @@ comma := ,
 always_same := $(patsubst %,KBUILD_BUILD_%,TIMESTAMP=@0 VERSION=1 USER=llfree HOST=llfree)
 kbuild = unset MAKEFLAGS MFLAGS MAKELEVEL; $(MAKE) -s -C $(linux)/source $(always_same)
 
-$(linux)/source/unpacked: $(sources) mm/page_alloc.patch mm/um_xstate.patch
+$(linux)/source/unpacked: $(sources) mm/page_alloc.patch mm/compaction.patch mm/um_xstate.patch
 	rm -rf $(@D)
 	mkdir -p $(@D)
 	tar xf $(sources) -C $(@D) --strip-components=1 $(patsubst %,--exclude='%',$(unneeded))
@@ -31,12 +31,12 @@ $(linux)/source/with-llfree: $(linux)/source/unpacked $(llfree_files) $(wildcard
 	cp -ru $(llfree_files) $(@D)/mm/llfree
 	touch $@
 
-# $(call compile,MACHINE,WORDS,GOALS,IMAGE): what the configuration does not take over is printed, and an error. Beside
-# the image is one with the ordinary archive.
+# $(call compile,MACHINE,WORDS,GOALS,IMAGE[,OTHER]): by the configuration of that machine, over that of the other one.
+# What it does not take over is printed, and an error. Beside the image is one with the ordinary archive.
 define compile
-$(linux)/$(1)/image: $(linux)/source/with-llfree mm/common.config mm/$(1).config
+$(linux)/$(1)/image: $(linux)/source/with-llfree $(patsubst %,mm/%.config,common $(5) $(1))
 	mkdir -p $$(@D)
-	cat mm/common.config mm/$(1).config >$$(@D)/wanted
+	cat $$(filter %.config,$$^) >$$(@D)/wanted
 	$$(kbuild) O=$$(@D) $(2) KCONFIG_ALLCONFIG=$$(@D)/wanted allnoconfig
 	! grep -vxFf $$(@D)/.config $$(@D)/wanted | grep CONFIG_
 	$$(kbuild) O=$$(@D) $(2) -j$(jobs) $(3)
@@ -47,11 +47,16 @@ $(linux)/$(1)/ordinary: $(linux)/$(1)/image
 	cp $$(@D)/$(4) $$@
 endef
 $(eval $(call compile,um,ARCH=um SUBARCH=x86_64,linux,linux))
+$(eval $(call compile,um-compaction,ARCH=um SUBARCH=x86_64,linux,linux,um))
 $(eval $(call compile,mm,ARCH=x86_64,bzImage modules,arch/x86/boot/bzImage))
 
-$(linux)/um/initramfs: mm/init
+$(linux)/cut: mm/cut.c
 	mkdir -p $(@D)
-	$(call pack,$<)
+	$(CC) -O2 -std=c11 -Wall -Wextra -static -o $@ $<
+
+$(linux)/um/initramfs: mm/init mm/compact $(linux)/cut
+	mkdir -p $(@D)
+	$(call pack,$^)
 
 # behind those of mm those of programs of others
 $(linux)/foreign/files: mm/foreign_files.sh mm/foreign.sh mm/selftests $(linux)/um/image $(linux)/mm/image
@@ -69,15 +74,23 @@ without_references := initcall_blacklist=m_in
 checks := llfree=bits page_poison=1 $(without_references)
 parts := shells,largest,archives,fill,oom,handlers,drain,orders,marks,order,twice,frame,used
 um_words := con0=null,fd:1 con=null quiet
-um_at := $(seconds) $(linux)/um.log $(linux)/um/image mem=512M $(um_words) initrd=$(linux)/um/initramfs
+um_at = $(seconds) $(linux)/$(1).log $(linux)/$(1)/image mem=512M $(um_words) initrd=$(linux)/um/initramfs
 
 um: $(linux)/um/image $(linux)/um/initramfs
-	$(if $(RUN)$(WORDS),,mm/boot.sh $(um_at) run=references llfree=bits,alone)
-	mm/boot.sh $(um_at) run=$(or $(RUN),$(parts)) $(or $(WORDS),$(checks))
+	$(if $(RUN)$(WORDS),,mm/boot.sh $(call um_at,um) run=references llfree=bits,alone)
+	mm/boot.sh $(call um_at,um) run=$(or $(RUN),$(parts)) $(or $(WORDS),$(checks))
+
+um_compaction_parts := compact,$(parts)
+
+um-compaction: $(linux)/um-compaction/image $(linux)/um/initramfs
+	mm/boot.sh $(call um_at,$@) run=$(or $(RUN),$(um_compaction_parts)) $(or $(WORDS),$(checks))
+	$(if $(RUN)$(WORDS),,@echo '--- compaction uses free frames, and does not take them')
+	$(if $(RUN)$(WORDS),,mm/boot.sh -l 'llfree: (give|split) of frame .*: not held' $(call um_at,$@) ignore_loglevel \
+		run=compact llfree=bits,looks page_poison=1 $(without_references))
 
 um-trials: $(linux)/um/image $(linux)/um/initramfs
 	@echo '--- an opening finds too little memory'
-	mm/boot.sh -l 'llfree: zone .* is not opened: no memory' $(um_at) earlyprintk llfree=small
+	mm/boot.sh -l 'llfree: zone .* is not opened: no memory' $(call um_at,um) earlyprintk llfree=small
 
 # without ACPI Linux finds one CPU for each socket
 mm mm-trials: cpus = $(SMP),sockets=$(SMP),cores=1
@@ -121,4 +134,4 @@ threads: $(out)/threads
 	$< 2097152 3
 	$< 4194604 5
 
-.PHONY: um mm um-trials mm-trials foreign threads
+.PHONY: um mm um-compaction um-trials mm-trials foreign threads

@@ -4,7 +4,8 @@
  * through one of them, with preemption off. Handlers of interrupts, which may come in the middle of such a call, use
  * the other one, with interrupts off. No NMI gets here. Single frames rest with the core of tasks, in place of Linux'
  * lists of the CPUs; those of orders 1 to 3 stand before the library. None rest with the other core: no task could take
- * them.
+ * them. With compaction tasks take what cannot be moved through a third core: so it lies in few trees of the library,
+ * and the others can be emptied.
  *
  * The command line has llfree=WORD[,WORD..]:
  *   off      Linux' own free lists
@@ -12,8 +13,10 @@
  *            a list of the others
  *   lists    Linux' lists of the CPUs stand before the library for all orders that they have, and nothing rests
  *   alone    none of these lists stands before the library, and single frames rest
+ *   mixed    tasks take what cannot be moved through the same core as the rest
  *   bits     a bit for each frame, apart from the library: a take must find it clear, a give set
  *   small    wrong on purpose: an opening finds half of the memory that it needs
+ *   looks    wrong on purpose: compaction uses what looks free, and does not take it
  */
 #define pr_fmt(text) "llfree: " text
 #include <linux/bitmap.h>
@@ -36,9 +39,9 @@ enum {
 	ALIGNMENT = 16,
 };
 
-enum { TASKS, HANDLERS, CALLERS };
+enum { TASKS, HANDLERS, FIXED, CALLERS = IS_ENABLED(CONFIG_COMPACTION) ? 3 : 2 };
 
-/* The tasks of a CPU, or its handlers. */
+/* The tasks of a CPU, or its handlers, or its tasks for what cannot be moved. */
 struct llfree_caller {
 	llfree_core core;
 	bool is_inside;		/* of a call */
@@ -63,6 +66,7 @@ static_assert(MAX_ORDER == ORDERS && MAX_ORDER == LLFREE_ORDERS);
 bool llfree_on __ro_after_init = true;
 unsigned int llfree_listed __ro_after_init = 1;
 static bool has_structs __ro_after_init, has_bits __ro_after_init;
+static bool is_mixed __ro_after_init, only_looks __ro_after_init;
 static bool is_small __initdata;
 
 static int __init read_words(char *words)
@@ -78,10 +82,14 @@ static int __init read_words(char *words)
 			llfree_listed = 0;
 		else if (!strcmp(word, "alone"))
 			llfree_listed = LLFREE_ORDERS;
+		else if (!strcmp(word, "mixed"))
+			is_mixed = true;
 		else if (!strcmp(word, "bits"))
 			has_bits = true;
 		else if (!strcmp(word, "small"))
 			is_small = true;
+		else if (!strcmp(word, "looks"))
+			only_looks = true;
 		else
 			pr_warn("no such word: %s\n", word);
 	}
@@ -197,6 +205,16 @@ static __always_inline enum llfree_status take_struct(struct llfree_zone *zone, 
 	return status;
 }
 
+static enum llfree_status take_struct_at(struct llfree_zone *zone, llfree_core *core, u32 frame, unsigned int order)
+{
+	llfree_block block = LLFREE_EMPTY;
+	enum llfree_status status = llfree_take_block_at(core, frame, order, &block);
+
+	if (status == LLFREE_OK)
+		zone->blocks[frame] = block;
+	return status;
+}
+
 /* What comes to rest nobody else can take, so its struct is emptied where it lies. */
 static __always_inline enum llfree_status give_struct(struct llfree_zone *zone, struct llfree_caller *by,
 						      u32 frame, unsigned int order)
@@ -233,8 +251,13 @@ static __always_inline void end_call(struct llfree_caller *by)
 	WRITE_ONCE(by->is_inside, false);
 }
 
-/* The three calls of the library. A block that has no struct is called by its number, which the library refuses if it
- * is on no list. They tell how many more frames rest than before. */
+static __always_inline bool wants_struct(const struct llfree_zone *zone, unsigned int order)
+{
+	return zone->blocks && (!order || has_structs);
+}
+
+/* The calls of the library. A block that has no struct is called by its number, which the library refuses if it is on
+ * no list. They tell how many more frames rest than before. */
 static __always_inline enum llfree_status take(struct llfree_zone *zone, struct llfree_caller *by,
 					       unsigned int order, u32 *frame, long *rested)
 {
@@ -242,11 +265,24 @@ static __always_inline enum llfree_status take(struct llfree_zone *zone, struct 
 
 	begin_call(by);
 	*rested = -(long)by->resting;
-	if (zone->blocks && (!order || has_structs))
+	if (wants_struct(zone, order))
 		status = take_struct(zone, by, order, frame);
 	else
 		status = llfree_take(&by->core, order, frame);
 	*rested += by->resting;
+	end_call(by);
+	return status;
+}
+
+static enum llfree_status take_at(struct llfree_zone *zone, struct llfree_caller *by, u32 frame, unsigned int order)
+{
+	enum llfree_status status;
+
+	begin_call(by);
+	if (wants_struct(zone, order))
+		status = take_struct_at(zone, &by->core, frame, order);
+	else
+		status = llfree_take_at(&by->core, frame, order);
 	end_call(by);
 	return status;
 }
@@ -308,9 +344,10 @@ static const char *why(enum llfree_status status)
 static void __init spread_cores(struct llfree_zone *it, const llfree_core *cores)
 {
 	for (unsigned int cpu = 0; cpu < nr_cpu_ids; cpu++) {
-		for (unsigned int by = TASKS; by < CALLERS; by++)
+		for (unsigned int by = TASKS; by < CALLERS; by++) {
 			it->callers[cpu][by].core = cores[CALLERS * cpu + by];
-		it->callers[cpu][TASKS].rests = llfree_without_lists(0);
+			it->callers[cpu][by].rests = by != HANDLERS && llfree_without_lists(0);
+		}
 	}
 }
 
@@ -404,6 +441,16 @@ static __always_inline bool in_handler(void)
 	return preempt_count() & (HARDIRQ_MASK | SOFTIRQ_OFFSET);
 }
 
+/* Whether a handler came in the middle of a call of tasks. */
+static __always_inline bool is_inside(const struct llfree_caller *callers)
+{
+	bool inside = false;
+
+	for (unsigned int by = TASKS; by < CALLERS; by++)
+		inside |= by != HANDLERS && READ_ONCE(callers[by].is_inside);
+	return inside;
+}
+
 /* Before each call. A handler of softirqs may be interrupted by another one, so it has interrupts off. */
 static __always_inline struct llfree_caller *enter(struct llfree_zone *zone, unsigned long *flags)
 {
@@ -415,7 +462,7 @@ static __always_inline struct llfree_caller *enter(struct llfree_zone *zone, uns
 	}
 	local_irq_save(*flags);
 	callers = zone->callers[smp_processor_id()];
-	callers[HANDLERS].counts.inside += READ_ONCE(callers[TASKS].is_inside);
+	callers[HANDLERS].counts.inside += is_inside(callers);
 	return &callers[HANDLERS];
 }
 
@@ -442,12 +489,16 @@ static noinline void drain(struct zone *zone, struct llfree_caller *by)
 /* Gives back what rests with this CPU. A handler in the middle of a call of its CPU leaves that to the task. */
 static void drain_here(struct zone *zone)
 {
-	struct llfree_caller *tasks = &zone->llfree->callers[smp_processor_id()][TASKS];
+	struct llfree_caller *callers = zone->llfree->callers[smp_processor_id()];
 
-	if (READ_ONCE(tasks->is_inside))
-		WRITE_ONCE(tasks->is_asked, true);
-	else
-		drain(zone, tasks);
+	for (unsigned int by = TASKS; by < CALLERS; by++) {
+		if (!callers[by].rests)
+			continue;
+		if (READ_ONCE(callers[by].is_inside))
+			WRITE_ONCE(callers[by].is_asked, true);
+		else
+			drain(zone, &callers[by]);
+	}
 }
 
 static __always_inline void leave(struct zone *zone, struct llfree_caller *caller, unsigned long flags)
@@ -474,7 +525,13 @@ static bool seems_free(struct zone *zone, struct llfree_caller *by, unsigned int
 	return answer;
 }
 
-static __always_inline struct page *take_page(struct zone *zone, unsigned int order)
+/* A huge block leaves no room for others in its child. */
+static __always_inline bool is_apart(unsigned int order, bool can_move)
+{
+	return CALLERS > FIXED && !can_move && order < LLFREE_ORDERS - 1 && !is_mixed && !in_handler();
+}
+
+static __always_inline struct page *take_page(struct zone *zone, unsigned int order, bool can_move)
 {
 	struct llfree_zone *it = zone->llfree;
 	struct llfree_caller *caller;
@@ -487,6 +544,8 @@ static __always_inline struct page *take_page(struct zone *zone, unsigned int or
 	if (!it || order >= LLFREE_ORDERS)
 		return NULL;
 	caller = enter(it, &flags);
+	if (is_apart(order, can_move))
+		caller += FIXED - TASKS;
 	while ((status = take(it, caller, order, &frame, &rested)) != LLFREE_OK && ++tries < TRIES)
 		drain_here(zone);
 	caller->counts.retries += tries;
@@ -504,9 +563,56 @@ static __always_inline struct page *take_page(struct zone *zone, unsigned int or
 }
 
 /* Compiled for order 0 by itself. */
-struct page *llfree_take_page(struct zone *zone, unsigned int order)
+struct page *llfree_take_page(struct zone *zone, unsigned int order, bool can_move)
 {
-	return order ? take_page(zone, order) : take_page(zone, 0);
+	return order ? take_page(zone, order, can_move) : take_page(zone, 0, can_move);
+}
+
+bool llfree_begins_free(struct page *page, unsigned int *order)
+{
+	struct llfree_zone *it = page_zone(page)->llfree;
+	u32 frame = page_to_pfn(page) - it->first;
+	struct llfree_caller *caller;
+	unsigned long flags;
+	bool found;
+
+	if (page_count(page))
+		return false;
+	caller = enter(it, &flags);
+	begin_call(caller);
+	found = llfree_is_free(&caller->core, frame, 0);
+	/* the library refuses a larger block that does not begin here */
+	for (*order = 0; found && llfree_is_free(&caller->core, frame, *order + 1); )
+		++*order;
+	end_call(caller);
+	leave(page_zone(page), caller, flags);
+	return found;
+}
+
+bool llfree_take_at_page(struct page *page, unsigned int order)
+{
+	struct zone *zone = page_zone(page);
+	struct llfree_zone *it = zone->llfree;
+	u32 frame = page_to_pfn(page) - it->first;
+	struct llfree_caller *caller;
+	enum llfree_status status;
+	unsigned int tries = 0;
+	unsigned long flags;
+
+	if (only_looks)
+		return true;
+	caller = enter(it, &flags);
+	do
+		status = take_at(it, caller, frame, order);
+	while (status != LLFREE_OK && ++tries < TRIES);
+	if (status == LLFREE_OK) {
+		caller->counts.takes[order]++;
+		caller->counts.at_pages++;
+		caller->counts.wrong_bits += set_bits(it, frame, order, true);
+		count_free(zone, -(1l << order), 0);
+	}
+	leave(zone, caller, flags);
+	return status == LLFREE_OK;
 }
 
 static __always_inline void give_page(struct page *page, unsigned int order)
@@ -585,13 +691,20 @@ void llfree_drain_cpus(void)
 		on_each_cpu(drain_zones_here, NULL, true);
 }
 
+void llfree_drain_this_cpu(void)
+{
+	if (llfree_without_lists(0))
+		drain_zones_here(NULL);
+}
+
 void llfree_drain_dead_cpu(unsigned int cpu)
 {
 	struct zone *zone;
 
 	for_each_populated_zone(zone)
-		if (zone->llfree)
-			drain(zone, &zone->llfree->callers[cpu][TASKS]);
+		for (unsigned int by = TASKS; zone->llfree && by < CALLERS; by++)
+			if (by != HANDLERS)
+				drain(zone, &zone->llfree->callers[cpu][by]);
 }
 
 static void add_counts(struct llfree_counts *sums, const struct llfree_counts *counts)
@@ -620,9 +733,10 @@ void llfree_read_state(struct zone *zone, struct llfree_state *state)
 	for (unsigned int cpu = 0; cpu < nr_cpu_ids; cpu++) {
 		const struct llfree_caller *callers = it->callers[cpu];
 
-		add_counts(&state->counts, &callers[TASKS].counts);
-		add_counts(&state->counts, &callers[HANDLERS].counts);
-		state->resting += READ_ONCE(callers[TASKS].resting);
+		for (unsigned int by = TASKS; by < CALLERS; by++) {
+			add_counts(&state->counts, &callers[by].counts);
+			state->resting += READ_ONCE(callers[by].resting);
+		}
 		state->takes_in_handlers += sum(callers[HANDLERS].counts.takes);
 		state->gives_in_handlers += sum(callers[HANDLERS].counts.gives);
 	}
@@ -654,8 +768,8 @@ bool llfree_has_free(struct zone *zone, unsigned int order)
 	caller = enter(it, &flags);
 	has_huge = seems_free(zone, caller, LLFREE_ORDERS - 1);
 	leave(zone, caller, flags);
-	if (has_huge)
-		return true;
+	if (has_huge || order == LLFREE_ORDERS - 1)
+		return has_huge;
 	spin_lock_irqsave(&zone->lock, flags);
 	count_blocks(&it->words, blocks);
 	spin_unlock_irqrestore(&zone->lock, flags);

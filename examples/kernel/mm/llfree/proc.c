@@ -60,8 +60,9 @@ static void show_zone(struct seq_file *file, struct zone *zone)
 	show_row(file, "takes", state.counts.takes);
 	show_row(file, "gives", state.counts.gives);
 	show_row(file, "no block", state.counts.no_block);
-	seq_printf(file, "splits %llu, retries %llu, refused though free %llu, drained %llu\n", state.counts.splits,
-		   state.counts.retries, state.counts.refused_free, state.counts.drained);
+	seq_printf(file, "at their places %llu, splits %llu, retries %llu, refused though free %llu, drained %llu\n",
+		   state.counts.at_pages, state.counts.splits, state.counts.retries, state.counts.refused_free,
+		   state.counts.drained);
 	seq_printf(file, "in handlers: takes %llu, gives %llu, inside of a call %llu\n", state.takes_in_handlers,
 		   state.gives_in_handlers, state.counts.inside);
 	seq_printf(file, "wrong %llu, wrong bits %llu\n", state.counts.wrong, state.counts.wrong_bits);
@@ -120,9 +121,11 @@ static void give_all(struct list_head *taken, unsigned int order)
 	}
 }
 
+/* What is given rests with the core of pages that can be moved. */
 static int use_given(void)
 {
-	struct page *used = alloc_pages(GFP_KERNEL, 0), *page;
+	gfp_t can_move = GFP_KERNEL | __GFP_MOVABLE | __GFP_NOWARN | __GFP_NORETRY;
+	struct page *used = alloc_pages(can_move, 0), *page;
 	unsigned long left = totalram_pages() / 2;
 	LIST_HEAD(taken);
 	bool again = false;
@@ -131,7 +134,7 @@ static int use_given(void)
 		return -ENOMEM;
 	__free_pages(used, 0);
 	*(u64 *)page_address(used) = 0;
-	while (!again && left-- && (page = alloc_pages(GFP_KERNEL | __GFP_NOWARN | __GFP_NORETRY, 0))) {
+	while (!again && left-- && (page = alloc_pages(can_move, 0))) {
 		list_add(&page->lru, &taken);
 		again = page == used;
 	}
