@@ -70,7 +70,7 @@ enum llfree_status LLFREE_STATUS_TYPE {
                                  struct is empty */
     LLFREE_CLOSED_HANDLE = 4, /* the handle is closed */
     LLFREE_NO_MEMORY = 5,
-    LLFREE_BAD_GEOMETRY = 6,  /* not 1 to 2147483648 frames (for one thread 1 to 2097152), not 1 to 64 cores,
+    LLFREE_BAD_GEOMETRY = 6,  /* not 1 to 2147483648 frames (for one thread 1 to 2097152), not 1 to 1024 cores,
                                  or not a lawful list of zones */
     LLFREE_OPEN_HANDLE = 7,   /* the handle is open already, or the struct holds a block */
     LLFREE_CONTENDED = 8,     /* lost a race with other cores; or (tested: never seen) the library's list

@@ -32,14 +32,14 @@ private:
 class block;
 class run;
 
-// An allocator of this many frames, with 1 to 64 cores.
+// An allocator of this many frames, with 1 to 1024 cores.
 class memory {
 public:
     // The frames of the ranges, which are sorted, are never given out. Throws refused.
     memory(std::uint32_t frames, std::size_t cores, const std::vector<llfree_range> &kept = {})
-        : desks_(new llfree_desk[cores < 64 ? cores : 64]()), count_(cores)
+        : desks_(new llfree_desk[cores < 1024 ? cores : 1024]()), count_(cores)
     {
-        if (cores > 64)
+        if (cores > 1024)
             throw refused(LLFREE_BAD_GEOMETRY);
         std::vector<llfree_core> handles(cores);
         enum llfree_status status = llfree_open(handles.data(), cores, frames, kept.data(), kept.size());

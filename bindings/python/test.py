@@ -114,8 +114,9 @@ class Calls(unittest.TestCase):
             self.refused(status.NOT_HELD, core.give, *wrong)
         for frames in (-1, 0, (1 << 32) + 1024):
             self.refused(status.BAD_GEOMETRY, llfree.open, frames)
-        for cores in (0, 65, 1 << 20):
+        for cores in (0, 1025, 1 << 20):
             self.refused(status.BAD_GEOMETRY, llfree.open, 1024, cores)
+        self.assertEqual(len(llfree.open(1024, 1024)), 1024)
         for kept in ([(1 << 32, 1)], [(0, -1)], [(1024, 1)], [(8, 1), (0, 1)]):
             self.refused(status.BAD_RANGE, llfree.open, 1024, kept=kept)
         core.give(frame, 0)

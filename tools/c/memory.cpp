@@ -57,7 +57,7 @@ void blocks(llfree::memory &memory)
     CHECK(memory.free_frames() == frames && memory.free_huge() == frames / 512);
     CHECK(refusal([] { llfree::memory(0, 1); }) == LLFREE_BAD_GEOMETRY);
     CHECK(refusal([] { llfree::memory(1, 0); }) == LLFREE_BAD_GEOMETRY);
-    CHECK(refusal([] { llfree::memory(1, 65); }) == LLFREE_BAD_GEOMETRY);
+    CHECK(refusal([] { llfree::memory(1, 1025); }) == LLFREE_BAD_GEOMETRY);
     CHECK(refusal([] { llfree::memory(1, 1, { { 1, 1 } }); }) == LLFREE_BAD_RANGE);
     llfree::memory small(8, 1, { { 0, 2 }, { 6, 2 } });
     CHECK(small.frames() == 8 && small.free_frames() == 4 && !small.take(3));

@@ -5,7 +5,7 @@
 #include <stdatomic.h>
 
 enum { CORES = 4, CHILDREN = 32, FRAMES = CHILDREN * 512 };
-enum { HELD = 200, ROUNDS = 60000, CROSSING = 256, RACES = 200 };
+enum { HELD = 200, ROUNDS = 60000, CROSSING = 256, RACES = 200, MOST_CORES = 1024 };
 
 static llfree_core cores[CORES];
 static _Atomic unsigned char owner[FRAMES];
@@ -14,11 +14,10 @@ static _Atomic uint64_t crossing[CROSSING];
 /* Each status of each call, with nobody else about. */
 static void statuses(void)
 {
-    llfree_core h[2] = { LLFREE_CLOSED, LLFREE_CLOSED }, many[65];
+    llfree_core h[2] = { LLFREE_CLOSED, LLFREE_CLOSED };
     uint32_t f = 77, g = 77;
     uint8_t order = 77;
 
-    memset(many, 0, sizeof many);
     CHECK(llfree_take(&h[0], 0, &f) == LLFREE_CLOSED_HANDLE && f == 77);
     CHECK(llfree_give(&h[0], 0, 0) == LLFREE_CLOSED_HANDLE);
     CHECK(llfree_split(&h[0], 0, 1) == LLFREE_CLOSED_HANDLE);
@@ -26,7 +25,6 @@ static void statuses(void)
     CHECK(llfree_order_at(&h[0], 0, &order) == LLFREE_CLOSED_HANDLE && order == 77);
     llfree_close(&h[0]);
     CHECK(llfree_open(h, 0, 3 * 512, NULL, 0) == LLFREE_BAD_GEOMETRY);
-    CHECK(llfree_open(many, 65, 3 * 512, NULL, 0) == LLFREE_BAD_GEOMETRY);
     CHECK(llfree_open(h, 2, 0, NULL, 0) == LLFREE_BAD_GEOMETRY);
     CHECK(llfree_open(h, 2, 2147483649u, NULL, 0) == LLFREE_BAD_GEOMETRY);
     CHECK(llfree_open(h, 2, UINT32_MAX, NULL, 0) == LLFREE_BAD_GEOMETRY);
@@ -68,6 +66,33 @@ static void statuses(void)
     CHECK(llfree_take(&h[1], 0, &f) == LLFREE_OK);
     llfree_close(&h[1]);
     llfree_close(&h[1]);
+}
+
+/* As many cores as there may be: each takes frames of its own, and another gives them. */
+static void most_cores(void)
+{
+    static llfree_core many[MOST_CORES + 1];
+    static uint32_t singles[MOST_CORES], blocks[MOST_CORES];
+    static unsigned char held[FRAMES];
+
+    CHECK(llfree_open(many, MOST_CORES + 1, FRAMES, NULL, 0) == LLFREE_BAD_GEOMETRY);
+    CHECK(llfree_words(FRAMES, MOST_CORES + 1) == 0);
+    CHECK(llfree_open(many, MOST_CORES, FRAMES, NULL, 0) == LLFREE_OK);
+    for (uint32_t i = 0; i < MOST_CORES; i++) {
+        CHECK(llfree_take(&many[i], 0, &singles[i]) == LLFREE_OK && singles[i] < FRAMES && !held[singles[i]]++);
+        CHECK(llfree_take(&many[i], 3, &blocks[i]) == LLFREE_OK && blocks[i] % 8 == 0 && blocks[i] < FRAMES);
+        for (uint32_t at = blocks[i]; at < blocks[i] + 8; at++)
+            CHECK(!held[at]++);
+    }
+    CHECK(llfree_free_frames(&many[0]) == FRAMES - 9 * MOST_CORES);
+    for (uint32_t i = 0; i < MOST_CORES; i++) {
+        CHECK(llfree_give(&many[MOST_CORES - 1 - i], singles[i], 0) == LLFREE_OK);
+        CHECK(llfree_give(&many[MOST_CORES - 1 - i], singles[i], 0) == LLFREE_NOT_HELD);
+        CHECK(llfree_give(&many[i], blocks[i], 3) == LLFREE_OK);
+    }
+    CHECK(llfree_free_frames(&many[MOST_CORES - 1]) == FRAMES);
+    for (uint32_t i = 0; i < MOST_CORES; i++)
+        llfree_close(&many[i]);
 }
 
 /* A memory that ends inside a child, with ranges: just the other frames are given out, once, and blocks
@@ -529,6 +554,7 @@ static void random_numbers(void)
 int main(void)
 {
     statuses();
+    most_cores();
     holes();
     images();
     every_frame_once();

@@ -12,7 +12,7 @@ enum { ZONES = 2 };
 #else
 enum { ZONES = 8 };
 #endif
-enum { STEP = ZONE + ZONE / 2, HELD = 200, ROUNDS = 60000, CROSSING = 64 };
+enum { STEP = ZONE + ZONE / 2, HELD = 200, ROUNDS = 60000, CROSSING = 64, MOST_CORES = 1024 };
 
 static llfree_core cores[CORES];
 static _Atomic unsigned char owner[ZONES * STEP];
@@ -101,9 +101,9 @@ static void limits(opening *open)
 {
     static const llfree_range two[2] = { { 0, 512 }, { 1024, 512 } };
     static llfree_range many[MOST_ZONES + 1], ranges[MOST_RANGES + 1];
-    llfree_core h[65];
+    static llfree_core h[MOST_CORES + 1];
+    uint32_t first, last;
 
-    memset(h, 0, sizeof h);
     for (uint32_t i = 0; i <= MOST_ZONES; i++)
         many[i] = (llfree_range) { 4194304 * i, 1 + i % 3 };
     for (uint32_t i = 0; i <= MOST_RANGES; i++)
@@ -116,9 +116,13 @@ static void limits(opening *open)
     close_all(h, 2);
     CHECK(open(h, 2, many, MOST_ZONES + 1, NULL, 0) == LLFREE_BAD_GEOMETRY);
     CHECK(open(h, 0, two, 2, NULL, 0) == LLFREE_BAD_GEOMETRY);
-    CHECK(open(h, 65, two, 2, NULL, 0) == LLFREE_BAD_GEOMETRY);
-    CHECK(open(h, 64, two, 2, NULL, 0) == LLFREE_OK);
-    close_all(h, 64);
+    CHECK(open(h, MOST_CORES + 1, two, 2, NULL, 0) == LLFREE_BAD_GEOMETRY);
+    CHECK(open(h, MOST_CORES, two, 2, NULL, 0) == LLFREE_OK);
+    CHECK(llfree_take(&h[0], 0, &first) == LLFREE_OK && first < CHILD);
+    CHECK(llfree_take(&h[MOST_CORES - 1], 9, &last) == LLFREE_OK && last == 2 * CHILD);
+    CHECK(llfree_give(&h[MOST_CORES - 1], first, 0) == LLFREE_OK && llfree_give(&h[0], last, 9) == LLFREE_OK);
+    CHECK(llfree_free_frames(&h[MOST_CORES / 2]) == 2 * CHILD);
+    close_all(h, MOST_CORES);
     many[0].frames = 4 * MOST_RANGES;
     CHECK(open(h, 2, many, 2, ranges, MOST_RANGES) == LLFREE_OK);
     CHECK(llfree_free_frames(&h[1]) == 3 * MOST_RANGES + 2);

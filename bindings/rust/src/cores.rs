@@ -71,7 +71,7 @@ impl<F: Form> fmt::Debug for Core<F> {
 }
 
 impl<F: Form> Core<F> {
-    /// Opens a memory of this many frames with `N` cores, 1 to 64. All frames are free but those of `kept`, which
+    /// Opens a memory of this many frames with `N` cores, 1 to 1,024. All frames are free but those of `kept`, which
     /// ascend and are never given out.
     pub fn open<const N: usize>(frames: u32, kept: &[Range]) -> Result<[Core<F>; N], Refused> {
         // SAFETY: N closed handles, and the ranges of a slice.

@@ -7,7 +7,7 @@ use std::collections::LinkedList;
 pub struct Key {
     /// 1 to 4,096.
     pub children: u32,
-    /// 1 to 64.
+    /// 1 to 1,024.
     pub cores: u32,
     /// Frames that exist: all of the last child, or a part of it.
     pub frames: u32,

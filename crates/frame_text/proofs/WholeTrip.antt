@@ -1,5 +1,5 @@
 -- The text of an image is read back as the image.
-use Rattle.std.proofs.Common.{◌≡◌, ◌∙◌, ⊎_elim, ℕ, zero, suc, ◌+◌, ◌-◌, ◌*◌, ◌<◌, List, [], ◌∷◌}
+use Rattle.std.proofs.Common.{◌≡◌, ◌∙◌, ⊎_elim, ℕ, zero, suc, ◌+◌, ◌-◌, ◌*◌, ◌<◌, ◌≤◌, List, [], ◌∷◌}
 use Rattle.std.proofs.Common.{◌++◌, map, Bool, true, false, Option, Some, None, Result, Ok, refl}
 use Rattle.std.proofs.Common.{ap, sym, subst, arith}
 use Rattle.std.specs.Prelude.{nat_eq, nat_lt, nat_le, codes, decimal}
@@ -9,6 +9,7 @@ use Rattle.std.proofs.lemmas.Bool.Decides.{nat_tests}
 use Rattle.std.proofs.lemmas.List.{map-append}
 use Rattle.csv.specs.Reading.{default_config, records, strip_bom}
 use Rattle.csv.specs.Writing.{read_back}
+use Rattle.frame_words.specs.Geometry.{most_text_cores}
 use Rattle.frame_words.specs.declared.geometry.Geometry.{Geometry}
 use Rattle.frame_model.specs.declared.key.Key.{Key}
 use Rattle.frame_model.specs.Key.{key_of, tree_count, frame_count, AreSizes}
@@ -125,14 +126,14 @@ module _ (key : Key) (ws : List ℕ) (image : IsImage key ws) (sizes : AreSizes 
 
 -- The first record.
 
-module _ (g : Geometry) where
+module _ (g : Geometry) (few : g.cores ≤ most_text_cores) where
   key_told : key_with g.children g.cores g.frames ≡ Some (key_of g)
   unfolding key_with
   key_told =
       let a : nat_lt 0 g.children ≡ true = grind (arith, nat_tests) in
       let b : nat_le g.children 4096 ≡ true = grind (arith, nat_tests) in
       let c : nat_lt 0 g.cores ≡ true = grind (arith, nat_tests) in
-      let d : nat_le g.cores 64 ≡ true = grind (arith, nat_tests) in
+      let d : nat_le g.cores 64 ≡ true = grind (arith, nat_tests, few) in
       let e : nat_lt (512 * (g.children - 1)) g.frames ≡ true = grind (arith, nat_tests) in
       let f : nat_le g.frames (512 * g.children) ≡ true = grind (arith, nat_tests) in
       rw (a, b, c, d, e, f) refl
@@ -143,7 +144,7 @@ module _ (g : Geometry) where
   sizes_told version frames e =
       rw (
         number_below-decimal 4097 g.children (omega arith) (omega arith),
-        number_below-decimal 65 g.cores (omega arith) (omega arith),
+        number_below-decimal 65 g.cores (omega (arith, few)) (omega (arith, few)),
         e,
       ) key_told
 
@@ -247,14 +248,14 @@ module _ (key : Key) (ws : List ℕ) where
       ∙ rows_back
 
 -- what is written of an image is read back as the image
-pub image_in-rows_of : (image : Contents) → IsImage (key_in image) image.words
+pub image_in-rows_of : (image : Contents) → image.geometry.cores ≤ most_text_cores → IsImage (key_in image) image.words
     → image_in (rows_of (drawn image)) ≡ Ok (drawn image)
 unfolding rows_of image_in image_behind
-image_in-rows_of image is =
-    rw (header_told image.geometry, parts_read (key_in image) image.words is (sizes_of (key_in image) image.geometry (refl, refl, refl))) refl
+image_in-rows_of image few is =
+    rw (header_told image.geometry few, parts_read (key_in image) image.words is (sizes_of (key_in image) image.geometry (refl, refl, refl))) refl
 
-pub image_of-picture_of : (image : Contents) → IsImage (key_in image) image.words
+pub image_of-picture_of : (image : Contents) → image.geometry.cores ≤ most_text_cores → IsImage (key_in image) image.words
     → image_of (picture_of (drawn image)) ≡ Ok (drawn image)
 unfolding image_of
-image_of-picture_of image is =
-    ap image_in (records_back (key_in image) image.words) ∙ image_in-rows_of image is
+image_of-picture_of image few is =
+    ap image_in (records_back (key_in image) image.words) ∙ image_in-rows_of image few is

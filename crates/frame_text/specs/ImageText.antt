@@ -1,11 +1,12 @@
 -- Images as text: which records spell an image, and which records an image is written as.
-use Rattle.std.specs.Prelude.{ℕ, ◌≡◌, ◌+◌, ◌-◌, ◌*◌, ◌/◌, ◌%◌, ◌==◌, ◌&&◌, ◌||◌, not, Bool, true, List, [], ◌∷◌, ◌++◌}
+use Rattle.std.specs.Prelude.{ℕ, ◌≡◌, ◌<◌, ◌+◌, ◌-◌, ◌*◌, ◌/◌, ◌%◌, ◌==◌, ◌&&◌, ◌||◌, not, Bool, true, List, [], ◌∷◌, ◌++◌}
 use Rattle.std.specs.Prelude.{length, map, slice_index, codes, decimal, min, nat_eq, nat_lt, nat_le}
 use Rattle.std.specs.Prelude.{Option, Some, None, option_map, option_and_then, if◌then◌else◌, Result, Ok, Err}
 use Rattle.std.specs.List.{flat_map, list_all, range_with_len}
 use Rattle.std.specs.Int.{bit_at}
 use Rattle.std.specs.Str.{bytes_eq}
 use Rattle.csv.specs.Writing.{default_writer, row_text}
+use Rattle.frame_words.specs.Geometry.{most_text_cores}
 use Rattle.frame_words.specs.Words.{flag, entry_word, local_word}
 use Rattle.frame_words.specs.declared.fault.Fault.{Fault}
 use Rattle.frame_words.specs.declared.fault.Fault.TheVariants as fault
@@ -211,6 +212,12 @@ IsReadingFault fault.ReadFailed = Unit {0}
 IsReadingFault _ = ⊥
 
 -- Writing.
+
+-- why an image has no text: it has too many cores, or memory ran out
+abbrev pub HasNoText : Key → Fault → Type 0
+HasNoText key fault.BadGeometry = most_text_cores < key.cores
+HasNoText key fault.NoMemory = Unit {0}
+HasNoText key _ = ⊥
 
 -- the first record; version 2 where the memory ends inside a child
 unfoldable pub header_row : Key → List (List ℕ)

@@ -1,10 +1,11 @@
 //! How a text is read as an image.
 
-ghost use Rattle.std.specs.Prelude.{◌≡◌, ◌<◌, ◌∷◌, ◌⊎◌, [], ℕ, length, true, false, Ok, Err, Some, None};
+ghost use Rattle.std.specs.Prelude.{◌≡◌, ◌<◌, ◌≤◌, ◌∷◌, ◌⊎◌, [], ℕ, length, true, false, Ok, Err, Some, None};
 ghost use Rattle.std.specs.Prelude.{IfErr, IfOk, IfSome, IsErrOf, OnOk};
 ghost use Rattle.std.specs.Bool.{OnTrue, OnFalse};
 ghost use Rattle.csv.specs.Records.{fields_of};
 ghost use Rattle.frame_core.specs.Image.{key_in};
+ghost use Rattle.frame_words.specs.Geometry.{most_text_cores};
 ghost use Rattle.frame_model.specs.Key.{key_of};
 ghost use Rattle.frame_text.specs.ImageText as Spec;
 ghost use Rattle.frame_text.specs.ImageText.{drawn, Explains, ExplainsParts, IsReadingFault};
@@ -28,6 +29,7 @@ use std::io::Read;
 #[tactic(auto, unfolding(crate::specs::ImageText::image_of, crate::specs::ImageText::image_in, crate::specs::ImageText::image_behind))]
 pub fn image_of(alloc: Global, text: &[u8]) -> Result<Image, Fault>
     ensures found { IfOk result (λ image. Spec.image_of text.now ≡ Ok (drawn image)) }
+    ensures few { IfOk result (λ image. image.geometry.cores ≤ most_text_cores) }
     ensures refused { IfErr result (λ e. Explains e (Spec.image_of text.now)) }
 {
     let mut records = RecordReader::new(alloc, text);

@@ -1,16 +1,17 @@
 //! The text of an image.
 
-ghost use Rattle.std.specs.Prelude.{◌≡◌, ◌≢◌, ◌++◌, ◌<◌, ◌∷◌, [], decimal, codes, true, false};
-ghost use Rattle.std.specs.Prelude.{IfErr, IfOk, IsErrOf, Ok, OnOk};
+ghost use Rattle.std.specs.Prelude.{◌≡◌, ◌≢◌, ◌++◌, ◌<◌, ◌≤◌, ◌∷◌, [], decimal, codes, true, false};
+ghost use Rattle.std.specs.Prelude.{Err, IfErr, IfOk, IsErrOf, Ok, OnOk};
 ghost use Rattle.std.specs.Io.KnownBytes.{Appends};
 ghost use Rattle.frame_text.specs.Devices.{device_of, has_failed, WritesFront};
 ghost use Rattle.std.specs.List.{range_with_len};
 ghost use Rattle.csv.specs.Writing.{default_writer, row_text};
+ghost use Rattle.frame_words.specs.Geometry.{most_text_cores};
 ghost use Rattle.frame_words.specs.Words.{flag};
 ghost use Rattle.frame_model.specs.Key.{key_of, tree_count};
 ghost use Rattle.frame_core.specs.Image.{key_in};
 ghost use Rattle.frame_text.specs.ImageText.{drawn, image_of, picture_of, text_of};
-ghost use Rattle.frame_text.specs.ImageText.{rest_row};
+ghost use Rattle.frame_text.specs.ImageText.{HasNoText, rest_row};
 ghost use Rattle.frame_text.specs.ImageText.{header_row, child_row, tree_row, core_row};
 ghost use Rattle.frame_text.specs.ImageText.{child_rows, tree_rows, core_rows};
 
@@ -19,29 +20,36 @@ use crate::devices::write_out;
 use crate::record_writer::RecordWriter;
 use crate::watched::Watched;
 use frame_core::Image;
-use frame_words::{CHILD_FRAMES, Fault, Geometry};
+use frame_words::{CHILD_FRAMES, Fault, Geometry, MOST_TEXT_CORES};
 use itoa::Buffer;
 use std::alloc::Global;
 use std::io::Write;
 
-/// The text of an image. It reads back as the same image.
+/// The text of an image. It reads back as the same image. `BadGeometry` where that has more than 64
+/// cores, which no text says.
 pub fn image_text(alloc: Global, image: &Image) -> Result<Vec<u8>, Fault>
     ensures text { IfOk result (λ text. text.items ≡ picture_of (drawn image.now)) }
     ensures read_back { IfOk result (λ text. image_of text.items ≡ Ok (drawn image.now)) }
-    ensures fault { IfErr result (λ e. e ≡ Fault.NoMemory) }
+    ensures cores { most_text_cores < image.now.geometry.cores → result ≡ Err Fault.BadGeometry }
+    ensures refused { IfErr result (HasNoText (key_in image.now)) }
 {
     let geometry = image.geometry();
+    if geometry.cores() > MOST_TEXT_CORES {
+        return Err(Fault::BadGeometry);
+    }
     all_records(alloc, geometry, image)
 }
 
-/// Each image is what its text says, whether or not there is memory to make that text.
+/// Each image of at most 64 cores is what its text says, whether or not there is memory to make that text.
 pub fn every_image_reads_back(image: &Image)
-    ensures { image_of (picture_of (drawn image.now)) ≡ Ok (drawn image.now) }
+    ensures { image.now.geometry.cores ≤ most_text_cores
+        → image_of (picture_of (drawn image.now)) ≡ Ok (drawn image.now) }
 {
     let _geometry = image.geometry();
 }
 
 /// Writes the text of an image, all of it; the text is made before the first byte is written.
+/// `BadGeometry` where the image has more than 64 cores.
 pub fn write_image<W: Write>(
     alloc: Global,
     output: &mut Watched<W>,
@@ -51,12 +59,13 @@ pub fn write_image<W: Write>(
         (W.contents (device_of output.new)) (picture_of (drawn image.now))) }
     ensures sound { OnOk result (has_failed output.new ≡ false) }
 
-    // A write failed, and a front of the text was written; else memory ran out, and nothing was.
+    // A write failed, and a front of the text was written; else there was no text, and nothing was.
     ensures write_failed { IsErrOf result Fault.WriteFailed → (has_failed output.new ≡ true)
         × WritesFront (W.contents (device_of output.old)) (W.contents (device_of output.new))
         (picture_of (drawn image.now)) }
     ensures untouched { IfErr result (λ e. e ≢ Fault.WriteFailed
-        → (e ≡ Fault.NoMemory) × (output.new ≡ output.old)) }
+        → HasNoText (key_in image.now) e × (output.new ≡ output.old)) }
+    ensures cores { most_text_cores < image.now.geometry.cores → result ≡ Err Fault.BadGeometry }
 {
     let text = image_text(alloc, image)?;
     write_out(output, text.as_slice())

@@ -35,11 +35,20 @@ most_trees = 512
 
 -- the most cores that may use memory
 abbrev pub most_cores : ℕ
-most_cores = 64
+most_cores = 1024
+
+-- the most cores of the program, and of an image's text
+abbrev pub most_text_cores : ℕ
+most_text_cores = 64
 
 -- from 1 to 4,096 children and from 1 to 64 cores
 abbrev pub IsWithinLimits : ℕ → ℕ → Type 0
 IsWithinLimits children cores =
+    (1 ≤ children) × (children ≤ most_children) × (1 ≤ cores) × (cores ≤ most_text_cores)
+
+-- from 1 to 4,096 children and from 1 to 1,024 cores
+abbrev pub IsForMachine : ℕ → ℕ → Type 0
+IsForMachine children cores =
     (1 ≤ children) × (children ≤ most_children) × (1 ≤ cores) × (cores ≤ most_cores)
 
 -- memory of so many frames ends in the last of so many children

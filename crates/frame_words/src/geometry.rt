@@ -3,11 +3,13 @@
 ghost use Rattle.std.specs.Prelude.{◌≡◌, ◌+◌, ◌-◌, ◌*◌, ◌/◌, ◌<◌, ◌≤◌, ◌↔◌};
 ghost use Rattle.std.specs.Prelude.{Err, IsOk, IfOk, IfErr};
 ghost use Rattle.frame_words.specs.Geometry.{child_frames, tree_frames, most_children, most_trees};
-ghost use Rattle.frame_words.specs.Geometry.{most_cores, IsWithinLimits, EndsInLastChild};
+ghost use Rattle.frame_words.specs.Geometry.{most_cores, IsWithinLimits, IsForMachine, EndsInLastChild};
 ghost use Rattle.frame_words.specs.Geometry.{trees_for, tree_size};
 
 use super::fault::Fault;
-use super::sizes::{CHILD_FRAMES, MOST_CHILDREN, MOST_CORES, TREE_CHILDREN, TREE_FRAMES};
+use super::sizes::{
+    CHILD_FRAMES, MOST_CHILDREN, MOST_CORES, MOST_TEXT_CORES, TREE_CHILDREN, TREE_FRAMES,
+};
 
 /// How many children and frames memory has, and how many cores use it. Only the last child may
 /// have fewer frames than 512.
@@ -32,15 +34,10 @@ impl Geometry {
         ensures whole { IfOk result (λ g. g.frames ≡ child_frames * children) }
         ensures refused { IfErr result (λ e. e ≡ Fault.BadGeometry) }
     {
-        if children < 1 || children > MOST_CHILDREN || cores < 1 || cores > MOST_CORES {
+        if cores > MOST_TEXT_CORES {
             return Err(Fault::BadGeometry);
         }
-        let frames = CHILD_FRAMES * children;
-        Ok(Geometry {
-            children,
-            cores,
-            frames,
-        })
+        Geometry::whole(children, cores)
     }
 
     /// So many frames, of which the last child may have fewer than 512. The numbers of children
@@ -54,10 +51,42 @@ impl Geometry {
         ensures range { (result ≡ Err Fault.BadRange) ↔
             (IsWithinLimits children cores × (¬ EndsInLastChild children frames)) }
     {
-        let whole = Geometry::new(children, cores)?;
+        Geometry::new(children, cores)?;
+        Geometry::for_machine(children, cores, frames)
+    }
+
+    /// The same for 1 to 1,024 cores: more than the program runs, and than the text of an image says.
+    pub fn for_machine(children: u32, cores: u32, frames: u32) -> Result<Geometry, Fault>
+        ensures within { IsOk result ↔
+            (IsForMachine children cores × EndsInLastChild children frames) }
+        ensures made { IfOk result (λ g. (g.children ≡ children) × (g.cores ≡ cores)) }
+        ensures frames { IfOk result (λ g. g.frames ≡ frames) }
+        ensures sizes { (result ≡ Err Fault.BadGeometry) ↔ (¬ IsForMachine children cores) }
+        ensures range { (result ≡ Err Fault.BadRange) ↔
+            (IsForMachine children cores × (¬ EndsInLastChild children frames)) }
+    {
+        let whole = Geometry::whole(children, cores)?;
         if frames > whole.frames || frames <= whole.frames - CHILD_FRAMES {
             return Err(Fault::BadRange);
         }
+        Ok(Geometry {
+            children,
+            cores,
+            frames,
+        })
+    }
+
+    // Whole children, for a machine.
+    fn whole(children: u32, cores: u32) -> Result<Geometry, Fault>
+        ensures within { IsOk result ↔ IsForMachine children cores }
+        ensures made { IfOk result (λ g. (g.children ≡ children) × (g.cores ≡ cores)) }
+        ensures whole { IfOk result (λ g. g.frames ≡ child_frames * children) }
+        ensures refused { IfErr result (λ e. e ≡ Fault.BadGeometry) }
+    {
+        if children < 1 || children > MOST_CHILDREN || cores < 1 || cores > MOST_CORES {
+            return Err(Fault::BadGeometry);
+        }
+        let frames = CHILD_FRAMES * children;
         Ok(Geometry {
             children,
             cores,

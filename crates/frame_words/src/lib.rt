@@ -20,6 +20,6 @@ pub use masks::mask;
 pub use runs::{find_run, find_words};
 pub use sizes::{
     CHILD_FRAMES, CHILD_WORDS, FLAG, HUGE_ORDER, LANE_BITS, LANES, MOST_CHILDREN, MOST_CORES,
-    MOST_FRAMES, TREE_CHILDREN, TREE_FRAMES, WORD_FRAMES, WORD_ORDER, frames_of,
+    MOST_FRAMES, MOST_TEXT_CORES, TREE_CHILDREN, TREE_FRAMES, WORD_FRAMES, WORD_ORDER, frames_of,
 };
 pub use tree_word::{tree, tree_free, tree_reserved};

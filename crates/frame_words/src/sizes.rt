@@ -37,7 +37,10 @@ pub const MOST_CHILDREN: u32 = 4096;
 pub const MOST_FRAMES: u32 = CHILD_FRAMES * MOST_CHILDREN;
 
 /// The most cores that may use memory.
-pub const MOST_CORES: u32 = 64;
+pub const MOST_CORES: u32 = 1024;
+
+/// The most cores of the program, and of an image's text.
+pub const MOST_TEXT_CORES: u32 = 64;
 
 /// The flag of an entry and of a tree word, above the free frames.
 pub const FLAG: u64 = 32768;

@@ -4,7 +4,7 @@ use Rattle.std.proofs.lemmas.Bool.{cases_eq}
 use Rattle.std.proofs.lemmas.List.{get_or_append_left, get_or_push, length_push, reverse-append, drop_more, get_or_default, get_or-take, get_or-drop}
 use Rattle.std.proofs.lemmas.List.Elements.{All-push, All-get_or, All-append, All-map, All-weaker}
 use Rattle.frame_zones.specs.Openings.{home_for}
-use Rattle.frame_zones.specs.Pairs.{core_for, cores_in, ArePairOf, IsPairFrom, ArePairsOf, ArePaired}
+use Rattle.frame_zones.specs.Pairs.{core_for, cores_of_pairs, ArePairOf, IsPairFrom, ArePairsOf, ArePaired}
 use Rattle.frame_zones.specs.Zones.{zone_count, AreCoresOf}
 use Rattle.frame_zones.specs.declared.pairs.PairCore.{PairCore}
 use Rattle.frame_zones.specs.declared.zones.Zones.{Zones}
@@ -92,7 +92,7 @@ last_holds P i all left rest x every was is within =
 
 -- the cores of pairs are cores of the zones
 pub cores_are : (zs : Zones) (pairs : List PairCore) (cores : List ZoneCore) → All (ArePairOf zs) pairs
-    → cores ≡ cores_in pairs → All (AreCoresOf zs) cores
+    → cores ≡ cores_of_pairs pairs → All (AreCoresOf zs) cores
 cores_are zs pairs cores every is =
     subst (λ (l : List ZoneCore). All (AreCoresOf zs) l) (sym is)
     (All-append (AreCoresOf zs) (map (λ (p : PairCore). p.small) pairs) (map (λ (p : PairCore). p.huge) pairs)

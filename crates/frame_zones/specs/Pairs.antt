@@ -54,5 +54,5 @@ pub record ArePaired (zones : ℕ) (cores : List ZoneCore) (pairs : List PairCor
       (slice_index_or cores (length pairs + k) d) (slice_index_or pairs k p)
 
 -- the cores of pairs: those for small blocks, in order, and then those for huge frames
-abbrev pub cores_in : List PairCore → List ZoneCore
-cores_in pairs = map (λ p. p.small) pairs ++ map (λ p. p.huge) pairs
+abbrev pub cores_of_pairs : List PairCore → List ZoneCore
+cores_of_pairs pairs = map (λ p. p.small) pairs ++ map (λ p. p.huge) pairs

@@ -8,7 +8,7 @@ ghost use Rattle.frame_table.specs.Seats.{block_in};
 ghost use Rattle.frame_zones.specs.FreeCounts.{free_frames_in, free_huge_in, HasReadEntries, IsCountAmong};
 ghost use Rattle.frame_zones.specs.FreeCounts.{frames_among, entry_words_among};
 ghost use Rattle.frame_zones.specs.Homes.{MovesHome};
-ghost use Rattle.frame_zones.specs.Pairs.{core_for, core_for_block, cores_in, ArePairOf, StayPairFor, IsPairFrom};
+ghost use Rattle.frame_zones.specs.Pairs.{core_for, core_for_block, cores_of_pairs, ArePairOf, StayPairFor, IsPairFrom};
 ghost use Rattle.frame_zones.specs.Pairs.{ArePaired, ArePairsOf};
 ghost use Rattle.frame_zones.specs.Places.{TakesPlaceAmong, MovesForPlace};
 ghost use Rattle.frame_zones.specs.Splits.{SplitsIn};
@@ -233,7 +233,7 @@ impl Zones {
         pairs: Vec<PairCore>,
     ) -> Result<Vec<ZoneCore>, Vec<PairCore>>
         requires { All (ArePairOf self.now) pairs.items }
-        ensures cores { IfOk result (λ cores. cores.items ≡ cores_in pairs.items) }
+        ensures cores { IfOk result (λ cores. cores.items ≡ cores_of_pairs pairs.items) }
         ensures are_cores { IfOk result (λ cores. All (AreCoresOf self.now) cores.items) }
         ensures same { IfErr result (λ same. same ≡ pairs) }
     {
@@ -256,7 +256,7 @@ fn unpaired(
     requires none { (for_small.items ≡ []) × (for_huge.items ≡ []) }
     requires room { vec_len pairs + vec_len pairs ≤ vec_capacity for_small }
     requires room_for_huge { vec_len pairs ≤ vec_capacity for_huge }
-    ensures { result.items ≡ cores_in pairs.items }
+    ensures { result.items ≡ cores_of_pairs pairs.items }
 {
     for pair in pairs {
         let PairCore { small, huge } = pair;

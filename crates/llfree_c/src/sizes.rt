@@ -12,7 +12,7 @@ pub(crate) fn geometry_of(frames: u32, cores: u32) -> Result<Geometry, u32>
     ensures lawful { IfOk result (λ _. AreMemorySizes frames cores) }
     ensures err { IfErr result (HasNoSizes frames cores) }
 {
-    match Geometry::with_frames(frames.div_ceil(CHILD_FRAMES), cores, frames) {
+    match Geometry::for_machine(frames.div_ceil(CHILD_FRAMES), cores, frames) {
         Ok(geometry) => Ok(geometry),
         Err(_) => Err(BAD_GEOMETRY),
     }

@@ -73,11 +73,12 @@ other_image text out = (
 -- Refusals.
 
 other_fault : (geometry : Geometry) (text : List ℕ) (f : Fault) → f ≢ fault.NoMemory → f ≢ fault.BadRange
-    → ((n : ℕ) → f ≢ fault.BadTrace n) → ¬ ExplainsRun geometry text f
-other_fault geometry text fault.NoMemory memory range record_ why = memory refl
-other_fault geometry text fault.BadRange memory range record_ why = range refl
-other_fault geometry text (fault.BadTrace n) memory range record_ why = record_ n refl
-other_fault geometry text _ memory range record_ why = why
+    → ((n : ℕ) → f ≢ fault.BadTrace n) → f ≢ fault.BadGeometry → ¬ ExplainsRun geometry text f
+other_fault geometry text fault.NoMemory memory range record_ cores why = memory refl
+other_fault geometry text fault.BadRange memory range record_ cores why = range refl
+other_fault geometry text (fault.BadTrace n) memory range record_ cores why = record_ n refl
+other_fault geometry text fault.BadGeometry memory range record_ cores why = cores refl
+other_fault geometry text _ memory range record_ cores why = why
 
 pub other_record : OtherRecordIsRefused
 other_record geometry text = (
@@ -90,6 +91,7 @@ other_record geometry text = (
     λ n other why. other (same_err _ n lowest why says),
     λ why. not_both _ why.lines lowest why.says says,
   ),
+  λ few why. absurd (omega (arith, few, why)),
   other_fault geometry text,
 )
 

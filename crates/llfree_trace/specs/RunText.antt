@@ -1,5 +1,5 @@
 -- The text that a run of a trace shows, and why a trace is not run.
-use Rattle.std.specs.Prelude.{ℕ, ◌≡◌, ◌≢◌, List, Ok}
+use Rattle.std.specs.Prelude.{ℕ, ◌≡◌, ◌≢◌, ◌<◌, List, Ok}
 use Rattle.core_frames.specs.Ranges.{MayHoldBack}
 use Rattle.frame_core.specs.Image.{Contents, key_in}
 use Rattle.frame_model.specs.Laws.{AddsUp}
@@ -7,6 +7,7 @@ use Rattle.frame_model.specs.Report.{free_frames, held_frames}
 use Rattle.frame_text.specs.ImageText.{drawn, picture_of}
 use Rattle.frame_model.specs.declared.block.FrameBlock.{FrameBlock}
 use Rattle.frame_model.specs.declared.key.Key.{Key}
+use Rattle.frame_words.specs.Geometry.{most_text_cores}
 use Rattle.frame_words.specs.declared.fault.Fault.{Fault}
 use Rattle.frame_words.specs.declared.fault.Fault.TheVariants as fault
 use Rattle.frame_words.specs.declared.geometry.Geometry.{Geometry}
@@ -57,7 +58,9 @@ pub record HasBadRanges (geometry : Geometry) (text : List ℕ) : Type 0 where
   pub says : trace_of geometry.cores text ≡ Ok lines
   pub unlawful : ¬ MayHoldBack geometry (ranges_in lines)
 
--- why a trace was not run: the text says none, or its ranges may not be held back
+-- why a trace was not run: there are more cores than the program has, the text says none, or its ranges may not be
+-- held back
 abbrev pub ExplainsRun : Geometry → List ℕ → Fault → Type 0
+ExplainsRun geometry text fault.BadGeometry = most_text_cores < geometry.cores
 ExplainsRun geometry text fault.BadRange = HasBadRanges geometry text
 ExplainsRun geometry text f = ExplainsTrace f (trace_of geometry.cores text)

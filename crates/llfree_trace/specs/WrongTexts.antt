@@ -68,7 +68,7 @@ OtherImageIsShown = (text out : List ℕ)
 -- Refusals.
 
 -- no record is refused of a text that says a trace, none but the lowest of one that says none; ranges are refused of a
--- trace alone, and where they may not be held back; and nothing else is refused but memory
+-- trace alone, and where they may not be held back; cores only above 64; and nothing else is refused but memory
 abbrev pub OtherRecordIsRefused : Type 0
 OtherRecordIsRefused = (geometry : Geometry) (text : List ℕ)
     → ((lines : List Line) → trace_of geometry.cores text ≡ Ok lines
@@ -77,8 +77,9 @@ OtherRecordIsRefused = (geometry : Geometry) (text : List ℕ)
     × ((lowest : ℕ) → trace_of geometry.cores text ≡ Err lowest
     → ((n : ℕ) → n ≢ lowest → ¬ ExplainsRun geometry text (fault.BadTrace n))
     × (¬ ExplainsRun geometry text fault.BadRange))
+    × (geometry.cores ≤ 64 → ¬ ExplainsRun geometry text fault.BadGeometry)
     × ((f : Fault) → f ≢ fault.NoMemory → f ≢ fault.BadRange → ((n : ℕ) → f ≢ fault.BadTrace n)
-    → ¬ ExplainsRun geometry text f)
+    → f ≢ fault.BadGeometry → ¬ ExplainsRun geometry text f)
 
 -- the same of a text that says an image, or none
 abbrev pub OtherPartIsRefused : Type 0

@@ -1,6 +1,7 @@
 //! Runs on several cores from a reader to a writer.
 
-ghost use Rattle.std.specs.Prelude.{◌≡◌, IfErr, IfOk};
+ghost use Rattle.std.specs.Prelude.{◌≡◌, ◌≤◌, IfErr, IfOk};
+ghost use Rattle.frame_words.specs.Geometry.{most_text_cores};
 ghost use Rattle.held_blocks.specs.Desk.{MayRefuse};
 ghost use Rattle.llfree_trace.specs.RunText.{ExplainsRun, IsRunOf, shown_of};
 ghost use Rattle.llfree_trace.specs.Streams.{Filters};
@@ -10,7 +11,7 @@ use crate::many_cores::run_trace;
 use crate::outcome::Outcome;
 use crate::streams::{Show, frames_in};
 use frame_text::{Watched, image_text, read_all, write_out};
-use frame_words::{Fault, Geometry};
+use frame_words::{Fault, Geometry, MOST_TEXT_CORES};
 use std::alloc::Global;
 use std::io::{Read, Write};
 use std::sync::Wait;
@@ -21,7 +22,8 @@ use trace_text::{answers_apart, parse_parts};
 /// writes what is to be shown.
 ///
 /// A text of 64 KiB or more is read, and 4,096 answers or more are spelled, on as many threads at once as
-/// there are cores. All text is made before the first byte is written.
+/// there are cores. All text is made before the first byte is written. `BadGeometry` where there are more
+/// than 64 cores.
 pub fn run_many_over<Rt: Threads + Wait, G: Gate, R: Read, W: Write>(
     rt: &Rt,
     alloc: Global,
@@ -51,6 +53,9 @@ fn run_many_text<Rt: Threads + Wait, G: Gate>(
     ensures ok { IfOk result (λ out. IsRunOf MayRefuse geometry show text.now out.items) }
     ensures err { IfErr result (ExplainsRun geometry text.now) }
 {
+    if geometry.cores() > MOST_TEXT_CORES {
+        return Err(Fault::BadGeometry);
+    }
     let trace = parse_parts(rt, alloc, &geometry, text)?;
     let outcome = run_trace(rt, alloc, geometry, &trace, gate)?;
     shown_apart(rt, alloc, show, &outcome)
@@ -63,6 +68,7 @@ fn shown_apart<Rt: Threads + Wait>(
     show: Show,
     outcome: &Outcome,
 ) -> Result<Vec<u8>, Fault>
+    requires { outcome.now.image.geometry.cores ≤ most_text_cores }
     ensures text { IfOk result (λ text. text.items ≡ shown_of show outcome.now.answers.items
         outcome.now.image) }
     ensures fault { IfErr result (λ e. e ≡ Fault.NoMemory) }

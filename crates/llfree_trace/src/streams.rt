@@ -1,6 +1,7 @@
 //! Runs from a reader to a writer.
 
-ghost use Rattle.std.specs.Prelude.{◌≡◌, IfErr, IfOk};
+ghost use Rattle.std.specs.Prelude.{◌≡◌, ◌≤◌, IfErr, IfOk};
+ghost use Rattle.frame_words.specs.Geometry.{most_text_cores};
 ghost use Rattle.frame_core.specs.Image.{key_in};
 ghost use Rattle.frame_model.specs.Report.{free_frames as frames_free, held_frames as frames_held};
 ghost use Rattle.llfree_trace.specs.Outcome.{MustRefuseHere};
@@ -58,6 +59,7 @@ fn run_text(alloc: Global, geometry: Geometry, show: Show, text: &[u8]) -> Resul
 
 // What is shown of an outcome.
 fn shown_text(alloc: Global, show: Show, outcome: &Outcome) -> Result<Vec<u8>, Fault>
+    requires { outcome.now.image.geometry.cores ≤ most_text_cores }
     ensures text { IfOk result (λ text. text.items ≡ shown_of show outcome.now.answers.items
         outcome.now.image) }
     ensures fault { IfErr result (λ e. e ≡ Fault.NoMemory) }

@@ -16,7 +16,7 @@ use std::alloc::Global;
 
 /// The spans of zones with these first frames and so many frames each, for so many cores; each holds
 /// back what it has of the ranges. Refused as `BadGeometry` where zones may not lie so or there are not
-/// 1 to 64 cores, else as `BadRange` where the ranges may not be held back, else for lack of memory.
+/// 1 to 1,024 cores, else as `BadRange` where the ranges may not be held back, else for lack of memory.
 pub fn spans_of(
     alloc: Global,
     cores: u32,
@@ -59,7 +59,7 @@ fn span_of(
     requires ranges { AreRangesApart ranges.now }
     ensures { IfOk result (λ span. IsSpanOf cores ranges.now (first, frames) span) }
 {
-    let geometry = Geometry::with_frames(frames.div_ceil(CHILD_FRAMES), cores, frames)?;
+    let geometry = Geometry::for_machine(frames.div_ceil(CHILD_FRAMES), cores, frames)?;
     let ranges = pieces_in(alloc, first, frames, ranges)?;
     Ok(Span {
         first: u64::from(first),

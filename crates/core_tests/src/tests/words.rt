@@ -1,8 +1,8 @@
 //! The worked values of the words, the masks and the searches, and the text of each refusal.
 
 use frame_words::{
-    Fault, TakeFault, entry, entry_free, entry_huge, find_run, find_words, lane, local, local_of,
-    mask, tree, tree_free, tree_reserved, with_lane,
+    Fault, Geometry, TakeFault, entry, entry_free, entry_huge, find_run, find_words, lane, local,
+    local_of, mask, tree, tree_free, tree_reserved, with_lane,
 };
 use std::test::Fail;
 
@@ -45,6 +45,28 @@ fn each_refusal_of_a_take_is_a_fault(rt: HostRuntime) -> Result<(), Fail> {
         assert!(rt; Fault::from(fault).to_string(rt.alloc())?.as_str() == text);
     }
     Ok(())
+}
+
+#[test]
+fn a_machine_has_more_cores_than_a_text(rt: HostRuntime) {
+    for (cores, in_a_text, in_a_machine) in [
+        (0, false, false),
+        (1, true, true),
+        (64, true, true),
+        (65, false, true),
+        (1024, false, true),
+        (1025, false, false),
+    ] {
+        assert!(rt; Geometry::new(1, cores).is_ok() == in_a_text, "{cores}");
+        assert!(rt;
+            Geometry::with_frames(1, cores, 300).is_ok() == in_a_text,
+            "{cores}"
+        );
+        assert!(rt;
+            Geometry::for_machine(1, cores, 300).is_ok() == in_a_machine,
+            "{cores}"
+        );
+    }
 }
 
 #[test]

@@ -5,7 +5,7 @@ ghost use Rattle.std.specs.Prelude.{◌≤◌};
 use super::texts::{CUT, HURT, SPLIT, spelled};
 use frame_core::Image;
 use frame_image::{image_of, image_text, rebuild};
-use frame_words::Fault;
+use frame_words::{Fault, Geometry};
 use plain_moves::PlainMoves;
 use std::alloc::Global;
 use std::test::Fail;
@@ -37,6 +37,19 @@ fn a_rebuilt_image_is_opened_again(rt: HostRuntime) -> Result<(), Fail> {
         let again = reopened(rt.alloc(), text.as_slice())?;
         let written = image_text(rt.alloc(), &again)?;
         assert!(rt; written.as_slice() == want.as_slice(), "{before}");
+    }
+    Ok(())
+}
+
+#[test]
+fn an_image_of_65_cores_has_no_text(rt: HostRuntime) -> Result<(), Fail> {
+    for (cores, fault) in [
+        (64, None),
+        (65, Some(Fault::BadGeometry)),
+        (1024, Some(Fault::BadGeometry)),
+    ] {
+        let image = Image::new(rt.alloc(), &Geometry::for_machine(1, cores, 512)?)?;
+        assert!(rt; image_text(rt.alloc(), &image).err() == fault, "{cores}");
     }
     Ok(())
 }
