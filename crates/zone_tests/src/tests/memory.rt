@@ -1,6 +1,6 @@
 //! A memory of two zones, with holes between them and in each.
 
-ghost use Rattle.std.specs.Prelude.{IfOk, IfSome};
+ghost use Rattle.std.specs.Prelude.{◌≡◌, IfOk, IfSome, length};
 ghost use Rattle.std.specs.List.{All};
 ghost use Rattle.frame_zones.specs.Zones.{AreCoresOf};
 
@@ -25,7 +25,9 @@ pub(super) fn open_two(
     children: u32,
     cores: u32,
 ) -> Result<(Zones, Vec<ZoneCore>), Fault>
-    ensures { IfOk result (λ r. All (AreCoresOf r.0) r.1.items) }
+    ensures cores { IfOk result (λ r. All (AreCoresOf r.0) r.1.items) }
+    ensures count { IfOk result (λ r. length r.1.items ≡ cores) }
+    ensures as_many { IfOk result (λ r. r.0.cores ≡ cores) }
 {
     let geometry = Geometry::new(children, cores)?;
     let mut spans = Vec::with_capacity(alloc, 2)?;

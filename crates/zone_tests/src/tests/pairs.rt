@@ -74,6 +74,15 @@ fn taken_by(zones: &Zones, pair: &mut PairCore, order: u8) -> Result<u64, TakeFa
     }
 }
 
+// A single frame and a huge frame, which are these.
+fn takes_both(rt: &impl Abort, zones: &Zones, pair: &mut PairCore, single: u64, huge: u64)
+    requires { ArePairOf zones.now pair.old }
+    ensures { ArePairOf zones.now pair.new }
+{
+    assert!(rt; taken_by(zones, pair, 0) == Ok(single));
+    assert!(rt; taken_by(zones, pair, 9) == Ok(huge));
+}
+
 // A single frame and a huge frame in turn, nine times, from these on.
 fn takes_in_turn(rt: &impl Abort, zones: &Zones, pair: &mut PairCore, single: u64, huge: u64)
     requires pair { ArePairOf zones.now pair.old }
@@ -81,16 +90,15 @@ fn takes_in_turn(rt: &impl Abort, zones: &Zones, pair: &mut PairCore, single: u6
     requires huge { huge < 2 ^ 32 }
     ensures { ArePairOf zones.now pair.new }
 {
-    for turn in 0..9u64 {
-        assert!(rt;
-            taken_by(zones, pair, 0) == Ok(single + turn),
-            "turn {turn}"
-        );
-        assert!(rt;
-            taken_by(zones, pair, 9) == Ok(huge + 512 * turn),
-            "turn {turn}"
-        );
-    }
+    takes_both(rt, zones, pair, single, huge);
+    takes_both(rt, zones, pair, single + 1, huge + 512);
+    takes_both(rt, zones, pair, single + 2, huge + 1024);
+    takes_both(rt, zones, pair, single + 3, huge + 1536);
+    takes_both(rt, zones, pair, single + 4, huge + 2048);
+    takes_both(rt, zones, pair, single + 5, huge + 2560);
+    takes_both(rt, zones, pair, single + 6, huge + 3072);
+    takes_both(rt, zones, pair, single + 7, huge + 3584);
+    takes_both(rt, zones, pair, single + 8, huge + 4096);
 }
 
 // Cores 0 to 3 begin in trees 0, 2, 4 and 6 of eight, which have 4,096 frames each.
@@ -105,25 +113,29 @@ fn a_pair_takes_small_blocks_and_huge_frames_of_two_trees(rt: HostRuntime) -> Re
     Ok(())
 }
 
+// The same through a single core.
+fn takes_of_one(rt: &impl Abort, zones: &Zones, core: &mut ZoneCore, single: u64, huge: u64)
+    requires { AreCoresOf zones.now core.old }
+    ensures { AreCoresOf zones.now core.new }
+{
+    assert!(rt; taken(zones, core, 0) == Ok(single));
+    assert!(rt; taken(zones, core, 9) == Ok(huge));
+}
+
 // The eighth huge frame is in the second tree, and the single frames follow it there.
 #[test]
 fn a_single_core_takes_them_of_one_tree(rt: HostRuntime) -> Result<(), Fail> {
     let (zones, mut cores) = open_trees(rt.alloc(), 1)?;
     let mut core = next_core(&zones, &mut cores).ok_or("a core")?;
-    for (single, huge) in [
-        (0, 512),
-        (1, 1024),
-        (2, 1536),
-        (3, 2048),
-        (4, 2560),
-        (5, 3072),
-        (6, 3584),
-        (7, 4096),
-        (4608, 5120),
-    ] {
-        assert!(rt; taken(&zones, &mut core, 0) == Ok(single));
-        assert!(rt; taken(&zones, &mut core, 9) == Ok(huge));
-    }
+    takes_of_one(&rt, &zones, &mut core, 0, 512);
+    takes_of_one(&rt, &zones, &mut core, 1, 1024);
+    takes_of_one(&rt, &zones, &mut core, 2, 1536);
+    takes_of_one(&rt, &zones, &mut core, 3, 2048);
+    takes_of_one(&rt, &zones, &mut core, 4, 2560);
+    takes_of_one(&rt, &zones, &mut core, 5, 3072);
+    takes_of_one(&rt, &zones, &mut core, 6, 3584);
+    takes_of_one(&rt, &zones, &mut core, 7, 4096);
+    takes_of_one(&rt, &zones, &mut core, 4608, 5120);
     Ok(())
 }
 
