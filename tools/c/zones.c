@@ -102,7 +102,7 @@ static void limits(opening *open)
     static const llfree_range two[2] = { { 0, 512 }, { 1024, 512 } };
     static llfree_range many[MOST_ZONES + 1], ranges[MOST_RANGES + 1];
     static llfree_core h[MOST_CORES + 1];
-    uint32_t first, last;
+    llfree_block first = LLFREE_EMPTY, last = LLFREE_EMPTY;
 
     for (uint32_t i = 0; i <= MOST_ZONES; i++)
         many[i] = (llfree_range) { 4194304 * i, 1 + i % 3 };
@@ -118,9 +118,9 @@ static void limits(opening *open)
     CHECK(open(h, 0, two, 2, NULL, 0) == LLFREE_BAD_GEOMETRY);
     CHECK(open(h, MOST_CORES + 1, two, 2, NULL, 0) == LLFREE_BAD_GEOMETRY);
     CHECK(open(h, MOST_CORES, two, 2, NULL, 0) == LLFREE_OK);
-    CHECK(llfree_take(&h[0], 0, &first) == LLFREE_OK && first < CHILD);
-    CHECK(llfree_take(&h[MOST_CORES - 1], 9, &last) == LLFREE_OK && last == 2 * CHILD);
-    CHECK(llfree_give(&h[MOST_CORES - 1], first, 0) == LLFREE_OK && llfree_give(&h[0], last, 9) == LLFREE_OK);
+    CHECK(llfree_take_block(&h[0], 0, &first) == LLFREE_OK && first.frame < CHILD);
+    CHECK(llfree_take_block(&h[MOST_CORES - 1], 9, &last) == LLFREE_OK && last.frame == 2 * CHILD);
+    CHECK(llfree_give_block(&h[MOST_CORES - 1], &first) == LLFREE_OK && llfree_give_block(&h[0], &last) == LLFREE_OK);
     CHECK(llfree_free_frames(&h[MOST_CORES / 2]) == 2 * CHILD);
     close_all(h, MOST_CORES);
     many[0].frames = 4 * MOST_RANGES;
