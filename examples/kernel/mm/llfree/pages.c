@@ -33,7 +33,7 @@
 #include "words.h"
 
 enum {
-	CORES = 1024,
+	CORES = 64,
 	TRIES = 8,		/* of a take, since other cores may be in the way */
 	MOST_RESTING = 128,	/* with a core, as the library's header says */
 	ALIGNMENT = 16,
