@@ -12,7 +12,9 @@ jobs ?= $(shell nproc)
 
 unneeded := *.rst *.dts *.dtsi */tools/testing/* */tools/perf/* */sound/*.[ch] */arch/[^ux]*/*.[chS] \
 	$(patsubst %,*/drivers/%/*.[ch],gpu infiniband media net scsi staging usb)
-llfree_files := $(wildcard mm/llfree/*) linux/include $(root)/include/llfree.h $(library)_kernel.a $(library)_c.a
+public := llfree.h llfree_blocks.h llfree_heap.h
+llfree_files := $(wildcard mm/llfree/*) linux/include $(addprefix $(root)/include/,$(public)) $(library)_kernel.a \
+	$(library)_c.a
 comma := ,
 # a compilation gives the same bytes each time
 always_same := $(patsubst %,KBUILD_BUILD_%,TIMESTAMP=@0 VERSION=1 USER=llfree HOST=llfree)
@@ -124,9 +126,9 @@ foreign: $(linux)/mm/image $(linux)/foreign/initramfs
 	$(if $(RUN)$(WORDS),,mm/boot.sh $(seconds) $(linux)/compile.log $(linux)/um/image mem=3G $(um_words) \
 		initrd=$(linux)/foreign/initramfs run=compile $(checks))
 
-$(out)/threads: mm/threads.c mm/llfree/words.h $(root)/include/llfree.h $(library)_c.a
+$(out)/threads: mm/threads.c $(addprefix $(root)/include/,$(public)) $(library)_c.a
 	mkdir -p $(out)
-	$(CC) -O2 -std=c11 -Wall -Wextra -D_POSIX_C_SOURCE=200809L -pthread -I$(root)/include -Imm -o $@ $< $(library)_c.a
+	$(CC) -O2 -std=c11 -Wall -Wextra -D_POSIX_C_SOURCE=200809L -pthread -I$(root)/include -o $@ $< $(library)_c.a
 
 # a child that is cut off; one part, and three the last of which is small
 threads: $(out)/threads

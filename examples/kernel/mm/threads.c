@@ -1,7 +1,7 @@
 // SPDX-License-Identifier: GPL-2.0
 /*
- * Tries llfree/words.h in user space: threads take, split and give blocks, while another one reads the library's words
- * as /proc/buddyinfo does. What is held all the time it never sees free. Whenever they stop, the free blocks of each
+ * Tries in user space what Linux reads for /proc/buddyinfo: threads take, split and give blocks, while another one
+ * reads the library's words. What is held all the time it never sees free. Whenever they stop, the free blocks of each
  * order are those of the program's own map. threads FRAMES STOPS
  */
 #include <pthread.h>
@@ -14,12 +14,19 @@
 
 typedef uint32_t u32;
 typedef uint64_t u64;
-#define READ_ONCE(word) (*(const volatile __typeof__(word) *)&(word))
-#define hweight64 __builtin_popcountll
 
-#include "llfree/words.h"
+#include "llfree_blocks.h"
 
-enum { THREADS = 4, MOST_HELD = 256, STEADY = 500, CALLS = 20000 };
+enum {
+	THREADS = 4,
+	MOST_HELD = 256,
+	MOST_NOTED = 64,
+	STEADY = 500,
+	CALLS = 20000,
+	ORDERS = LLFREE_COUNTED_ORDERS,
+	CHILD_FRAMES = LLFREE_COUNTED_CHILD,
+	PART_FRAMES = LLFREE_COUNTED_ZONE,
+};
 
 struct block {
 	u32 frame;
@@ -33,7 +40,10 @@ struct worker {
 	u64 takes, gives, splits;
 } __attribute__((aligned(128)));
 
-static struct words words;
+static llfree_noted noted[MOST_NOTED];
+static llfree_block_counter counter;
+static u64 *room;
+static u32 frames;
 static struct worker workers[THREADS];
 static struct block steady[STEADY];
 static u32 steadies;
@@ -52,13 +62,13 @@ struct rattle_block rattle_alloc(size_t size, size_t alignment)
 	void *block = aligned_alloc(16, (size + !size + 15) / 16 * 16);
 
 	if (block)
-		note(&words, block, size, alignment);
-	return (struct rattle_block){ block, block ? block : &words };
+		llfree_counter_note(&counter, block, size, alignment);
+	return (struct rattle_block){ block, block ? block : &counter };
 }
 
 void rattle_dealloc(void *block)
 {
-	forget(&words, block);
+	llfree_counter_forget(&counter, block);
 	free(block);
 }
 
@@ -141,23 +151,22 @@ static void *work(void *argument)
 
 static bool is_seen_held(const u64 *numbers, u32 place)
 {
-	const u64 *child = &numbers[place / CHILD_FRAMES * CHILD_NUMBERS];
+	const u64 *child = &numbers[place / CHILD_FRAMES * 9];
 
-	return child[0] == HELD_HUGE || child[1 + place % CHILD_FRAMES / 64] >> place % 64 & 1;
+	return child[0] == LLFREE_COUNTED_HUGE || child[1 + place % CHILD_FRAMES / 64] >> place % 64 & 1;
 }
 
 static void *read_words(void *argument)
 {
-	unsigned long blocks[ORDERS] = { };
 	u64 *times = argument;
 
 	while (!is_over) {
-		u32 part = (*times)++ % parts_of(&words), first = part * PART_FRAMES;
+		u32 part = (*times)++ % counter.zone_count, first = part * PART_FRAMES;
+		const u64 *numbers = llfree_counter_image(&counter, part, room);
 
-		count_part(&words, part, blocks);
 		for (u32 i = 0; i < steadies; i++)
 			for (u32 frame = steady[i].frame; frame < steady[i].frame + (1u << steady[i].order); frame++)
-				if (frame / PART_FRAMES == part && !is_seen_held(words.numbers, frame - first))
+				if (frame / PART_FRAMES == part && !is_seen_held(numbers, frame - first))
 					fail("it is held, and was seen free", frame);
 	}
 	return NULL;
@@ -169,7 +178,7 @@ static bool count_map(u32 frame, unsigned int order, unsigned long *blocks)
 	bool lower, upper;
 
 	if (!order)
-		return frame < words.frames && !is_held[frame];
+		return frame < frames && !is_held[frame];
 	lower = count_map(frame, order - 1, blocks);
 	upper = count_map(frame + (1u << (order - 1)), order - 1, blocks);
 	blocks[order - 1] += lower != upper;
@@ -180,9 +189,9 @@ static void compare(void)
 {
 	unsigned long seen[ORDERS], mapped[ORDERS] = { };
 
-	for (u32 frame = 0; frame < words.frames; frame += CHILD_FRAMES)
+	for (u32 frame = 0; frame < frames; frame += CHILD_FRAMES)
 		mapped[ORDERS - 1] += count_map(frame, ORDERS - 1, mapped);
-	count_blocks(&words, seen);
+	llfree_count_blocks(&counter, room, seen);
 	for (unsigned int order = 0; order < ORDERS; order++)
 		if (seen[order] != mapped[order])
 			fail("its free blocks are not those of the map: order", order);
@@ -192,14 +201,13 @@ static void open_all(void)
 {
 	llfree_core cores[THREADS] = { };
 
-	words.cores = THREADS;
-	words.read = malloc(sizeof(u64) * count_of(&words, 0));
-	words.numbers = malloc(sizeof(u64) * llfree_image_words(frames_of(&words, 0)));
-	is_held = calloc(words.frames, 1);
-	if (!words.read || !words.numbers || !is_held || llfree_open(cores, THREADS, words.frames, NULL, 0) != LLFREE_OK)
-		fail("it is not opened", words.frames);
-	if (!are_found(&words))
-		fail("the words were not found among blocks", words.finds);
+	counter = llfree_counter_of(frames, THREADS, noted, MOST_NOTED);
+	room = malloc(sizeof(u64) * llfree_counter_room(&counter));
+	is_held = calloc(frames, 1);
+	if (!room || !is_held || llfree_open(cores, THREADS, frames, NULL, 0) != LLFREE_OK)
+		fail("it is not opened", frames);
+	if (!llfree_counter_find(&counter, cores, room))
+		fail("the words were not found among blocks", counter.count);
 	for (unsigned int i = 0; i < THREADS; i++) {
 		workers[i].core = cores[i];
 		workers[i].seed = i + 1;
@@ -213,9 +221,9 @@ int main(int count, char **arguments)
 	pthread_t threads[THREADS], reader;
 	u64 times = 0, takes = 0, gives = 0, splits = 0;
 
-	words.frames = count == 3 ? strtoul(arguments[1], NULL, 10) : 0;
+	frames = count == 3 ? strtoul(arguments[1], NULL, 10) : 0;
 	stops = count == 3 ? strtoul(arguments[2], NULL, 10) : 0;
-	if (!words.frames || !stops)
+	if (!frames || !stops)
 		fail("arguments, which are FRAMES STOPS", count - 1);
 	open_all();
 	pthread_barrier_init(&barrier, NULL, THREADS + 1);
@@ -237,7 +245,7 @@ int main(int count, char **arguments)
 		splits += workers[i].splits;
 	}
 	printf("%u frames in %u parts, %u blocks held all the time: %llu takes, %llu gives, %llu splits; the words of a "
-	       "part were read %llu times; %u stops: all is well\n", words.frames, parts_of(&words), steadies,
+	       "part were read %llu times; %u stops: all is well\n", frames, (u32)counter.zone_count, steadies,
 	       (unsigned long long)takes, (unsigned long long)gives, (unsigned long long)splits,
 	       (unsigned long long)times, stops);
 	return 0;

@@ -28,15 +28,16 @@
 #include <linux/smp.h>
 #include <linux/string.h>
 #include <linux/vmstat.h>
-#include "llfree.h"
+#include "llfree_blocks.h"
+#include "llfree_heap.h"
 #include "pages.h"
-#include "words.h"
 
 enum {
 	CORES = 64,
 	TRIES = 8,		/* of a take, since other cores may be in the way */
 	MOST_RESTING = 128,	/* with a core, as the library's header says */
 	ALIGNMENT = 16,
+	MOST_NOTED = 64,	/* of the heap's blocks: each 8 GiB have one, and there are some more */
 };
 
 enum { TASKS, HANDLERS, FIXED, CALLERS = IS_ENABLED(CONFIG_COMPACTION) ? 3 : 2 };
@@ -56,12 +57,13 @@ struct llfree_zone {
 	u32 frames;
 	llfree_block *blocks;	/* held blocks, each at its first frame; NULL if the library has a list of all */
 	unsigned long *bits;	/* set if a frame is held; NULL without bits */
-	struct words words;	/* under the lock of the zone */
-	bool has_words;
+	llfree_noted noted[MOST_NOTED];
+	llfree_block_counter counter;	/* has the words of the library, once found */
+	u64 *room;		/* of the counter, under the lock of the zone */
 	struct llfree_caller callers[][CALLERS];	/* of each CPU */
 };
 
-static_assert(MAX_ORDER == ORDERS && MAX_ORDER == LLFREE_ORDERS);
+static_assert(MAX_ORDER == LLFREE_COUNTED_ORDERS && MAX_ORDER == LLFREE_ORDERS);
 
 bool llfree_on __ro_after_init = true;
 unsigned int llfree_listed __ro_after_init = 1;
@@ -112,7 +114,7 @@ void rattle_dealloc(void *block);
 
 static char *heap_top, *heap_end, *newest;
 
-static struct words *opening;	/* those that the heap is to find */
+static llfree_block_counter *opening;	/* the one whose words the heap is to note */
 
 struct rattle_block rattle_alloc(size_t size, size_t alignment)
 {
@@ -122,13 +124,13 @@ struct rattle_block rattle_alloc(size_t size, size_t alignment)
 		return (struct rattle_block){ false, &heap_top };
 	newest = heap_top;
 	heap_top += rounded;
-	note(opening, newest, size, alignment);
+	llfree_counter_note(opening, newest, size, alignment);
 	return (struct rattle_block){ true, newest };
 }
 
 void rattle_dealloc(void *block)
 {
-	forget(opening, block);
+	llfree_counter_forget(opening, block);
 	if (block == newest)
 		heap_top = newest;
 }
@@ -138,7 +140,7 @@ struct rattle_block rattle_realloc(void *old, size_t kept, size_t size, size_t a
 	struct rattle_block block;
 	char *top = heap_top;
 
-	forget(opening, old);
+	llfree_counter_forget(opening, old);
 	if (old == newest)
 		heap_top = newest;
 	block = rattle_alloc(size, alignment);
@@ -367,23 +369,24 @@ static void __init take_all(struct llfree_zone *it, const char *name)
 static void __init open_zone(struct zone *zone)
 {
 	static llfree_core cores[CORES] __initdata;
-	unsigned long first = round_down(zone->zone_start_pfn, CHILD_FRAMES), count = CALLERS * nr_cpu_ids;
+	unsigned long first = round_down(zone->zone_start_pfn, LLFREE_COUNTED_CHILD), count = CALLERS * nr_cpu_ids;
 	u32 frames = zone_end_pfn(zone) - first;
-	size_t room = PAGE_ALIGN((has_structs ? frames / 2 : 20ul * frames) + count * 1024 + SZ_64K);
+	llfree_heap needed = has_structs ? llfree_heap_bytes_unchecked(count, frames, NULL, 0) :
+					   llfree_heap_bytes(count, frames, NULL, 0);
+	size_t room = PAGE_ALIGN(needed.span);
 	struct llfree_zone *it = get_memory(struct_size(it, callers, nr_cpu_ids));
 	char *heap = get_memory(room);
 	enum llfree_status status;
+	bool is_found;
 
 	heap_top = heap;
 	heap_end = heap + (is_small ? room / 2 : room);
 	memset(cores, 0, sizeof(cores));
 	it->first = first;
 	it->frames = frames;
-	opening = &it->words;
-	opening->frames = frames;
-	opening->cores = count;
-	opening->read = get_memory(sizeof(u64) * count_of(opening, 0));
-	opening->numbers = get_memory(sizeof(u64) * llfree_image_words(frames_of(opening, 0)));
+	opening = &it->counter;
+	*opening = llfree_counter_of(frames, count, it->noted, MOST_NOTED);
+	it->room = get_memory(sizeof(u64) * llfree_counter_room(opening));
 	if (has_structs || llfree_without_lists(0))
 		it->blocks = get_memory(frames * sizeof(llfree_block));
 	if (has_structs)
@@ -392,16 +395,16 @@ static void __init open_zone(struct zone *zone)
 		status = llfree_open(cores, count, frames, NULL, 0);
 	if (status != LLFREE_OK)
 		panic("llfree: zone %s is not opened: %s", zone->name, why(status));
-	it->has_words = are_found(opening);
+	is_found = llfree_counter_find(opening, cores, it->room);
 	spread_cores(it, cores);
 	take_all(it, zone->name);
 	if (has_bits) {
-		it->bits = get_memory(round_up(frames, CHILD_FRAMES) / BITS_PER_BYTE);
-		bitmap_fill(it->bits, round_up(frames, CHILD_FRAMES));
+		it->bits = get_memory(round_up(frames, LLFREE_COUNTED_CHILD) / BITS_PER_BYTE);
+		bitmap_fill(it->bits, round_up(frames, LLFREE_COUNTED_CHILD));
 	}
 	zone->llfree = it;
 	pr_info("zone %s: %u frames from %lu on, %lu cores, %zu bytes of heap%s\n", zone->name, frames, first, count,
-		(size_t)(heap_top - heap), it->has_words ? "" : ", whose words were not found");
+		(size_t)(heap_top - heap), is_found ? "" : ", whose words were not found");
 	memblock_free(PTR_ALIGN(heap_top, PAGE_SIZE), heap + room - PTR_ALIGN(heap_top, PAGE_SIZE));
 }
 
@@ -752,8 +755,8 @@ void llfree_read_state(struct zone *zone, struct llfree_state *state)
 
 void llfree_count_free(struct zone *zone, unsigned long *blocks)
 {
-	if (zone->llfree && zone->llfree->has_words)
-		count_blocks(&zone->llfree->words, blocks);
+	if (zone->llfree && zone->llfree->counter.is_found)
+		llfree_count_blocks(&zone->llfree->counter, zone->llfree->room, blocks);
 }
 
 bool llfree_has_free(struct zone *zone, unsigned int order)
@@ -763,7 +766,7 @@ bool llfree_has_free(struct zone *zone, unsigned int order)
 	struct llfree_caller *caller;
 	bool has_huge;
 
-	if (!it || !it->has_words)
+	if (!it || !it->counter.is_found)
 		return true;
 	caller = enter(it, &flags);
 	has_huge = seems_free(zone, caller, LLFREE_ORDERS - 1);
@@ -771,7 +774,7 @@ bool llfree_has_free(struct zone *zone, unsigned int order)
 	if (has_huge || order == LLFREE_ORDERS - 1)
 		return has_huge;
 	spin_lock_irqsave(&zone->lock, flags);
-	count_blocks(&it->words, blocks);
+	llfree_count_blocks(&it->counter, it->room, blocks);
 	spin_unlock_irqrestore(&zone->lock, flags);
 	while (order < LLFREE_ORDERS && !blocks[order])
 		order++;
@@ -784,12 +787,12 @@ bool llfree_agrees_with_bits(struct zone *zone)
 	struct llfree_zone *it = zone->llfree;
 	unsigned long flags;
 
-	if (!it->bits || !it->has_words)
+	if (!it->bits || !it->counter.is_found)
 		return false;
 	spin_lock_irqsave(&zone->lock, flags);
-	count_blocks(&it->words, blocks);
-	for (u32 child = 0; child < DIV_ROUND_UP(it->frames, CHILD_FRAMES); child++)
-		count_child((const u64 *)it->bits + child * CHILD_WORDS, by_bits);
+	llfree_count_blocks(&it->counter, it->room, blocks);
+	for (u32 child = 0; child < DIV_ROUND_UP(it->frames, LLFREE_COUNTED_CHILD); child++)
+		llfree_add_free_blocks((const u64 *)it->bits + child * LLFREE_COUNTED_CHILD / 64, by_bits);
 	spin_unlock_irqrestore(&zone->lock, flags);
 	return !memcmp(blocks, by_bits, sizeof(blocks));
 }
