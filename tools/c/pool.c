@@ -1,6 +1,6 @@
-/* Desks: a hundred threads, which come and go, on eight cores, with an owner byte a frame; runs of each length up to
- * 512 and of some up to 1 GiB, and where they lie; children that are forked while others are in calls, and take what is
- * left; addresses. */
+/* Desks: a hundred threads, which come and go, at eight with a core each, then at four with two, with an owner byte a
+ * frame; runs of each length up to 512 and of some up to 1 GiB, and where they lie; children that are forked while
+ * others are in calls, and take what is left; addresses. */
 #define _GNU_SOURCE
 #include "check.h"
 #include "llfree_pool.h"
@@ -9,9 +9,10 @@
 #include <sys/wait.h>
 #include <unistd.h>
 
-enum { DESKS = 8, FRAMES = 16 * 4096, THREADS = 100, RUNNING = 20, ROUNDS = 1000, HELD = 16, FORKS = 20 };
+enum { MOST_DESKS = 8, FRAMES = 16 * 4096, THREADS = 100, RUNNING = 25, ROUNDS = 1000, HELD = 16, FORKS = 20 };
 
-static llfree_desk desks[DESKS];
+static llfree_desk desks[MOST_DESKS];
+static size_t desk_count;
 static _Atomic unsigned char owner[FRAMES];
 static _Atomic unsigned long_runs;
 
@@ -29,14 +30,14 @@ static void turn(uint32_t frame, uint8_t order, unsigned char to)
 static void give(uint32_t frame, uint8_t order)
 {
     turn(frame, order, 0);
-    CHECK(llfree_pool_give(desks, DESKS, frame, order) == LLFREE_OK);
+    CHECK(llfree_pool_give(desks, desk_count, frame, order) == LLFREE_OK);
 }
 
 /* Takes a run and gives it, where one is found. */
 static void run_of(uint32_t length, uint32_t alignment)
 {
     uint32_t frame;
-    enum llfree_status status = llfree_pool_take_run(desks, DESKS, length, alignment, &frame);
+    enum llfree_status status = llfree_pool_take_run(desks, desk_count, length, alignment, &frame);
 
     CHECK(status == LLFREE_OK || status == LLFREE_NO_BLOCK || status == LLFREE_CONTENDED);
     if (status != LLFREE_OK)
@@ -44,7 +45,7 @@ static void run_of(uint32_t length, uint32_t alignment)
     CHECK(frame % alignment == 0);
     turn_all(frame, length, 1);
     turn_all(frame, length, 0);
-    CHECK(llfree_pool_give_run(desks, DESKS, frame, length) == LLFREE_OK);
+    CHECK(llfree_pool_give_run(desks, desk_count, frame, length) == LLFREE_OK);
     long_runs += length > 512;
 }
 
@@ -63,8 +64,8 @@ static void *work(void *number)
             uint8_t order = r >> 8 & 7;
             /* of the lower half, so that there are long runs above it */
             frames[held] = (uint32_t)(r >> 20) % (FRAMES / 2) >> order << order;
-            if ((r & 128 ? llfree_pool_take(desks, DESKS, order, &frames[held]) :
-                           llfree_pool_take_at(desks, DESKS, frames[held], order)) != LLFREE_OK)
+            if ((r & 128 ? llfree_pool_take(desks, desk_count, order, &frames[held]) :
+                           llfree_pool_take_at(desks, desk_count, frames[held], order)) != LLFREE_OK)
                 continue;
             turn(frames[held], order, 1);
             orders[held++] = order;
@@ -72,8 +73,9 @@ static void *work(void *number)
         } else if (held > 0 && held < HELD && r & 2 && orders[held - 1] > 0) {
             /* into halves, by both calls in turn */
             uint8_t half = orders[held - 1] - 1;
-            CHECK((r & 64 ? llfree_pool_split(desks, DESKS, frames[held - 1], orders[held - 1]) :
-                            llfree_pool_split_to(desks, DESKS, frames[held - 1], orders[held - 1], half)) == LLFREE_OK);
+            uint32_t frame = frames[held - 1];
+            CHECK((r & 64 ? llfree_pool_split(desks, desk_count, frame, half + 1) :
+                            llfree_pool_split_to(desks, desk_count, frame, half + 1, half)) == LLFREE_OK);
             orders[held] = orders[held - 1] = half;
             frames[held] = frames[held - 1] + (1u << half);
             held++;
@@ -179,19 +181,19 @@ static void places(void)
 
 static void sit_at_all(void)
 {
-    llfree_sit_at_all(desks, DESKS);
+    llfree_sit_at_all(desks, desk_count);
 }
 
 static void leave_all(void)
 {
-    llfree_leave_all(desks, DESKS);
+    llfree_leave_all(desks, desk_count);
 }
 
 /* The child takes all that is left, and finds no frame that a thread holds; all that it gives it may take again. */
 static int child(void)
 {
     uint32_t frame, free = llfree_free_frames(&desks[0].core), taken = 0;
-    while (llfree_pool_take(desks, DESKS, 0, &frame) == LLFREE_OK) {
+    while (llfree_pool_take(desks, desk_count, 0, &frame) == LLFREE_OK) {
         if (atomic_exchange(&owner[frame], 2) != 0)
             return 1;
         taken++;
@@ -212,24 +214,26 @@ static void *forks(void *count)
     return NULL;
 }
 
-int main(void)
+/* With a core at each desk, or two. */
+static void all(size_t each)
 {
-    static llfree_core cores[DESKS];
+    static llfree_core cores[MOST_DESKS];
     pthread_t threads[RUNNING], forking;
     int fork_count = FORKS;
     uint32_t frame;
 
-    CHECK(llfree_open(cores, DESKS, FRAMES, NULL, 0) == LLFREE_OK);
-    llfree_seat_all(desks, cores, DESKS);
-    CHECK(llfree_free_frames(&cores[0]) == 0 && llfree_free_frames(&desks[7].core) == FRAMES);
+    desk_count = MOST_DESKS / each;
+    CHECK(llfree_open(cores, MOST_DESKS, FRAMES, NULL, 0) == LLFREE_OK);
+    if (each == 1)
+        llfree_seat_all(desks, cores, desk_count);
+    else
+        CHECK(llfree_seat_pairs(desks, cores, desk_count));
+    CHECK(llfree_free_frames(&cores[0]) == 0 && llfree_free_frames(&desks[desk_count - 1].core) == FRAMES);
     runs();
-    longest();
-    places();
 #ifdef __SANITIZE_THREAD__
     fork_count = 0; /* it does not follow a fork of a program with threads */
 #endif
-    CHECK(pthread_atfork(sit_at_all, leave_all, leave_all) == 0);
-    for (size_t done = 0; done < THREADS; done += RUNNING) {
+    for (size_t done = 0; done < THREADS / 2; done += RUNNING) {
         CHECK(pthread_create(&forking, NULL, forks, &fork_count) == 0);
         for (size_t i = 0; i < RUNNING; i++)
             CHECK(pthread_create(&threads[i], NULL, work, (void *)(done + i)) == 0);
@@ -240,17 +244,26 @@ int main(void)
     CHECK(llfree_free_frames(&desks[3].core) == FRAMES && llfree_free_huge(&desks[0].core) == FRAMES / 512);
     CHECK(long_runs > 0);
 
-    CHECK(llfree_pool_take_at(desks, DESKS, 5 * 512, 9) == LLFREE_OK);
-    CHECK(llfree_pool_take_at(desks, DESKS, 5 * 512 + 8, 3) == LLFREE_NO_BLOCK);
-    CHECK(llfree_pool_take_at(desks, DESKS, FRAMES, 0) == LLFREE_NO_BLOCK);
-    CHECK(llfree_pool_give(desks, DESKS, 5 * 512, 9) == LLFREE_OK);
-    CHECK(llfree_pool_take(desks, DESKS, 9, &frame) == LLFREE_OK);
+    CHECK(llfree_pool_take_at(desks, desk_count, 5 * 512, 9) == LLFREE_OK);
+    CHECK(llfree_pool_take_at(desks, desk_count, 5 * 512 + 8, 3) == LLFREE_NO_BLOCK);
+    CHECK(llfree_pool_take_at(desks, desk_count, FRAMES, 0) == LLFREE_NO_BLOCK);
+    CHECK(llfree_pool_give(desks, desk_count, 5 * 512, 9) == LLFREE_OK);
+    CHECK(llfree_pool_take(desks, desk_count, 9, &frame) == LLFREE_OK);
     CHECK(llfree_frame_at(owner, llfree_address(owner, frame)) == frame);
     CHECK((char *)llfree_address(owner, 3) - (char *)owner == 12288);
-    CHECK(llfree_pool_give(desks, DESKS, frame, 9) == LLFREE_OK);
-    CHECK(llfree_pool_give(desks, DESKS, frame, 9) == LLFREE_NOT_HELD);
-    llfree_pool_close(desks, DESKS);
+    CHECK(llfree_pool_give(desks, desk_count, frame, 9) == LLFREE_OK);
+    CHECK(llfree_pool_give(desks, desk_count, frame, 9) == LLFREE_NOT_HELD);
+    llfree_pool_close(desks, desk_count);
     CHECK(llfree_free_frames(&desks[0].core) == 0);
+}
+
+int main(void)
+{
+    longest();
+    places();
+    CHECK(pthread_atfork(sit_at_all, leave_all, leave_all) == 0);
+    all(1);
+    all(2);
     puts("ok");
     return 0;
 }
