@@ -23,8 +23,9 @@ TAIL = r""".SH SEE ALSO
 .BR llfree (1)
 .PP
 llfree_text.h says what a status means (llfree_status_text), llfree_tsan.h tells ThreadSanitizer and valgrind who has which
-frame, llfree_pool.h lends cores to threads that come and go, llfree_compat.h has the names of llfree\-c; docs/C.md says
-how all of it is built and installed.
+frame, llfree_pool.h lends cores to threads that come and go, llfree_runs.h takes runs of huge frames into structs,
+llfree_heap.h says how much heap an opening needs, llfree_blocks.h counts free blocks of each order, llfree_compat.h has the
+names of llfree\-c; docs/C.md says how all of it is built and installed.
 """
 ITEM = re.compile(r' {1,4}(\d+\.|-) +(.*)')
 FUNCTION = re.compile(r'\b(llfree_\w+)\(')
