@@ -2,6 +2,7 @@ pub mod Lying
 pub mod Placing
 pub mod Sums
 pub mod Rounds
+pub mod Staying
 pub mod Counted
 pub mod Apart
 pub mod Dealing

@@ -90,7 +90,7 @@ one_step P zs z c d e alone others here k a x within before =
     ]
 
 -- what a refusal of an order that there is says
-looked : (a : Allocator) (n : ℕ) (x y : Core) (fault : TakeFault) → n ≤ 9 → IsRefusedFor a n x y fault
+pub looked : (a : Allocator) (n : ℕ) (x y : Core) (fault : TakeFault) → n ≤ 9 → IsRefusedFor a n x y fault
     → HasMovedForEach a n x y
 looked a n x y BadOrder few refused = absurd (omega (arith, few, refused.0))
 looked a n x y NoBlock few refused = refused.0

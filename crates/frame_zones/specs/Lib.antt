@@ -5,6 +5,7 @@ pub mod Zones
 pub mod Frames
 pub mod Stops
 pub mod Uses
+pub mod Stays
 pub mod Fills
 pub mod Faults
 pub mod Places

@@ -6,6 +6,7 @@ ghost use Rattle.frame_zones.specs.Zones.{IsOutOfItsZone};
 ghost use Rattle.frame_zones.specs.MoveBounds.{TakeInZoneInNumbers, PlaceInZoneInNumbers};
 ghost use Rattle.frame_zones.specs.MoveBounds.{TakeMovesTooMuch, PlaceMovesTooMuch, ZoneMovesTooMuch};
 ghost use Rattle.frame_zones.specs.Laws.{OwnsInZone, LiesInZone, AreFramesApart};
+ghost use Rattle.frame_zones.specs.Stays.{StayInNumbers};
 
 use crate::block::ZoneBlock;
 use crate::zones::Zones;
@@ -30,4 +31,9 @@ pub fn bounds_in_zones_are_these()
     ensures within { TakeMovesTooMuch }
     ensures for_place { PlaceMovesTooMuch }
     ensures at_most { ZoneMovesTooMuch }
+{}
+
+/// In a zone that served one the next 1,024 takes of an order begin, and the one behind them at home.
+pub fn takes_come_home()
+    ensures { StayInNumbers }
 {}

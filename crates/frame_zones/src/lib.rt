@@ -28,7 +28,7 @@ mod zones;
 pub use block::{GivenBlock, ZoneBlock};
 pub use closings::ZonesFault;
 pub use image::ZoneImage;
-pub use laws::{blocks_lie_in_zones, bounds_in_zones_are_these};
+pub use laws::{blocks_lie_in_zones, bounds_in_zones_are_these, takes_come_home};
 pub use looks::MOST_IN_RUN;
 pub use pairs::PairCore;
 pub use row::Row;

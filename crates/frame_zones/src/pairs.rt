@@ -12,6 +12,7 @@ ghost use Rattle.frame_zones.specs.Pairs.{core_for, core_for_block, cores_of_pai
 ghost use Rattle.frame_zones.specs.Pairs.{ArePaired, ArePairsOf};
 ghost use Rattle.frame_zones.specs.Places.{TakesPlaceAmong, MovesForPlace};
 ghost use Rattle.frame_zones.specs.Splits.{SplitsIn};
+ghost use Rattle.frame_zones.specs.Stays.{BeginsAndStays};
 ghost use Rattle.frame_zones.specs.Uses.{TakesAmong, moves_through, most_moves_among};
 ghost use Rattle.frame_zones.specs.Uses.{GivesIn, GivesAloneIn, IsGivenFor, MovesAtMost};
 ghost use Rattle.frame_zones.specs.Zones.{zone_count, AreCoresOf, InEach, IsOutOfItsZone};
@@ -41,6 +42,7 @@ impl PairCore {
         requires { ArePairOf zones.now self.old }
         ensures pair { StayPairFor zones.now order self.old self.new }
         ensures takes { TakesAmong zones.now order result (core_for order self.old) (core_for order self.new) }
+        ensures stays { BeginsAndStays zones.now order result (core_for order self.old) (core_for order self.new) }
         ensures all_moves { moves_through (core_for order self.new)
             ≤ moves_through (core_for order self.old) + most_moves_among zones.now }
     {

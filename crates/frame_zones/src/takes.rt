@@ -3,6 +3,7 @@
 ghost use Rattle.std.specs.Prelude.{◌≡◌, ◌+◌, ◌<◌, ◌≤◌, ◌||◌};
 ghost use Rattle.frame_words.specs.Geometry.{huge_order};
 ghost use Rattle.frame_zones.specs.Faults.{is_contended};
+ghost use Rattle.frame_zones.specs.Stays.{TakesBeginIn, IsUsed, BeginsAndStays, GoesPast};
 ghost use Rattle.frame_zones.specs.Zones.{zone_count, AreCoresOf, StayCoresOf};
 ghost use Rattle.frame_zones.specs.Uses.{TakesAmong, TakesIn, TakesOn, moves_through, most_moves_among};
 
@@ -22,6 +23,7 @@ impl Zones {
         requires { AreCoresOf self.now core.old }
         ensures core { StayCoresOf self.now core.old core.new }
         ensures takes { TakesAmong self.now order result core.old core.new }
+        ensures stays { BeginsAndStays self.now order result core.old core.new }
         ensures all_moves { moves_through core.new ≤ moves_through core.old + most_moves_among self.now }
     {
         if order > HUGE_ORDER {
@@ -53,6 +55,7 @@ impl Zones {
         requires first { first < zone_count self.now }
         ensures core { StayCoresOf self.now core.old core.new }
         ensures takes { TakesOn self.now order first lost result core.old core.new }
+        ensures stays { GoesPast order first result core.old core.new }
     {
         let count = self.zones.len() as u32;
         let mut contended = lost;
@@ -88,6 +91,7 @@ impl Zones {
         requires zone { zone < zone_count self.now }
         ensures core { StayCoresOf self.now core.old core.new }
         ensures takes { TakesIn self.now zone order result core.old core.new }
+        ensures stays { core.new.stays ≡ core.old.stays }
     {
         let place = zone as usize;
         match self.zones[place].take(&mut core.cores[place], order) {
@@ -101,7 +105,9 @@ impl Zones {
 #[inline(always)]
 pub(crate) fn first_zone(stay: &mut Stay, home: u32, count: u32) -> u32
     requires { home < count }
-    ensures { result < count }
+    ensures zone { result < count }
+    ensures begins { TakesBeginIn count home stay.old result }
+    ensures stay { IsUsed count stay.old stay.new }
 {
     if stay.left == 0 || stay.zone >= count {
         return home;

@@ -1,7 +1,8 @@
-use Rattle.std.proofs.Common.{◌≡◌, ◌<◌, ◌≤◌, ◌+◌, ◌⊎◌, ℕ, inl, inr, sym, subst, arith, ⊎_elim}
+use Rattle.std.proofs.Common.{◌≡◌, ◌<◌, ◌≤◌, ◌+◌, ◌⊎◌, ℕ, inl, inr, refl, sym, ◌∙◌, subst, arith, ⊎_elim}
 use Rattle.std.proofs.lemmas.Bool.{cases_eq, cases_lt}
 use Rattle.frame_zones.specs.Uses.{HadNone}
 use Rattle.frame_zones.proofs.Rounds.{stay_on, stay_at_all, stay_there, one_more_none, same_none, round_taken, taken_there, round_ends}
+use Rattle.frame_zones.proofs.Staying.{past_there, past_all}
 use Rattle.frame_zones.proofs.zones.Zones.take_elsewhere.Goals as goal
 
 all_seen : (home zone : ℕ) → home ≤ zone → (k : ℕ) → (home ≤ k) ⊎ (k < zone)
@@ -16,6 +17,8 @@ loop-zone-init c = (
   λ d was. same_none _ (λ z. z ≡ c.args.first) (λ k. (c.args.first ≤ k) × (k < c.args.first + 1)) _ _ d _ was
       (λ k within is. omega (arith, is.0, is.1))
       (λ k within not is. not (omega (arith, is), omega (arith, is))),
+  refl,
+  λ x. refl,
 )
 
 pub take_in-requires-clause-core : goal.take_in-requires-clause-core
@@ -46,6 +49,9 @@ loop-zone-preserved c = (
         | inr other ↦ inl (is.0, omega (arith, is.1, other))
       ])
       (λ k is. (is.0, omega (arith, is.1)))),
+  c.in-Err.ensures.stays ∙ c.loop-zone.invariant.2,
+  λ x. c.in-Err.ensures.takes.others c.args.first x c.requires.first (λ same. absurd (omega (arith, same)))
+      ∙ c.loop-zone.invariant.3 x,
 )
 
 pub take_in-requires-in-loop-zone-2-clause-core : goal.take_in-requires-in-loop-zone-2-clause-core
@@ -84,6 +90,10 @@ loop-zone-2-preserved c = (
         | inl above ↦ inl above
         | inr below ↦ inr (omega (arith, below))
       ])),
+  c.in-Err-take_in.ensures.stays ∙ c.loop-zone-2.invariant.2,
+  λ x. c.in-Err-take_in.ensures.takes.others c.args.first x c.requires.first
+      (λ same. absurd (omega (arith, same, c.loop-zone-2-test.true)))
+      ∙ c.loop-zone-2.invariant.3 x,
 )
 
 pub returns-else-contended-clause-takes : goal.returns-else-contended-clause-takes
@@ -104,6 +114,8 @@ loop-zone-2-init c = (
       (λ k within. ⊎_elim (λ above. (above, omega (arith, within, c.loop-zone-test.false, c.len-count.ensures)))
       (λ below. absurd (omega (arith, below))))
       (λ k within not is. not (inl is.0)),
+  c.loop-zone.invariant.2,
+  c.loop-zone.invariant.3,
 )
 
 pub returns-then-contended-clause-takes : goal.returns-then-contended-clause-takes
@@ -115,3 +127,24 @@ returns-then-contended-clause-takes c d was =
       (λ z a x within. done.seen z a x (each z) within),
       done.missed c.if-contended.true,
     )
+
+pub returns-in-Ok-clause-stays : goal.returns-in-Ok-clause-stays
+returns-in-Ok-clause-stays c =
+    past_there c.args.self.now c.args.order c.args.first c.loop-zone.zone _ c.args.core.now c.loop-zone.core c.take_in.new.core _
+    c.requires.first (λ same. absurd (omega (arith, same))) (omega arith) c.loop-zone.invariant.2 c.loop-zone.invariant.3
+    c.in-Ok.ensures.stays c.in-Ok.ensures.takes (record { zone = refl; left = refl })
+
+pub returns-in-Ok-take_in-clause-stays : goal.returns-in-Ok-take_in-clause-stays
+returns-in-Ok-take_in-clause-stays c =
+    past_there c.args.self.now c.args.order c.args.first c.loop-zone-2.zone _ c.args.core.now c.loop-zone-2.core
+    c.take_in-in-loop-zone-2.new.core _ c.requires.first (λ same. absurd (omega (arith, same, c.loop-zone-2-test.true))) (omega arith)
+    c.loop-zone-2.invariant.2 c.loop-zone-2.invariant.3 c.in-Ok-take_in.ensures.stays c.in-Ok-take_in.ensures.takes
+    (record { zone = refl; left = refl })
+
+pub returns-then-contended-clause-stays : goal.returns-then-contended-clause-stays
+returns-then-contended-clause-stays c =
+    past_all c.args.order c.args.first _ c.args.core.now c.loop-zone-2.core c.loop-zone-2.invariant.2 c.loop-zone-2.invariant.3
+
+pub returns-else-contended-clause-stays : goal.returns-else-contended-clause-stays
+returns-else-contended-clause-stays c =
+    past_all c.args.order c.args.first _ c.args.core.now c.loop-zone-2.core c.loop-zone-2.invariant.2 c.loop-zone-2.invariant.3
