@@ -60,7 +60,7 @@ machine='what reads the words of the library'
     fi
 machine='Linux on the library, in QEMU'
 needs+=(qemu-system-x86_64 /usr/include/libelf.h)
-[ "${1-}" != qemu ] || lacks "${needs[@]}" || for goal in mm mm-trials; do tries "$goal"; done
+[ "${1-}" != qemu ] || lacks "${needs[@]}" || for goal in mm mm-huge mm-trials; do tries "$goal"; done
 machine='Programs of others in it'
 needs+=(stress-ng /usr/include/numa.h /usr/include/sys/capability.h)
 [ "${1-}" != qemu ] || lacks "${needs[@]}" || tries foreign

@@ -1,38 +1,20 @@
 /* Has memory cut up: cut PERCENT COMMAND.. writes to so much of the free memory, gives back every other page, and runs
  * the command. Each page bears a stamp, which is unchanged at the end, wherever the page was moved. */
 #define _GNU_SOURCE
-#include <stdbool.h>
-#include <stdio.h>
-#include <stdlib.h>
 #include <sys/mman.h>
 #include <sys/sysinfo.h>
 #include <sys/wait.h>
 #include <unistd.h>
 
-enum { PAGE = 4096 };
-
-static void need(bool is_so, const char *what)
-{
-    if (!is_so) {
-        perror(what);
-        exit(1);
-    }
-}
-
-static size_t *last_of(char *page)
-{
-    return (size_t *)(page + PAGE) - 1;
-}
+#include "stamps.h"
 
 static char *cut(size_t bytes)
 {
     char *at = mmap(NULL, bytes, PROT_READ | PROT_WRITE, MAP_PRIVATE | MAP_ANONYMOUS, -1, 0);
 
     need(at != MAP_FAILED, "mmap");
-    for (size_t i = 0; i < bytes; i += PAGE) {
-        *(size_t *)(at + i) = ~i;
-        *last_of(at + i) = i;
-    }
+    for (size_t i = 0; i < bytes; i += PAGE)
+        stamp(at + i, i);
     for (size_t i = PAGE; i < bytes; i += 2 * PAGE)
         need(!madvise(at + i, PAGE, MADV_DONTNEED), "madvise");
     return at;
@@ -57,9 +39,6 @@ int main(int count, char **words)
     }
     need(waitpid(child, &status, 0) == child, "waitpid");
     for (size_t i = 0; i < bytes; i += 2 * PAGE)
-        if (*(size_t *)(at + i) != ~i || *last_of(at + i) != i) {
-            puts("a stamp is wrong");
-            return 1;
-        }
+        need(is_stamped(at + i, i), "each stamp is whole");
     return status ? 1 : 0;
 }

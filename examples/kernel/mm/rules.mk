@@ -1,8 +1,8 @@
 # Linux 6.1 whose page allocator is the library (docs/KERNEL.md): `make um` runs it as a program (User Mode Linux), and
 # `make mm` in QEMU; `make um-trials` and `make mm-trials` show what has to fail in boots of its own. `make um-compaction`
-# is `make um` with compaction. `make foreign` runs programs of others in QEMU, and has Linux as a program compile Linux.
-# RUN names parts of mm/init or mm/foreign.sh, WORDS are more of the kernel's command line. `make threads` tries in user
-# space what reads the library's words.
+# is `make um` with compaction, and `make mm-huge` is `make mm` with huge pages of processes. `make foreign` runs
+# programs of others in QEMU, and has Linux as a program compile Linux. RUN names parts of mm/init or mm/foreign.sh,
+# WORDS are more of the kernel's command line. `make threads` tries in user space what reads the library's words.
 # It needs Debian's packages linux-source-6.1, xz-utils, flex, bison, bc, busybox-static or busybox, and cpio; in QEMU
 # also libelf-dev; programs of others stress-ng, libnuma-dev and libcap-dev.
 sources := /usr/src/linux-source-6.1.tar.xz
@@ -51,8 +51,9 @@ endef
 $(eval $(call compile,um,ARCH=um SUBARCH=x86_64,linux,linux))
 $(eval $(call compile,um-compaction,ARCH=um SUBARCH=x86_64,linux,linux,um))
 $(eval $(call compile,mm,ARCH=x86_64,bzImage modules,arch/x86/boot/bzImage))
+$(eval $(call compile,mm-huge,ARCH=x86_64,bzImage modules,arch/x86/boot/bzImage,mm))
 
-$(linux)/cut: mm/cut.c
+$(linux)/cut $(linux)/huge: $(linux)/%: mm/%.c mm/stamps.h
 	mkdir -p $(@D)
 	$(CC) -O2 -std=c11 -Wall -Wextra -static -o $@ $<
 
@@ -68,8 +69,8 @@ $(linux)/foreign/files: mm/foreign_files.sh mm/foreign.sh mm/selftests $(linux)/
 $(linux)/foreign/initramfs: $(linux)/mm/initramfs $(linux)/foreign/files
 	cat $^ >$@
 
-$(linux)/mm/initramfs: mm/init $(linux)/mm/image
-	$(call pack,$< $(addprefix $(@D)/,mm/zsmalloc.ko drivers/block/zram/zram.ko))
+$(linux)/mm/initramfs $(linux)/mm-huge/initramfs: %/initramfs: mm/init $(linux)/cut $(linux)/huge %/image
+	$(call pack,$(filter-out %/image,$^) $(addprefix $(@D)/,mm/zsmalloc.ko drivers/block/zram/zram.ko))
 
 # the test of references runs at every boot that does not forbid it, and takes minutes with poisoned pages
 without_references := initcall_blacklist=m_in
@@ -95,25 +96,38 @@ um-trials: $(linux)/um/image $(linux)/um/initramfs
 	mm/boot.sh -l 'llfree: zone .* is not opened: no memory' $(call um_at,um) earlyprintk llfree=small
 
 # without ACPI Linux finds one CPU for each socket
-mm mm-trials: cpus = $(SMP),sockets=$(SMP),cores=1
+mm mm-trials mm-huge: cpus = $(SMP),sockets=$(SMP),cores=1
 mm_words := console=ttyS0 quiet panic=-1 no_timer_check
 mm_parts := huge,cpus,swap,$(parts)
 # 6 GiB are two zones, and here three nodes, one of which has both
 of_nodes := numa=fake=3 run=shells,huge,cpus,orders,marks,zones llfree=bits $(without_references)
 # $(call in_qemu,MEMORY,IMAGE[,FILES]), and the words behind it
 in_qemu = $(seconds) $(linux)/$(or $(3),mm).log $(qemu) -m $(1) -initrd $(linux)/$(or $(3),mm)/initramfs \
-	-kernel $(linux)/mm/$(2) -append
+	-kernel $(linux)/$(2) -append
 
 mm: $(linux)/mm/image $(linux)/mm/initramfs
-	$(if $(RUN)$(WORDS),,mm/boot.sh $(call in_qemu,6G,image) '$(mm_words) $(of_nodes)')
-	mm/boot.sh $(call in_qemu,1G,image) '$(mm_words) run=$(or $(RUN),$(mm_parts)) $(or $(WORDS),$(checks))'
+	$(if $(RUN)$(WORDS),,mm/boot.sh $(call in_qemu,6G,mm/image) '$(mm_words) $(of_nodes)')
+	mm/boot.sh $(call in_qemu,1G,mm/image) '$(mm_words) run=$(or $(RUN),$(mm_parts)) $(or $(WORDS),$(checks))'
 
 mm-trials: $(linux)/mm/image $(linux)/mm/ordinary $(linux)/mm/initramfs
 	@echo '--- the ordinary archive has instructions that Linux has not allowed yet'
-	mm/boot.sh -l 'invalid opcode' $(call in_qemu,1G,ordinary) '$(mm_words) earlyprintk=ttyS0'
+	mm/boot.sh -l 'invalid opcode' $(call in_qemu,1G,mm/ordinary) '$(mm_words) earlyprintk=ttyS0'
 	@echo '--- an opening finds too little memory'
-	mm/boot.sh -l 'llfree: zone .* is not opened: no memory' $(call in_qemu,1G,image) \
+	mm/boot.sh -l 'llfree: zone .* is not opened: no memory' $(call in_qemu,1G,mm/image) \
 		'$(mm_words) earlyprintk=ttyS0 llfree=small'
+
+mm_huge_parts := cut,processes,$(mm_parts)
+huge_at = $(call in_qemu,1G,mm-huge/image,mm-huge)
+# the first warning ends it
+looking := panic_on_warn=1 ignore_loglevel run=cut llfree=looks $(without_references)
+
+# what a process has where memory is cut up, by the library, without its third cores, and by Linux' own allocator
+mm-huge: $(linux)/mm-huge/image $(linux)/mm-huge/initramfs
+	mm/boot.sh $(huge_at) '$(mm_words) run=$(or $(RUN),$(mm_huge_parts)) $(or $(WORDS),$(checks))'
+	$(if $(RUN)$(WORDS),,mm/boot.sh $(huge_at) '$(mm_words) run=cut $(checks) llfree=mixed')
+	$(if $(RUN)$(WORDS),,mm/boot.sh $(huge_at) '$(mm_words) run=cut $(checks) llfree=off')
+	$(if $(RUN)$(WORDS),,@echo '--- compaction uses free frames, and does not take them')
+	$(if $(RUN)$(WORDS),,mm/boot.sh -l 'llfree: (give|split) of frame .*: not held' $(huge_at) '$(mm_words) $(looking)')
 
 # an emulator takes its time for what others wrote, and hours for a compilation
 foreign: override seconds := 10800
@@ -122,7 +136,7 @@ foreign_parts := references,selftests,vmalloc,stress
 foreign_words = numa=fake=2 secretmem.enable=y run=$(or $(RUN),$(foreign_parts)) llfree=bits page_poison=1 $(WORDS)
 
 foreign: $(linux)/mm/image $(linux)/foreign/initramfs
-	mm/boot.sh $(call in_qemu,3G,image,foreign) '$(mm_words) $(foreign_words)'
+	mm/boot.sh $(call in_qemu,3G,mm/image,foreign) '$(mm_words) $(foreign_words)'
 	$(if $(RUN)$(WORDS),,mm/boot.sh $(seconds) $(linux)/compile.log $(linux)/um/image mem=3G $(um_words) \
 		initrd=$(linux)/foreign/initramfs run=compile $(checks))
 
@@ -136,4 +150,4 @@ threads: $(out)/threads
 	$< 2097152 3
 	$< 4194604 5
 
-.PHONY: um mm um-compaction um-trials mm-trials foreign threads
+.PHONY: um mm um-compaction mm-huge um-trials mm-trials foreign threads
