@@ -84,12 +84,14 @@ um: $(linux)/um/image $(linux)/um/initramfs
 	mm/boot.sh $(call um_at,um) run=$(or $(RUN),$(parts)) $(or $(WORDS),$(checks))
 
 um_compaction_parts := compact,$(parts)
+# the first warning ends it
+looking := panic_on_warn=1 ignore_loglevel llfree=looks $(without_references)
+not_held := -l 'llfree: (give|split) of frame .*: not held'
 
 um-compaction: $(linux)/um-compaction/image $(linux)/um/initramfs
 	mm/boot.sh $(call um_at,$@) run=$(or $(RUN),$(um_compaction_parts)) $(or $(WORDS),$(checks))
 	$(if $(RUN)$(WORDS),,@echo '--- compaction uses free frames, and does not take them')
-	$(if $(RUN)$(WORDS),,mm/boot.sh -l 'llfree: (give|split) of frame .*: not held' $(call um_at,$@) ignore_loglevel \
-		run=compact llfree=bits,looks page_poison=1 $(without_references))
+	$(if $(RUN)$(WORDS),,mm/boot.sh $(not_held) $(call um_at,$@) $(looking) run=compact)
 
 um-trials: $(linux)/um/image $(linux)/um/initramfs
 	@echo '--- an opening finds too little memory'
@@ -118,8 +120,6 @@ mm-trials: $(linux)/mm/image $(linux)/mm/ordinary $(linux)/mm/initramfs
 
 mm_huge_parts := cut,processes,$(mm_parts)
 huge_at = $(call in_qemu,1G,mm-huge/image,mm-huge)
-# the first warning ends it
-looking := panic_on_warn=1 ignore_loglevel run=cut llfree=looks $(without_references)
 
 # what a process has where memory is cut up, by the library, without its third cores, and by Linux' own allocator
 mm-huge: $(linux)/mm-huge/image $(linux)/mm-huge/initramfs
@@ -127,7 +127,7 @@ mm-huge: $(linux)/mm-huge/image $(linux)/mm-huge/initramfs
 	$(if $(RUN)$(WORDS),,mm/boot.sh $(huge_at) '$(mm_words) run=cut $(checks) llfree=mixed')
 	$(if $(RUN)$(WORDS),,mm/boot.sh $(huge_at) '$(mm_words) run=cut $(checks) llfree=off')
 	$(if $(RUN)$(WORDS),,@echo '--- compaction uses free frames, and does not take them')
-	$(if $(RUN)$(WORDS),,mm/boot.sh -l 'llfree: (give|split) of frame .*: not held' $(huge_at) '$(mm_words) $(looking)')
+	$(if $(RUN)$(WORDS),,mm/boot.sh $(not_held) $(huge_at) '$(mm_words) $(looking) run=cut')
 
 # an emulator takes its time for what others wrote, and hours for a compilation
 foreign: override seconds := 10800
