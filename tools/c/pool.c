@@ -1,6 +1,6 @@
-/* Desks: a hundred threads, which come and go, at eight with a core each, then at four with two, with an owner byte a
- * frame; runs of each length up to 512 and of some up to 1 GiB, and where they lie; children that are forked while
- * others are in calls, and take what is left; addresses. */
+/* Desks: at one of them four threads, one at a time; a hundred threads, which come and go, at eight with a core each,
+ * then at four with two, with an owner byte a frame; runs of each length up to 512 and of some up to 1 GiB, and where
+ * they lie; children that are forked while others are in calls, and take what is left; addresses. */
 #define _GNU_SOURCE
 #include "check.h"
 #include "llfree_pool.h"
@@ -179,6 +179,33 @@ static void places(void)
     }
 }
 
+/* Four threads at one desk, by either way to sit down: who sits there sits alone. */
+static void *sits(void *number)
+{
+    static atomic_int seated;
+
+    for (int round = 0; round < 20 * ROUNDS; round++) {
+        if ((size_t)number % 2 == 0)
+            CHECK(llfree_sit(desks, 1) == desks);
+        else
+            llfree_sit_at_all(desks, 1);
+        CHECK(atomic_fetch_add(&seated, 1) == 0);
+        atomic_fetch_sub(&seated, 1);
+        llfree_leave(desks);
+    }
+    return NULL;
+}
+
+static void one_at_a_time(void)
+{
+    pthread_t threads[4];
+
+    for (size_t i = 0; i < 4; i++)
+        CHECK(pthread_create(&threads[i], NULL, sits, (void *)i) == 0);
+    for (size_t i = 0; i < 4; i++)
+        CHECK(pthread_join(threads[i], NULL) == 0);
+}
+
 static void sit_at_all(void)
 {
     llfree_sit_at_all(desks, desk_count);
@@ -261,6 +288,7 @@ int main(void)
 {
     longest();
     places();
+    one_at_a_time();
     CHECK(pthread_atfork(sit_at_all, leave_all, leave_all) == 0);
     all(1);
     all(2);
