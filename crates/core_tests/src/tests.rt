@@ -1,5 +1,6 @@
 //! What no clause says.
 
+mod batches;
 mod cores;
 mod cues;
 mod desk;

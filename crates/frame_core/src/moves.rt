@@ -7,6 +7,7 @@ ghost use Rattle.frame_model.specs.Steps.{
   charge,
   refund,
   claim,
+  claim_singles,
   take_huge,
   tree_pay,
   tree_refund,
@@ -95,6 +96,11 @@ pub trait Moves {
             MayTry (claim word seen from order) seen (at self.old)) }
         ensures { OfRun mask (λ from order.
             Tries tick (claim word seen from order) seen result (at self.old) (at self.new)) };
+
+    /// Sets bits of a bit word: their frames, charged and paid before, are in flight one by one.
+    fn claim_singles(&mut self, word: u32, seen: u64, mask: u64) -> bool
+        requires { MayTry (claim_singles word seen mask) seen (at self.old) }
+        ensures { Tries tick (claim_singles word seen mask) seen result (at self.old) (at self.new) };
 
     /// Clears the bits of a run in a bit word: its frames, in flight before, are charged and paid.
     fn release(&mut self, word: u32, mask: u64)

@@ -11,6 +11,7 @@ pub enum Step {
     Charge { child: u32, n: u32 },
     Refund { child: u32, n: u32 },
     Claim { word: u32, bit: u32, order: u32 },
+    ClaimSingles { word: u32, mask: u64 },
     Release { word: u32, bit: u32, order: u32 },
     TakeHuge { child: u32 },
     GiveHuge { child: u32 },
@@ -38,9 +39,10 @@ impl Step {
             | Step::TakeHuge { child }
             | Step::GiveHuge { child }
             | Step::DropFlag { child } => Place::Entry(child),
-            Step::Claim { word, .. } | Step::Release { word, .. } | Step::FillWord { word } => {
-                Place::Bits(word)
-            }
+            Step::Claim { word, .. }
+            | Step::ClaimSingles { word, .. }
+            | Step::Release { word, .. }
+            | Step::FillWord { word } => Place::Bits(word),
             Step::TreePay { tree, .. }
             | Step::TreeRefund { tree, .. }
             | Step::Reserve { tree }

@@ -1,10 +1,11 @@
 -- An aligned run of ones, set in a word that has none of them, and cleared again.
-use Rattle.std.proofs.Common.{◌≡◌, ℕ, zero, suc, ◌+◌, ◌-◌, ◌*◌, ◌/◌, ◌%◌, ◌^◌, ◌<◌, ◌≤◌, min, max, refl, ap, ◌∙◌, arith}
+use Rattle.std.proofs.Common.{◌≡◌, ⊎_elim, ℕ, zero, suc, ◌+◌, ◌-◌, ◌*◌, ◌/◌, ◌%◌, ◌^◌, ◌<◌, ◌≤◌, min, max, refl, ap, ◌∙◌, arith}
 use Rattle.std.specs.Int.{bit_at, bit_not, w64}
 use Rattle.std.specs.Int.Count.{ones, ones_step, ones_cat, ones-ones}
 use Rattle.std.specs.Int.Bits.{bit_and, bit_or, or_step, and_step}
 use Rattle.std.proofs.Math.Nat.{pow-suc}
-use Rattle.std.proofs.lemmas.Nat.{pow_pos, and_le_l, or_lt}
+use Rattle.std.proofs.lemmas.Nat.{pow_pos, and_le_l, or_lt, zero_from_ones}
+use Rattle.std.proofs.lemmas.Bool.{cases_eq}
 use Rattle.std.proofs.lemmas.Nat.Bits.{bit_at_and, bit_at_or, bit_at-lt, bit_at-zero, bit_at_not, bit_at_mask_inside, bit_at_mask_below}
 use Rattle.std.proofs.lemmas.Nat.Bits.{bit_at_mask_above, same_from_bits_below}
 use lib.Pow.{high_ones, pow_mono}
@@ -83,3 +84,6 @@ module _ (n m : ℕ) (nf : n < 2 ^ 64) (mf : m < 2 ^ 64)
 pub ones-le : (k n : ℕ) → n < 2 ^ k → ones n ≤ k
 ones-le zero n h = let z : n ≡ 0 = omega arith in omega (arith, ap ones z, ones_zero)
 ones-le (suc k) n h = omega (arith, ones_step n, ones-le k (n / 2) (omega (arith, pow-suc 2 k)))
+
+pub some_ones : (n : ℕ) → 0 < n → 0 < ones n
+some_ones n h = ⊎_elim (λ z. absurd (omega (arith, h, zero_from_ones n z))) (λ some. omega (arith, some)) (cases_eq (ones n) 0)

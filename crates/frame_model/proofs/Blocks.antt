@@ -1,7 +1,9 @@
 -- Counts of blocks: at a frame, and as a whole child.
 use Rattle.std.proofs.Common.{◌≡◌, ◌≢◌, ⊎_elim, ℕ, zero, suc, ◌+◌, ◌*◌, ◌/◌, ◌%◌, ◌^◌, ◌<◌, ◌≤◌, List, [], ◌∷◌, ◌++◌, refl, sym, ◌∙◌, arith}
+use Rattle.std.specs.List.{All}
 use Rattle.std.specs.Int.{bit_at}
 use Rattle.std.proofs.lemmas.List.Sums.{sum_by-cons, sum_by-append}
+use Rattle.std.proofs.lemmas.List.Elements.{All-cons, All-nil}
 use Rattle.std.proofs.lemmas.Bool.Decides.{nat_tests}
 use Rattle.std.proofs.lemmas.Bool.{cases_lt}
 use Rattle.std.proofs.lemmas.Nat.{pow_pos}
@@ -195,3 +197,21 @@ halves_else c x ne =
     (λ below. omega (arith, before_block x a below, before_block x b (omega arith)))
     (λ above. omega (arith, behind_block x a (omega arith), behind_block x b (omega arith)))
     (cases_lt x (512 * c))
+
+-- the blocks hold just the frames of a bit word whose bits a mask has
+pub record AreAt (key : Key) (k mask : ℕ) (bs : List FrameBlock) : Type 0 where
+  pub are_blocks : All (IsBlock key) bs
+  pub here : (x : ℕ) → x / 64 ≡ k → smalls x bs ≡ bit_at mask (x % 64)
+  pub elsewhere : (x : ℕ) → x / 64 ≢ k → smalls x bs ≡ 0
+  pub no_wholes : (c : ℕ) → wholes c bs ≡ 0
+
+pub run_at : (key : Key) (k from o : ℕ) → IsRun key k from o
+    → AreAt key k (run from (2 ^ o)) (block (64 * k + from) o ∷ [])
+run_at key k from o r =
+    let b : FrameBlock = block (64 * k + from) o in
+    record {
+      are_blocks = All-cons (IsBlock key) b [] (run_is_block key k from o r) (All-nil (IsBlock key));
+      here = λ x e. omega (arith, smalls_cons x b [], smalls_none x, run_here k from o x r.small e);
+      elsewhere = λ x ne. omega (arith, smalls_cons x b [], smalls_none x, run_else k from o x r.fits ne);
+      no_wholes = λ c. omega (arith, wholes_cons c b [], wholes_none c, not_whole c b (omega (arith, r.small)));
+    }

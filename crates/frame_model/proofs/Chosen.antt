@@ -1,16 +1,19 @@
 -- Blocks that are made of the numbers of a range that pass a test: how many of them hold a frame or are a child.
-use Rattle.std.proofs.Common.{◌≡◌, ◌≢◌, ⊎_elim, ℕ, zero, suc, ◌+◌, ◌*◌, ◌<◌, ◌≤◌, List, ◌∷◌, Bool, true, false, cond, refl, ap, sym, ◌∙◌}
+use Rattle.std.proofs.Common.{◌≡◌, ◌≢◌, ⊎_elim, ℕ, zero, suc, ◌+◌, ◌*◌, ◌%◌, ◌<◌, ◌≤◌, List, ◌∷◌, Bool, true, false, cond, refl, ap, sym, ◌∙◌}
 use Rattle.std.proofs.Common.{arith}
-use Rattle.std.specs.Prelude.{if◌then◌else◌, map, filter}
+use Rattle.std.specs.Prelude.{nat_eq, if◌then◌else◌, map, filter}
+use Rattle.std.specs.Int.{bit_at}
 use Rattle.std.specs.List.{sum_by, range_with_len, All}
 use Rattle.std.proofs.lemmas.List.Sums.{sum_by-cons}
 use Rattle.std.proofs.lemmas.List.Elements.{All-cons}
 use Rattle.std.proofs.lemmas.Bool.{cases_eq, cases_lt}
+use Rattle.std.proofs.lemmas.Bool.Decides.{nat_tests}
+use Rattle.std.proofs.lemmas.Nat.Bits.{bit_at-lt}
 use Rattle.frame_model.specs.declared.block.FrameBlock.{FrameBlock}
 use Rattle.frame_model.specs.declared.key.Key.{Key}
 use Rattle.frame_model.specs.Key.{frame_count}
-use Rattle.frame_model.specs.Block.{block, IsBlock, small_at, whole_at, smalls, wholes}
-use Rattle.frame_model.proofs.Blocks.{in_block, before_block, behind_block, not_whole, not_small, whole_here, whole_else}
+use Rattle.frame_model.specs.Block.{block, IsBlock, small_at, whole_at, smalls, wholes, single_blocks}
+use Rattle.frame_model.proofs.Blocks.{in_block, before_block, behind_block, not_whole, not_small, whole_here, whole_else, AreAt}
 
 abbrev pub chosen : (ℕ → FrameBlock) → (ℕ → Bool) → ℕ → ℕ → List FrameBlock
 chosen g p a n = map g (filter p (range_with_len a n))
@@ -76,7 +79,7 @@ module _ (g : ℕ → FrameBlock) (p : ℕ → Bool) where
 frame_here : (x : ℕ) → small_at x (block x 0) ≡ 1
 frame_here x = in_block x (block x 0) (omega arith) (omega arith) (omega arith)
 
-frame_else : (x d : ℕ) → d ≢ x → small_at x (block d 0) ≡ 0
+pub frame_else : (x d : ℕ) → d ≢ x → small_at x (block d 0) ≡ 0
 frame_else x d ne = ⊎_elim (λ below. before_block x (block d 0) below) (λ above. behind_block x (block d 0) (omega arith)) (cases_lt x d)
 
 module _ (p : ℕ → Bool) (n x : ℕ) (h : x < n) where
@@ -94,6 +97,24 @@ pub frames_are_blocks : (key : Key) (p : ℕ → Bool)
 frames_are_blocks key p =
     chosen_all (λ f. block f 0) p (IsBlock key) 0 (frame_count key)
     (λ d l h. record { order = omega arith; aligned = omega arith; inside = omega arith })
+
+-- the frames of a bit word at the bits of a mask
+
+pub singles_at : (key : Key) (k mask : ℕ) → k < 8 * key.children → AreAt key k mask (single_blocks k mask)
+unfolding single_blocks smalls wholes
+singles_at key k mask inside =
+    let p : ℕ → Bool = λ x. nat_eq (bit_at mask (x % 64)) 1 in
+    record {
+      are_blocks = chosen_all (λ f. block f 0) p (IsBlock key) (64 * k) 64
+          (λ d l h. record { order = omega arith; aligned = omega arith; inside = omega (arith, inside) });
+      here = λ x e. chosen_one (λ f. block f 0) p (small_at x) x (64 * k) 64 (omega arith) (omega arith) (λ d ne. frame_else x d ne)
+          ∙ ap (λ y. if p x then y else 0) (frame_here x) ∙ as_bit (bit_at mask (x % 64)) (bit_at-lt mask (x % 64));
+      elsewhere = λ x ne. chosen_none (λ f. block f 0) p (small_at x) (64 * k) 64 (λ d l h. frame_else x d (λ e. ne (omega arith)));
+      no_wholes = λ c. chosen_none (λ f. block f 0) p (whole_at c) (64 * k) 64 (λ d l h. not_whole c (block d 0) (omega arith));
+    }
+  where
+    as_bit : (n : ℕ) → n < 2 → (if nat_eq n 1 then 1 else 0) ≡ n
+    as_bit n h = grind (arith, nat_tests)
 
 -- children as blocks of order 9
 

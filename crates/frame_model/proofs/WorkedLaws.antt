@@ -13,7 +13,7 @@ use Rattle.frame_model.specs.Holding.{holders}
 use Rattle.frame_model.specs.Rebuilt.{IsRebuilt}
 use Rattle.frame_model.specs.Events.{views_of, last_seen, State, Event, cuts, LeadsTo, Fits, EveryRunFits}
 use Rattle.frame_model.specs.Laws.{EveryFitIsSafe, EveryClosingAddsUp, EveryClosingHoldsTheKept, AddsUp, Happening}
-use Rattle.frame_model.specs.Laws.{blocks_with, Form, charging, refunding, claiming, releasing, taking_huge, giving_huge}
+use Rattle.frame_model.specs.Laws.{blocks_with, Form, charging, refunding, claiming, claiming_singles, releasing, taking_huge, giving_huge}
 use Rattle.frame_model.specs.Laws.{paying_tree, refunding_tree, reserving_tree, swapping_local, unreserving_tree}
 use Rattle.frame_model.specs.Laws.{paying_local, refunding_local, collecting, filling_word, dropping_flag}
 use Rattle.frame_model.specs.Laws.{parting_share, handing_out, recalling, parting_ground, adopting, joining_idle}
@@ -350,6 +350,7 @@ number keeping_in = 23
 number loading = 24
 number losing = 25
 number losing_at_will = 26
+number claiming_singles = 27
 
 pub forms_are_apart : FormsAreApart
 forms_are_apart = (number, refl)

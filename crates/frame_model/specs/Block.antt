@@ -1,7 +1,8 @@
 -- Blocks, and how many of them hold a frame or are a whole child.
-use Rattle.std.specs.Prelude.{◌≡◌, ℕ, ◌+◌, ◌*◌, ◌%◌, ◌^◌, ◌≤◌, List, ◌&&◌, nat_eq, nat_lt, nat_le, if◌then◌else◌}
-use Rattle.std.specs.List.{sum_by}
-use Rattle.frame_words.specs.Geometry.{child_frames}
+use Rattle.std.specs.Prelude.{◌≡◌, ℕ, ◌+◌, ◌*◌, ◌%◌, ◌^◌, ◌≤◌, List, ◌&&◌, nat_eq, nat_lt, nat_le, if◌then◌else◌, map, filter}
+use Rattle.std.specs.List.{sum_by, range_with_len}
+use Rattle.std.specs.Int.{bit_at}
+use Rattle.frame_words.specs.Geometry.{child_frames, word_frames}
 use Rattle.frame_model.specs.declared.block.FrameBlock.{FrameBlock}
 use Rattle.frame_model.specs.declared.key.Key.{Key}
 use Rattle.frame_model.specs.Key.{frame_count}
@@ -35,3 +36,9 @@ smalls frame blocks = sum_by (small_at frame) blocks
 -- how many blocks of a list are the whole child
 unfoldable pub wholes : ℕ → List FrameBlock → ℕ
 wholes child blocks = sum_by (whole_at child) blocks
+
+-- the frames of a bit word whose bits a mask has, each as a block of order 0, the lowest first
+unfoldable pub single_blocks : ℕ → ℕ → List FrameBlock
+single_blocks word mask =
+    map (λ x. block x 0)
+    (filter (λ x. nat_eq (bit_at mask (x % word_frames)) 1) (range_with_len (word_frames * word) word_frames))

@@ -12,7 +12,7 @@ use Rattle.frame_model.specs.View.{IsIdle}
 use Rattle.frame_model.specs.Fit.{all_views, Fit}
 use Rattle.frame_model.specs.Holding.{holders, IsHolding}
 use Rattle.frame_model.specs.Rebuilt.{IsRebuilt}
-use Rattle.frame_model.specs.Steps.{Kind, charge, refund, claim, release, take_huge, give_huge, tree_pay, tree_refund, reserve, swap_local, unreserve, local_pay, local_refund, collect, fill_word, drop_flag}
+use Rattle.frame_model.specs.Steps.{Kind, charge, refund, claim, claim_singles, release, take_huge, give_huge, tree_pay, tree_refund, reserve, swap_local, unreserve, local_pay, local_refund, collect, fill_word, drop_flag}
 use Rattle.frame_model.specs.Seats.{Cut, part_share, hand_out, recall, part_ground, adopt, Join, join_idle, hand_in, keep_in}
 use Rattle.frame_model.specs.Events.{State, Has, Fits, Event, loads, makes, loses, loses_at_will, cuts, joins, LeadsTo}
 use Rattle.frame_model.specs.Openings.{held_blocks, IsReopening, reopener, opened}
@@ -78,6 +78,7 @@ pub data Form : Type 0 where
   charging : Form
   refunding : Form
   claiming : Form
+  claiming_singles : Form
   releasing : Form
   taking_huge : Form
   giving_huge : Form
@@ -108,6 +109,7 @@ abbrev pub form_of_kind : Kind → Form
 form_of_kind (charge child seen n) = charging
 form_of_kind (refund child n) = refunding
 form_of_kind (claim word seen from order) = claiming
+form_of_kind (claim_singles word seen mask) = claiming_singles
 form_of_kind (release word from order rest) = releasing
 form_of_kind (take_huge child seen) = taking_huge
 form_of_kind (give_huge child rest) = giving_huge

@@ -1,6 +1,7 @@
 -- The kinds of step as data: the word that each changes, and what becomes of it and of the view.
-use Rattle.std.specs.Prelude.{◌≡◌, ℕ, pos, ◌+◌, ◌-◌, ◌*◌, ◌/◌, ◌%◌, ◌^◌, ◌<◌, ◌≤◌, bit_and, bit_or, List, [], ◌∷◌, Option, Some, None, slice_index, slice_set}
+use Rattle.std.specs.Prelude.{◌≡◌, ℕ, pos, ◌+◌, ◌-◌, ◌*◌, ◌/◌, ◌%◌, ◌^◌, ◌<◌, ◌≤◌, bit_and, bit_or, List, [], ◌∷◌, ◌++◌, Option, Some, None, slice_index, slice_set}
 use Rattle.std.specs.Int.{bit_not, w64}
+use Rattle.std.specs.Int.Count.{ones}
 use Rattle.frame_words.specs.Geometry.{child_frames, word_frames, tree_words}
 use Rattle.frame_words.specs.Runs.{child_words}
 use Rattle.frame_words.specs.Words.{entry_word, free_in, flag_in, lane_in, lane_put, lane_shift, rest_in, local_word}
@@ -8,11 +9,11 @@ use Rattle.frame_model.specs.declared.block.FrameBlock.{FrameBlock}
 use Rattle.frame_model.specs.declared.key.Key.{Key}
 use Rattle.frame_model.specs.declared.view.View.{View}
 use Rattle.frame_model.specs.Key.{tree_of_child}
-use Rattle.frame_model.specs.Block.{block}
+use Rattle.frame_model.specs.Block.{block, single_blocks}
 use Rattle.frame_model.specs.Words.{run, entry_place, tree_place, local_place, bits_place}
 use Rattle.frame_model.specs.View.{counted}
 use Rattle.frame_model.specs.Steps.Amounts.{put_in, more, less, rest_amount, rest_tree, rest_less, rest_more, more_of, less_of}
-use Rattle.frame_model.specs.Steps.Conditions.{CanCharge, CanRefund, CanClaim, CanRelease, CanTakeHuge, CanGiveHuge, CanTreePay, CanTreeRefund, CanReserve, CanSwapLocal, CanUnreserve, CanLocalPay, CanLocalRefund, CanCollect, CanFillWord, CanDropFlag}
+use Rattle.frame_model.specs.Steps.Conditions.{CanCharge, CanRefund, CanClaim, CanClaimSingles, CanRelease, CanTakeHuge, CanGiveHuge, CanTreePay, CanTreeRefund, CanReserve, CanSwapLocal, CanUnreserve, CanLocalPay, CanLocalRefund, CanCollect, CanFillWord, CanDropFlag}
 pub mod Amounts
 pub mod Conditions
 
@@ -25,6 +26,7 @@ pub data Kind : Type 0 where
   charge : (child seen n : ℕ) → Kind
   refund : (child n : ℕ) → Kind
   claim : (word seen from order : ℕ) → Kind
+  claim_singles : (word seen mask : ℕ) → Kind
   release : (word from order : ℕ) (rest : Rest) → Kind
   take_huge : (child seen : ℕ) → Kind
   give_huge : (child : ℕ) (rest : Rest) → Kind
@@ -44,6 +46,7 @@ abbrev pub place : Key → Kind → ℕ
 place key (charge child seen n) = entry_place child
 place key (refund child n) = entry_place child
 place key (claim word seen from order) = bits_place key word
+place key (claim_singles word seen mask) = bits_place key word
 place key (release word from order rest) = bits_place key word
 place key (take_huge child seen) = entry_place child
 place key (give_huge child rest) = entry_place child
@@ -63,6 +66,7 @@ abbrev pub seen_by : Kind → Option ℕ
 seen_by (charge child seen n) = Some seen
 seen_by (refund child n) = None
 seen_by (claim word seen from order) = Some seen
+seen_by (claim_singles word seen mask) = Some seen
 seen_by (release word from order rest) = None
 seen_by (take_huge child seen) = Some seen
 seen_by (give_huge child rest) = None
@@ -92,6 +96,7 @@ turned (charge child seen n) found =
     lane_put seen child (entry_word (free_in (lane_in seen child) - n) 0)
 turned (refund child n) found = (found + n * lane_shift child) % 2 ^ 64
 turned (claim word seen from order) found = bit_or seen (run from (2 ^ order))
+turned (claim_singles word seen mask) found = bit_or seen mask
 turned (release word from order rest) found = bit_and found (bit_not w64 (run from (2 ^ order)))
 turned (take_huge child seen) found = lane_put seen child (entry_word 0 1)
 turned (give_huge child rest) found = (found + (2 ^ 64 - 32256 * lane_shift child)) % 2 ^ 64
@@ -116,6 +121,7 @@ abbrev pub May : Key → Kind → View → Type 0
 May key (charge child seen n) v = CanCharge key v child seen n
 May key (refund child n) v = CanRefund key v child n
 May key (claim word seen from order) v = CanClaim key v word seen from order
+May key (claim_singles word seen mask) v = CanClaimSingles key v word seen mask
 May key (release word from order rest) v = CanRelease key v word from order (rest v.own)
 May key (take_huge child seen) v = CanTakeHuge key v child seen
 May key (give_huge child rest) v = CanGiveHuge key v child (rest v.own)
@@ -141,6 +147,12 @@ effect t (claim word seen from order) found v = record v {
   charged = less (word / child_words) (2 ^ order) v.charged;
   paid = less (word / tree_words) (2 ^ order) v.paid;
   own = block (word_frames * word + from) order ∷ v.own;
+  moves = t v.moves;
+}
+effect t (claim_singles word seen mask) found v = record v {
+  charged = less (word / child_words) (ones mask) v.charged;
+  paid = less (word / tree_words) (ones mask) v.paid;
+  own = single_blocks word mask ++ v.own;
   moves = t v.moves;
 }
 effect t (release word from order rest) found v = record v {

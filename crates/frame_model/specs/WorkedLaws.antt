@@ -8,7 +8,7 @@ use Rattle.frame_model.specs.Key.{IsKey}
 use Rattle.frame_model.specs.Block.{block}
 use Rattle.frame_model.specs.Words.{free_of, tree_free_of, AreInRange}
 use Rattle.frame_model.specs.View.{idle, IsIdle}
-use Rattle.frame_model.specs.Steps.{Rest, charge, refund, claim, release, take_huge, give_huge, tree_pay, tree_refund, reserve, swap_local, unreserve, local_pay, local_refund, collect, fill_word, drop_flag}
+use Rattle.frame_model.specs.Steps.{Rest, charge, refund, claim, claim_singles, release, take_huge, give_huge, tree_pay, tree_refund, reserve, swap_local, unreserve, local_pay, local_refund, collect, fill_word, drop_flag}
 use Rattle.frame_model.specs.Seats.{part_share, hand_out, recall, part_ground, adopt, join_idle, hand_in, keep_in}
 use Rattle.frame_model.specs.Without.{without}
 use Rattle.frame_model.specs.Events.{State, Event, loads, makes, loses, loses_at_will, cuts, joins, views_of, Has, LeadsTo}
@@ -116,9 +116,9 @@ one_of_each = makes 0 (charge 0 0 1) ∷ makes 0 (refund 0 1) ∷ makes 0 (claim
     cuts 0 (hand_out (block 0 0) stay) ∷ cuts 0 (recall (block 0 0) stay) ∷
     cuts 0 part_ground ∷ cuts 0 (adopt (block 0 0) stay) ∷ joins 0 1 join_idle ∷
     joins 0 1 hand_in ∷ joins 0 1 keep_in ∷ loads 0 0 ∷ loses 0 (charge 0 0 1) ∷
-    loses_at_will 0 (charge 0 0 1) ∷ []
+    loses_at_will 0 (charge 0 0 1) ∷ makes 0 (claim_singles 0 0 1) ∷ []
 
--- their forms are as many as they are: they can be numbered from 0 to 26
+-- their forms are as many as they are: they can be numbered from 0 to 27
 abbrev pub FormsAreApart : Type 0
 FormsAreApart = (number : Form → ℕ)
-    × (map (λ event. number (form_of event)) one_of_each ≡ range_with_len 0 27)
+    × (map (λ event. number (form_of event)) one_of_each ≡ range_with_len 0 28)

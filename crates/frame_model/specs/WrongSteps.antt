@@ -3,7 +3,9 @@
 use Rattle.std.specs.Prelude.{◌≡◌, ◌≢◌, ℕ, ◌*◌, ◌/◌, ◌^◌, ◌<◌, ◌≤◌, bit_and, List, [], ◌∷◌, ◌++◌, Some, slice_index, slice_set}
 use mathlib.Core.Option.{some}
 use lib.ListN.{get_elem?}
-use Rattle.frame_words.specs.Geometry.{child_frames}
+use Rattle.std.specs.Int.{bit_at}
+use Rattle.std.specs.Int.Count.{ones}
+use Rattle.frame_words.specs.Geometry.{child_frames, word_frames}
 use Rattle.frame_words.specs.Runs.{child_words}
 use Rattle.frame_model.specs.declared.block.FrameBlock.{FrameBlock}
 use Rattle.frame_model.specs.declared.key.Key.{Key}
@@ -13,9 +15,9 @@ use Rattle.frame_model.specs.Block.{block, IsBlock}
 use Rattle.frame_model.specs.Words.{run, bit_word_of, huge_of, free_of}
 use Rattle.frame_model.specs.View.{names, charged_in, idle}
 use Rattle.frame_model.specs.Fit.{Fit}
-use Rattle.frame_model.specs.Steps.{Kind, place, effect, next, Rest, claim, refund, take_huge, reserve, unreserve, drop_flag, words_after}
+use Rattle.frame_model.specs.Steps.{Kind, place, effect, next, Rest, claim, claim_singles, refund, take_huge, reserve, unreserve, drop_flag, words_after}
 use Rattle.frame_model.specs.Steps.Amounts.{Leaves, IsRun}
-use Rattle.frame_model.specs.Steps.Conditions.{CanClaim, CanRefund, CanTakeHuge, CanUnreserve, CanDropFlag}
+use Rattle.frame_model.specs.Steps.Conditions.{CanClaim, CanClaimSingles, CanRefund, CanTakeHuge, CanUnreserve, CanDropFlag}
 use Rattle.frame_model.specs.Seats.{hand_out, left_by, right_by, MayCut}
 use Rattle.frame_model.specs.Events.{State, views_of, Event, LeadsTo}
 use Rattle.frame_model.specs.Openings.{IsSealedOpening, opened}
@@ -77,6 +79,40 @@ ClaimsUncharged = Everywhere (λ key words views id v. (word from order : ℕ)
     → let kind : Kind = claim_now key words word from order in
     (¬ CanClaim key v word (bit_word_of key words word) from order)
     × DoNotFit key (words_after key kind words) (slice_set views id (view_after kind v)))
+
+-- Single frames.
+
+-- the claim of the frames at the bits of a mask, as the bit word stands
+abbrev pub claim_singles_now : Key → List ℕ → ℕ → ℕ → Kind
+claim_singles_now key words word mask = claim_singles word (bit_word_of key words word) mask
+
+-- bits that are clear, and too few of their frames are charged
+abbrev pub ChargesTooFewSingles : Key → List ℕ → View → (word mask : ℕ) → Type 0
+ChargesTooFewSingles key words v word mask = (word < child_words * key.children) × (mask < 2 ^ 64)
+    × (bit_and (bit_word_of key words word) mask ≡ 0) × (charged_in (word / child_words) v < ones mask)
+
+-- bits of which one is set
+abbrev pub HasASetBit : Key → List ℕ → (word mask bit : ℕ) → Type 0
+HasASetBit key words word mask bit = (word < child_words * key.children) × (bit < word_frames)
+    × (bit_at mask bit ≡ 1) × (bit_at (bit_word_of key words word) bit ≡ 1)
+
+-- Single frames are claimed of which too few are charged, or none: the step may not be made, and would not fit.
+abbrev pub ClaimsSinglesUncharged : Type 0
+ClaimsSinglesUncharged = Everywhere (λ key words views id v. (word mask : ℕ)
+    → ChargesTooFewSingles key words v word mask
+    → let kind : Kind = claim_singles_now key words word mask in
+    (¬ CanClaimSingles key v word (bit_word_of key words word) mask)
+    × DoNotFit key (words_after key kind words) (slice_set views id (view_after kind v)))
+
+-- Single frames are claimed of which one is held already: the step may not be made, and would not fit.
+abbrev pub ClaimsAHeldFrame : Type 0
+ClaimsAHeldFrame = Everywhere (λ key words views id v. (word mask bit : ℕ)
+    → HasASetBit key words word mask bit
+    → let kind : Kind = claim_singles_now key words word mask in
+    (¬ CanClaimSingles key v word (bit_word_of key words word) mask)
+    × DoNotFit key (words_after key kind words) (slice_set views id (view_after kind v)))
+
+-- A refund.
 
 -- more frames of a child than are charged, and no more than it has
 abbrev pub RefundsTooMany : Key → View → (child n : ℕ) → Type 0
@@ -174,6 +210,8 @@ pub record AreMet : Type 0 where
       × SeesClear key words word from order)
   pub claims : IsMet (λ key words views id v. (word : ℕ) × (from : ℕ) × (order : ℕ)
       × ChargesTooFew key words v word from order)
+  pub singles : IsMet (λ key words views id v. (word : ℕ) × (mask : ℕ) × ChargesTooFewSingles key words v word mask)
+  pub held : IsMet (λ key words views id v. (word : ℕ) × (mask : ℕ) × (bit : ℕ) × HasASetBit key words word mask bit)
   pub refund : IsMet (λ key words views id v. (child : ℕ) × (n : ℕ) × RefundsTooMany key v child n)
   pub huge : IsMet (λ key words views id v. (child : ℕ)
       × HasNotAll key words child × (free_of words child ≡ 511))

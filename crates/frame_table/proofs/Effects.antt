@@ -3,7 +3,7 @@ use Rattle.std.proofs.Common.{◌≡◌, ℕ, ◌*◌, ◌<◌, refl, arith}
 use Rattle.frame_model.specs.declared.key.Key.{Key}
 use Rattle.frame_model.specs.declared.view.View.{View}
 use Rattle.frame_model.specs.Words.{word_count, bits_place}
-use Rattle.frame_model.specs.Steps.{Kind, charge, refund, claim, release, take_huge, give_huge, tree_pay, tree_refund, reserve, swap_local}
+use Rattle.frame_model.specs.Steps.{Kind, charge, refund, claim, claim_singles, release, take_huge, give_huge, tree_pay, tree_refund, reserve, swap_local}
 use Rattle.frame_model.specs.Steps.{unreserve, local_pay, local_refund, collect, fill_word, drop_flag, place, May}
 use Rattle.frame_model.specs.Seats.{Cut, part_share, hand_out, recall, part_ground, adopt, Join, join_idle, hand_in, keep_in, left_by}
 use Rattle.frame_model.specs.Seats.{right_by, joined_by}
@@ -36,6 +36,7 @@ pub place_inside : (key : Key) (kind : Kind) (v : View) → May key kind v → p
 place_inside key (charge c seen n) v may = entry_place-lt key c may.inside
 place_inside key (refund c n) v may = entry_place-lt key c may.inside
 place_inside key (claim w seen from o) v may = bits_place-lt key w may.is_run.inside
+place_inside key (claim_singles w seen m) v may = bits_place-lt key w may.inside
 place_inside key (release w from o rest) v may = bits_place-lt key w may.is_run.inside
 place_inside key (take_huge c seen) v may = entry_place-lt key c may.inside
 place_inside key (give_huge c rest) v may = entry_place-lt key c may.inside

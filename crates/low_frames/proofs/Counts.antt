@@ -5,7 +5,7 @@ use Rattle.std.proofs.lemmas.Bool.Decides.{nat_tests}
 use Rattle.frame_model.specs.declared.block.FrameBlock.{FrameBlock}
 use Rattle.frame_model.specs.declared.place.Place.{Place}
 use Rattle.frame_model.specs.declared.view.View.{View}
-use Rattle.frame_model.specs.Steps.{Kind, charge, refund, claim, release, take_huge, give_huge, tree_pay, tree_refund, reserve}
+use Rattle.frame_model.specs.Steps.{Kind, charge, refund, claim, claim_singles, release, take_huge, give_huge, tree_pay, tree_refund, reserve}
 use Rattle.frame_model.specs.Steps.{swap_local, unreserve, local_pay, local_refund, collect, fill_word, drop_flag}
 use Rattle.frame_core.specs.Moves.{after}
 use Rattle.frame_core.specs.Mover.{Mover, Ticks, Loads, Tries, Makes, HandsOut, HandsIn}
@@ -36,6 +36,7 @@ after_moves : (t : ℕ → ℕ) (kind : Kind) (v : View) → (after t kind v).mo
 after_moves t (charge c seen n) v = refl
 after_moves t (refund c n) v = refl
 after_moves t (claim w seen from o) v = refl
+after_moves t (claim_singles w seen m) v = refl
 after_moves t (release w from o rest) v = refl
 after_moves t (take_huge c seen) v = refl
 after_moves t (give_huge c rest) v = refl
@@ -54,6 +55,7 @@ pub after_lost : (t : ℕ → ℕ) (kind : Kind) (v : View) → (after t kind v)
 after_lost t (charge c seen n) v = refl
 after_lost t (refund c n) v = refl
 after_lost t (claim w seen from o) v = refl
+after_lost t (claim_singles w seen m) v = refl
 after_lost t (release w from o rest) v = refl
 after_lost t (take_huge c seen) v = refl
 after_lost t (give_huge c rest) v = refl

@@ -13,6 +13,7 @@ pub mod HeldLemmas
 pub mod FlightLemmas
 pub mod GiveAlone
 pub mod WideAlone
+pub mod BitLemmas
 pub mod SinglesAlone
 pub mod SinglesLemmas
 pub mod PlaceLemmas

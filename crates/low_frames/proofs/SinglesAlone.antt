@@ -1,29 +1,37 @@
 -- What takes of several single frames do to the words where nobody else steps.
-use Rattle.std.proofs.Common.{◌≡◌, ⊎_elim, ℕ, ◌+◌, ◌-◌, ◌*◌, ◌/◌, ◌%◌, ◌^◌, ◌<◌, ◌≤◌, max, List, [], ◌∷◌, ◌++◌, Option, None, Some, refl, ap, sym, subst, ◌∙◌, arith}
+use Rattle.std.proofs.Common.{◌≡◌, ⊎_elim, ℕ, ◌+◌, ◌-◌, ◌*◌, ◌/◌, ◌%◌, ◌^◌, ◌<◌, ◌≤◌, max, List, [], ◌∷◌, ◌++◌, set, Option, None, Some, refl, ap, sym, subst, ◌∙◌, arith}
+use Rattle.std.specs.Prelude.{Bool, slice_index}
 use Rattle.std.specs.Int.{bit_at}
+use Rattle.std.specs.Int.Bits.{bit_and, bit_or}
+use Rattle.std.specs.Int.Count.{ones}
+use Rattle.std.proofs.lemmas.List.{set-get_or}
+use Rattle.std.proofs.lemmas.Nat.{and_le_r, or_disjoint}
+use Rattle.std.proofs.lemmas.Nat.Bits.{bit_at_and, bit_at_or, bit_at-lt, bit_at-zero}
 use Rattle.std.proofs.lemmas.Bool.{cases_lt, cases_eq}
 use Rattle.frame_words.specs.Words.{free_in, lane_in}
 use Rattle.frame_model.specs.declared.block.FrameBlock.{FrameBlock}
 use Rattle.frame_model.specs.declared.key.Key.{Key}
 use Rattle.frame_model.specs.declared.view.View.{View}
-use Rattle.frame_model.specs.Key.{frame_count}
-use Rattle.frame_model.specs.Block.{block, small_at, smalls}
-use Rattle.frame_model.specs.Words.{entry_place, bit_of, free_of, huge_of, bit_word_of, AreInRange}
+use Rattle.frame_model.specs.Block.{block, small_at, smalls, single_blocks}
+use Rattle.frame_model.specs.Words.{entry_place, bits_place, bit_of, free_of, huge_of, bit_word_of, AreInRange}
 use Rattle.frame_model.specs.View.{charged_in}
 use Rattle.frame_model.specs.Report.{held_at}
-use Rattle.frame_model.specs.Steps.{Kind, refund, words_after}
-use Rattle.frame_model.proofs.Blocks.{smalls_cons, smalls_none, smalls_both, in_block, before_block, behind_block}
-use Rattle.frame_model.proofs.Steps.Shared.{bit-le, bit_is}
-use Rattle.frame_core.specs.Moves.{Changes}
-use Rattle.low_frames.specs.Alone.{Turns, FindsOf, IsCharged, HasTooFew, IsClaimed, HasNoRun}
-use Rattle.low_frames.specs.SinglesAlone.{AreHeld, HoldsMoreOf, TakesUpTo, ClaimsUpTo, HandsOutOf}
-use Rattle.low_frames.proofs.AloneLemmas.{IsSeen, at_known, free_seen}
+use Rattle.frame_model.specs.Steps.{Kind, refund, claim_singles, words_after}
+use Rattle.frame_model.proofs.Blocks.{smalls_cons, smalls_none, smalls_both, in_block}
+use Rattle.frame_model.proofs.Chosen.{frame_else, singles_at}
+use Rattle.frame_model.proofs.Sets.{bit-le-ones, bit_at_full}
+use Rattle.frame_model.proofs.Words.{BitsWritten, bits_written}
+use Rattle.frame_model.proofs.Steps.Shared.{bit-le, bit_is, bit_word_is, as_bits}
+use Rattle.frame_core.specs.Moves.{Changes, Exchanges}
+use Rattle.low_frames.specs.Alone.{Turns, FindsOf, IsCharged, HasTooFew}
+use Rattle.low_frames.specs.SinglesAlone.{AreHeld, HoldsMoreOf, TakesUpTo, ClaimsUpTo, SetsBits}
+use Rattle.low_frames.proofs.AloneLemmas.{IsSeen, at_known, if_known, made_first, free_seen}
+use Rattle.low_frames.proofs.BitLemmas.{IsLowest, lowest_gone, others_stay}
 use Rattle.low_frames.proofs.ViewLemmas.{covered_from}
 use Rattle.low_frames.proofs.RoomLemmas.{FitsAlone, range_alone, none_of_few}
-use Rattle.low_frames.proofs.RoomLemmas.Charged.{charge_written, charge_flags, charge_left}
-use Rattle.low_frames.proofs.RoomLemmas.Claimed.{claim_bits, claim_flags, claim_entries}
+use Rattle.low_frames.proofs.RoomLemmas.Charged.{charge_written, charge_flags}
 use Rattle.low_frames.proofs.HeldLemmas.{AreSame, refund_same}
-use Rattle.low_frames.proofs.FlightLemmas.{charged_no_flag, charged_has_room}
+use Rattle.low_frames.proofs.FlightLemmas.{charged_has_room}
 
 -- Words that may be known.
 
@@ -119,22 +127,6 @@ pub past_held : (key : Key) (from count all child : ℕ) (ws : List ℕ) → key
     → AreHeld key from count ws → AreHeld key from all ws
 past_held key from count all child ws past e one x l m h = one x l (omega arith) h
 
--- a bit word without a clear bit
-pub word_held : (key : Key) (word : ℕ) (ws : List ℕ) → HasNoRun key word 0 ws → AreHeld key (64 * word) 64 ws
-word_held key word ws none x l m h =
-    let here : x / 64 ≡ word = omega arith in
-    ⊎_elim
-    (λ (z : bit_at (bit_word_of key ws word) (x % 64) ≡ 0).
-    absurd (none (x % 64) (record {
-      aligned = omega arith;
-      bits = record {
-        inside = omega arith;
-        clear = λ i p q. ap (bit_at (bit_word_of key ws word)) (omega arith) ∙ z;
-      };
-    })))
-    (λ some. omega (arith, held_is key ws x, bit_is key ws x word here, some))
-    (cases_eq (bit_at (bit_word_of key ws word) (x % 64)) 0)
-
 -- a child whose entry shows no free frame
 pub child_held : (A : Type 0) (key : Key) (ws : List ℕ) (v : View) → FitsAlone A key ws v → A → (child : ℕ) → child < key.children
     → v.charged ≡ None → HasTooFew child 1 ws → AreHeld key (512 * child) 512 ws
@@ -157,38 +149,59 @@ pub charge_holds : (key : Key) (ws us : List ℕ) (child n : ℕ) → AreInRange
 charge_holds key ws us child n r inside charged =
     holds_none key ws us (charge_written key ws us child n r inside charged).bits (charge_flags key ws us child n r inside charged)
 
--- a run that was claimed, and its frames
-pub claim_holds : (key : Key) (ws us : List ℕ) (word bit order : ℕ) (blocks : List FrameBlock) → AreInRange key ws
-    → word < 8 * key.children → order ≤ 6 → bit + 2 ^ order ≤ 64 → huge_of ws (word / 8) ≡ 0 → IsClaimed key word bit order ws us
-    → ((x : ℕ) → smalls x blocks ≡ small_at x (block (64 * word + bit) order)) → ClaimsUpTo key 0 0 0 0 blocks ws us
-claim_holds key ws us word bit order blocks r inside few fits flag claimed are = record {
-  takes = record {
-    holds = record {
-      were_free = λ x h some.
-          let b : FrameBlock = block (64 * word + bit) order in
-          let low : 64 * word + bit ≤ x =
-          ⊎_elim (λ (l : x < b.frame). absurd (omega (arith, some, are x, before_block x b l))) (λ l. l) (cases_lt x b.frame) in
-          let high : x < 64 * word + bit + 2 ^ order =
-          ⊎_elim (λ l. l) (λ (l : b.frame + 2 ^ b.order ≤ x). absurd (omega (arith, some, are x, behind_block x b l)))
-          (cases_lt x (b.frame + 2 ^ b.order)) in
-          let child : x / 512 ≡ word / 8 = omega (arith, low, high, fits) in
-          omega (
-            arith,
-            held_is key ws x,
-            ap (huge_of ws) child,
-            flag,
-            claim_bits key ws us word bit order r inside few claimed x,
-            are x,
-            some,
-            bit-le key us x,
-          );
-      bits = λ x h. omega (arith, claim_bits key ws us word bit order r inside few claimed x, are x);
-      flags = λ c h. claim_flags key ws us word bit order r inside few claimed c h;
-    };
-    none_left = λ h. absurd (omega (arith, h));
-  };
-  entries = λ c h. claim_entries key ws us word bit order r inside few claimed c h;
-}
+-- bits that were set, and their frames
+pub sets_hold : (key : Key) (ws us : List ℕ) (word mask n : ℕ) (blocks : List FrameBlock) → AreInRange key ws → word < 8 * key.children
+    → (0 < ones mask → huge_of ws (word / 8) ≡ 0) → SetsBits key word mask n ws us
+    → ((x : ℕ) → smalls x blocks ≡ smalls x (single_blocks word mask)) → ClaimsUpTo key (64 * word) 64 (ones mask) n blocks ws us
+sets_hold key ws us word mask n blocks r inside flag sets of_mask =
+    let seen : ℕ = bit_word_of key ws word in
+    let new : ℕ = bit_or seen mask in
+    let are = singles_at key word mask inside in
+    let written : BitsWritten key ws word new us =
+    subst (BitsWritten key ws word new) (as_bits key ws word new new refl ∙ sym sets.words) (bits_written key ws word new r inside) in
+    let bits : (x : ℕ) → bit_of key us x ≡ bit_of key ws x + smalls x blocks =
+    λ x.
+    ⊎_elim
+    (λ e. omega (
+      arith,
+      written.bits_here x e,
+      of_mask x,
+      are.here x e,
+      bit_is key ws x word e,
+      bit_at_or seen mask (x % 64),
+      bit_at_and seen mask (x % 64),
+      ap (λ a. bit_at a (x % 64)) sets.were_clear,
+      bit_at-zero (x % 64),
+      bit_at-lt seen (x % 64),
+      bit_at-lt mask (x % 64),
+    ))
+    (λ ne. omega (arith, written.bits_else x ne, of_mask x, are.elsewhere x ne))
+    (cases_eq (x / 64) word) in
+    record {
+      takes = record {
+        holds = record {
+          were_free = λ x h some.
+              let here : x / 64 ≡ word =
+              ⊎_elim (λ e. e) (λ ne. absurd (omega (arith, some, of_mask x, are.elsewhere x ne))) (cases_eq (x / 64) word) in
+              let child : x / 512 ≡ word / 8 = omega (arith, here) in
+              let clear : huge_of ws (word / 8) ≡ 0 =
+              flag (omega (arith, some, of_mask x, are.here x here, bit-le-ones (x % 64) mask)) in
+              omega (arith, held_is key ws x, ap (huge_of ws) child, clear, bits x, some, bit-le key us x);
+          bits = λ x h. bits x;
+          flags = λ c h. written.huge c h;
+        };
+        none_left = λ few x l m h.
+            let here : x / 64 ≡ word = omega arith in
+            omega (
+              arith,
+              held_is key us x,
+              written.bits_here x here,
+              ap (λ a. bit_at a (x % 64)) (sets.none_left few),
+              bit_at_full (x % 64) (omega arith),
+            );
+      };
+      entries = λ c h. written.free c h;
+    }
 
 -- a refund holds no frame
 pub refund_holds : (A : Type 0) (key : Key) (ws us : List ℕ) (v : View) (child n : ℕ) → FitsAlone A key ws v → child < key.children
@@ -228,47 +241,113 @@ claims_both key es bs ws us vs from count k n f g found = record {
 pub takes_none : (key : Key) (from k n : ℕ) (ws : List ℕ) → TakesUpTo key from 0 k n [] ws ws
 takes_none key from k n ws = (claims_none key from k n ws).takes
 
--- Frames of a run, one after the other.
+-- What was seen of a bit word, and its bits that were set.
 
--- the blocks are the single frames from one to below another
-pub record AreFrames (from to : ℕ) (blocks : List FrameBlock) : Type 0 where
-  pub below : (x : ℕ) → x < from → smalls x blocks ≡ 0
-  pub inside : (x : ℕ) → from ≤ x → x < to → smalls x blocks ≡ 1
-  pub above : (x : ℕ) → to ≤ x → smalls x blocks ≡ 0
+or_none : (n : ℕ) → bit_or n 0 ≡ n
+or_none n = omega (arith, or_disjoint n 0 (omega (arith, and_le_r n 0)))
 
-pub no_frames : (from to : ℕ) → to ≤ from → AreFrames from to []
-no_frames from to h = record {
-  below = λ x l. smalls_none x;
-  inside = λ x l m. absurd (omega (arith, h));
-  above = λ x l. smalls_none x;
-}
+module _ (key was : Key) (word seen mask n : ℕ) (same : key ≡ was) (clear : bit_and seen mask ≡ 0)
+    (full : ones mask < n → bit_or seen mask ≡ 2 ^ 64 - 1) where
+  sets : (ws us : List ℕ) → slice_index ws (bits_place key word) ≡ seen → us ≡ words_after key (claim_singles word seen mask) ws
+      → SetsBits was word mask n ws us
+  sets ws us e is =
+      let there : bit_word_of was ws word ≡ seen =
+      bit_word_is was ws word ∙ ap (λ (k : Key). slice_index ws (bits_place k word)) (sym same) ∙ e in
+      record {
+        were_clear = ap (λ s. bit_and s mask) there ∙ clear;
+        words = is ∙ ap (λ k. words_after k (claim_singles word seen mask) ws) same
+            ∙ ap (λ s. words_after was (claim_singles word s mask) ws) (sym there);
+        none_left = λ few. ap (λ s. bit_or s mask) there ∙ full few;
+      }
 
-pub frames_more : (from to : ℕ) (es bs : List FrameBlock) → from ≤ to → AreFrames from to es → bs ≡ block to 0 ∷ []
-    → AreFrames from (to + 1) (es ++ bs)
-frames_more from to es bs h are e =
-    let b : FrameBlock = block to 0 in
-    let all : (x : ℕ) → smalls x (es ++ bs) ≡ smalls x es + small_at x b =
-    λ x. omega (arith, smalls_both x es bs, ap (smalls x) e, smalls_cons x b [], smalls_none x) in
-    record {
-      below = λ x l. omega (arith, all x, are.below x l, before_block x b (omega (arith, h)));
-      inside = λ x l m.
-          ⊎_elim
-          (λ (low : x < to). omega (arith, all x, are.inside x l low, before_block x b low))
-          (λ high. omega (arith, all x, are.above x high, in_block x b (omega arith) high (omega arith)))
-          (cases_lt x to);
-      above = λ x l. omega (arith, all x, are.above x (omega arith), behind_block x b (omega arith));
-    }
+  -- at the first try
+  pub sets_first : (made : Bool) (old now new : Option (List ℕ)) → IsSeen (bits_place key word) seen old now
+      → Exchanges key (claim_singles word seen mask) seen made now new → Turns (SetsBits was word mask n) old new
+  sets_first made old now new load made_if =
+      if_known old
+      (λ ws. (slice_index ws (bits_place key word) ≡ seen) × (new ≡ Some (words_after key (claim_singles word seen mask) ws)))
+      (λ ws. (us : List ℕ) × ((new ≡ Some us) × SetsBits was word mask n ws us))
+      (made_first key (claim_singles word seen mask) seen made old now new load made_if)
+      (λ ws d h. (words_after key (claim_singles word seen mask) ws, (h.1, sets ws (words_after key (claim_singles word seen mask) ws) h.0 refl)))
 
--- they are those of a block
-pub frames_of_block : (f o to : ℕ) (blocks : List FrameBlock) → o ≤ 6 → to ≡ f + 2 ^ o → AreFrames f to blocks → (x : ℕ)
-    → smalls x blocks ≡ small_at x (block f o)
-frames_of_block f o to blocks small e are x =
-    let b : FrameBlock = block f o in
+  -- there was none to set
+  pub sets_none : (old now : Option (List ℕ)) → mask ≡ 0 → IsSeen (bits_place key word) seen old now
+      → Turns (SetsBits was word mask n) old now
+  sets_none old now none load =
+      if_known old (λ ws. (slice_index ws (bits_place key word) ≡ seen) × (now ≡ Some ws))
+      (λ ws. (us : List ℕ) × ((now ≡ Some us) × SetsBits was word mask n ws us)) load
+      (λ ws d h. (
+        ws,
+        (
+          h.1,
+          sets ws ws h.0 (sym (ap (set ws (bits_place key word)) (ap (bit_or seen) none ∙ or_none seen ∙ sym h.0)
+              ∙ set-get_or ws (bits_place key word) 0)),
+        ),
+      ))
+
+-- Single frames, one after the other.
+
+-- the blocks hold the frames of the bit word at the bits of a mask, but not those of the rest
+abbrev pub AreBut : ℕ → ℕ → ℕ → List FrameBlock → Type 0
+AreBut k rest mask blocks = (x : ℕ) → smalls x blocks + smalls x (single_blocks k rest) ≡ smalls x (single_blocks k mask)
+
+pub none_but : (k mask : ℕ) → AreBut k mask mask []
+none_but k mask x = omega (arith, smalls_none x)
+
+pub all_but : (key : Key) (k mask : ℕ) (blocks : List FrameBlock) → k < 8 * key.children → AreBut k 0 mask blocks → (x : ℕ)
+    → smalls x blocks ≡ smalls x (single_blocks k mask)
+all_but key k mask blocks inside are x =
+    let none = singles_at key k 0 inside in
     ⊎_elim
-    (λ (l : x < f). omega (arith, are.below x l, before_block x b l))
-    (λ l.
-    ⊎_elim
-    (λ (m : x < to). omega (arith, are.inside x l m, in_block x b (omega (arith, small)) l (omega (arith, m, e))))
-    (λ m. omega (arith, are.above x m, behind_block x b (omega (arith, m, e))))
-    (cases_lt x to))
-    (cases_lt x f)
+    (λ e. omega (arith, are x, none.here x e, bit_at-zero (x % 64)))
+    (λ ne. omega (arith, are x, none.elsewhere x ne))
+    (cases_eq (x / 64) k)
+
+module _ (key : Key) (k n i : ℕ) (inside : k < 8 * key.children) (low : IsLowest n i) where
+  lowest_out : (x : ℕ) → smalls x (single_blocks k n) ≡ small_at x (block (64 * k + i) 0) + smalls x (single_blocks k (bit_and n (n - 1)))
+  lowest_out x =
+      let m : ℕ = bit_and n (n - 1) in
+      let b : FrameBlock = block (64 * k + i) 0 in
+      let all = singles_at key k n inside in
+      let others = singles_at key k m inside in
+      ⊎_elim
+      (λ e.
+      ⊎_elim
+      (λ (q : x % 64 ≡ i). omega (
+        arith,
+        all.here x e,
+        others.here x e,
+        ap (bit_at n) q,
+        ap (bit_at m) q,
+        low.is_set,
+        lowest_gone n i low,
+        in_block x b (omega arith) (omega (arith, e, q)) (omega (arith, e, q)),
+      ))
+      (λ ne. omega (
+        arith,
+        all.here x e,
+        others.here x e,
+        others_stay n i (x % 64) low ne,
+        frame_else x (64 * k + i) (λ q. ne (omega (arith, q, low.inside))),
+      ))
+      (cases_eq (x % 64) i))
+      (λ ne. omega (
+        arith,
+        all.elsewhere x ne,
+        others.elsewhere x ne,
+        frame_else x (64 * k + i) (λ q. ne (omega (arith, q, low.inside))),
+      ))
+      (cases_eq (x / 64) k)
+
+  pub one_more : (mask : ℕ) (es bs : List FrameBlock) → AreBut k n mask es → bs ≡ block (64 * k + i) 0 ∷ []
+      → AreBut k (bit_and n (n - 1)) mask (es ++ bs)
+  one_more mask es bs are e x =
+      omega (
+        arith,
+        are x,
+        lowest_out x,
+        smalls_both x es bs,
+        ap (smalls x) e,
+        smalls_cons x (block (64 * k + i) 0) [],
+        smalls_none x,
+      )

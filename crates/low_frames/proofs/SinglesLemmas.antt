@@ -1,107 +1,108 @@
--- Single frames that go out of runs, one after the other.
-use Rattle.std.proofs.Common.{◌≡◌, ⊎_elim, ℕ, ◌+◌, ◌-◌, ◌/◌, ◌%◌, ◌^◌, ◌<◌, ◌≤◌, List, [], ◌∷◌, ◌++◌, Option, None, Some, refl, ap, sym, subst, ◌∙◌, arith}
+-- Single frames that are claimed together, and go out one after the other.
+use Rattle.std.proofs.Common.{◌≡◌, ⊎_elim, ℕ, ◌+◌, ◌-◌, ◌*◌, ◌/◌, ◌%◌, ◌^◌, ◌<◌, ◌≤◌, List, [], ◌++◌, Option, None, Some, refl, ap, sym, subst, ◌∙◌, arith}
+use Rattle.std.specs.Int.{bit_at}
+use Rattle.std.specs.Int.Bits.{bit_and}
+use Rattle.std.specs.Int.Count.{ones}
 use Rattle.std.proofs.lemmas.Int.{ints}
 use Rattle.std.specs.Prelude.{ℤ, pos, ◌+ℤ◌, map}
-use Rattle.std.specs.List.{All, sum_by}
-use Rattle.std.proofs.lemmas.Bool.{cases_lt}
+use Rattle.std.specs.List.{All}
+use Rattle.std.proofs.lemmas.Bool.{cases_eq}
 use Rattle.std.proofs.lemmas.Bool.Decides.{nat_tests}
-use Rattle.std.proofs.lemmas.Nat.{pow_pos}
+use Rattle.std.proofs.lemmas.Nat.Bits.{bit_at-zero}
 use Rattle.std.proofs.lemmas.List.{append-nil, append_assoc, length-append, map-append}
-use Rattle.std.proofs.lemmas.List.Elements.{All-cons, All-nil, All-append, All-weaker}
-use Rattle.std.proofs.lemmas.List.Sums.{sum_by-cons}
+use Rattle.std.proofs.lemmas.List.Elements.{All-nil, All-append, All-weaker}
 use Rattle.frame_model.specs.declared.block.FrameBlock.{FrameBlock}
 use Rattle.frame_model.specs.declared.key.Key.{Key}
 use Rattle.frame_model.specs.declared.view.Amount.{Amount}
 use Rattle.frame_model.specs.declared.view.View.{View}
 use Rattle.frame_model.specs.Key.{frame_count}
-use Rattle.frame_model.specs.Block.{block, IsBlock, covers, smalls, wholes}
+use Rattle.frame_model.specs.Block.{block, IsBlock, covers, single_blocks}
 use Rattle.frame_model.specs.View.{count_in, counted, charged_in, paid_on}
 use Rattle.frame_model.specs.Holding.{holders}
 use Rattle.frame_model.specs.Steps.Amounts.{more, less, Leaves}
+use Rattle.frame_model.specs.Steps.Conditions.{CanClaimSingles}
 use Rattle.frame_model.specs.Seats.{CanHandOut, left_by}
 use Rattle.frame_model.specs.Without.{without}
-use Rattle.frame_model.proofs.Blocks.{smalls_cons, smalls_none, wholes_cons, wholes_none, in_block, before_block, behind_block, not_whole, within_child}
+use Rattle.frame_model.proofs.Bits.{ones_zero}
+use Rattle.frame_model.proofs.Blocks.{in_block, AreAt}
+use Rattle.frame_model.proofs.Chosen.{frame_else, singles_at}
+use Rattle.frame_model.proofs.Safe.{holders_are}
 use Rattle.frame_model.proofs.Without.{without_leaves, nothing_left}
-use Rattle.frame_model.specs.Steps.{refund}
+use Rattle.frame_model.specs.Steps.{refund, claim_singles}
 use Rattle.frame_core.specs.Moves.{after, hand_out_block}
 use Rattle.frame_core.specs.Mover.{Mover, Keeps, LiesInside, Ticks}
 use Rattle.low_frames.specs.Outcomes.{HasNoBootFrame}
-use Rattle.low_frames.specs.Takes.{Counts, IsAsBefore, IsBlockOfTree, HasCharged, HasClaimed}
-use Rattle.low_frames.specs.Singles.{MayTakeSomeOf, MayTakeSome, MayTakeRuns, MayHandOutEach, lowered, HasTakenSome, HasLentSome, HasHandedOutAll, IsSingleOut, TakesSingles}
+use Rattle.low_frames.specs.Takes.{Counts, IsAsBefore, IsBlockOfTree, HasCharged}
+use Rattle.low_frames.specs.Singles.{MayTakeSomeOf, MayTakeSome, MayTakeRuns, MayHandOutEach, lowered, HasClaimedSingles, HasTakenSome, HasLentSome, HasHandedOutAll, IsSingleOut, TakesSingles}
 use Rattle.low_frames.specs.Alone.{Turns}
+use Rattle.low_frames.proofs.BitLemmas.{IsLowest, lowest_gone, others_stay}
 use Rattle.low_frames.proofs.SinglesAlone.{turns_here, turns_both, turns_into}
 use Rattle.low_frames.proofs.TakeLemmas.{keeps_none, keeps_both}
 use Rattle.low_frames.proofs.Counts.{at_most, both_counts, none_made}
-use Rattle.low_frames.proofs.ViewLemmas.{charged_of, covered_from, is_covered, flight_apart, flight_not_boot, flight_inside}
+use Rattle.low_frames.proofs.ViewLemmas.{charged_of, covered_from, flight_apart, flight_not_boot, flight_inside}
 
 -- Frames in flight.
-
--- the blocks hold each frame from one to below another once, and no other frame
-pub record HoldsFrames (key : Key) (blocks : List FrameBlock) (from to : ℕ) : Type 0 where
-  pub are_blocks : All (IsBlock key) blocks
-  pub below : (x : ℕ) → x < from → smalls x blocks ≡ 0
-  pub inside : (x : ℕ) → from ≤ x → x < to → smalls x blocks ≡ 1
-  pub above : (x : ℕ) → to ≤ x → smalls x blocks ≡ 0
-  pub no_wholes : (c : ℕ) → wholes c blocks ≡ 0
-
-pub run_holds : (key : Key) (f o : ℕ) → o ≤ 6 → IsBlock key (block f o) → HoldsFrames key (block f o ∷ []) f (f + 2 ^ o)
-run_holds key f o small is =
-    let b : FrameBlock = block f o in
-    record {
-      are_blocks = All-cons (IsBlock key) b [] is (All-nil (IsBlock key));
-      below = λ x h. omega (arith, smalls_cons x b [], smalls_none x, before_block x b h);
-      inside = λ x l h. omega (arith, smalls_cons x b [], smalls_none x, in_block x b (omega arith) l h);
-      above = λ x h. omega (arith, smalls_cons x b [], smalls_none x, behind_block x b h);
-      no_wholes = λ c. omega (arith, wholes_cons c b [], wholes_none c, not_whole c b (omega arith));
-    }
 
 pub single_is_block : (key : Key) (f : ℕ) → f < frame_count key → IsBlock key (block f 0)
 single_is_block key f h = record { order = omega arith; aligned = omega arith; inside = omega arith }
 
-pub single_leaves : (key : Key) (blocks : List FrameBlock) (from to : ℕ) → HoldsFrames key blocks from to → from < to
-    → to ≤ frame_count key → Leaves key blocks (block from 0) (without (block from 0) blocks)
-single_leaves key blocks from to own some end =
-    let b : FrameBlock = block from 0 in
-    without_leaves key b blocks (single_is_block key from (omega arith)) own.are_blocks (record {
-      smalls = λ low x h.
-          let c = covered_from b x h in
-          own.inside x (omega (arith, c.0)) (omega (arith, c.0, c.1));
-      wholes = λ top. absurd (omega (arith, top));
-    })
+module _ (key : Key) (blocks : List FrameBlock) (k n i : ℕ) (inside : k < 8 * key.children) (own : AreAt key k n blocks)
+    (low : IsLowest n i) where
+  abbrev f : ℕ
+  f = 64 * k + i
 
-pub can_hand_out_single : (key : Key) (v : View) (from to : ℕ) → 0 < v.share → HoldsFrames key v.own from to → from < to
-    → to ≤ frame_count key → CanHandOut key v (block from 0) (without (block from 0) v.own)
-can_hand_out_single key v from to share own some end = record {
+  pub single_leaves : Leaves key blocks (block (64 * k + i) 0) (without (block (64 * k + i) 0) blocks)
+  single_leaves =
+      without_leaves key (block f 0) blocks (single_is_block key f (omega (arith, inside, low.inside))) own.are_blocks (record {
+        smalls = λ small x h.
+            let c = covered_from (block f 0) x h in
+            let here : x / 64 ≡ k = omega (arith, c.0, c.1, low.inside) in
+            let same : x % 64 ≡ i = omega (arith, c.0, c.1, low.inside) in
+            own.here x here ∙ ap (bit_at n) same ∙ low.is_set;
+        wholes = λ top. absurd (omega (arith, top));
+      })
+
+  pub next_at : (rest : List FrameBlock) → Leaves key blocks (block (64 * k + i) 0) rest → AreAt key k (bit_and n (n - 1)) rest
+  next_at rest l =
+      let m : ℕ = bit_and n (n - 1) in
+      record {
+        are_blocks = l.are_blocks;
+        here = λ x e. ⊎_elim
+            (λ (q : x % 64 ≡ i). omega (
+              arith,
+              l.smalls x,
+              own.here x e,
+              ap (bit_at n) q,
+              low.is_set,
+              ap (bit_at m) q,
+              lowest_gone n i low,
+              in_block x (block f 0) (omega arith) (omega (arith, e, q)) (omega (arith, e, q)),
+            ))
+            (λ ne. omega (
+              arith,
+              l.smalls x,
+              own.here x e,
+              others_stay n i (x % 64) low ne,
+              frame_else x f (λ q. ne (omega (arith, q, low.inside))),
+            ))
+            (cases_eq (x % 64) i);
+        elsewhere = λ x ne. omega (arith, l.smalls x, own.elsewhere x ne);
+        no_wholes = λ c. omega (arith, l.wholes c, own.no_wholes c);
+      }
+
+pub can_hand_out_single : (key : Key) (v : View) (k n i : ℕ) → 0 < v.share → k < 8 * key.children → AreAt key k n v.own → IsLowest n i
+    → CanHandOut key v (block (64 * k + i) 0) (without (block (64 * k + i) 0) v.own)
+can_hand_out_single key v k n i share inside own low = record {
   share = share;
-  is_block = single_is_block key from (omega arith);
-  leaves = single_leaves key v.own from to own some end;
+  is_block = single_is_block key (64 * k + i) (omega (arith, inside, low.inside));
+  leaves = single_leaves key v.own k n i inside own low;
   unfilled = λ top. absurd (omega (arith, top));
 }
 
-pub next_holds : (key : Key) (blocks rest : List FrameBlock) (from to : ℕ) → HoldsFrames key blocks from to → from < to
-    → Leaves key blocks (block from 0) rest → HoldsFrames key rest (from + 1) to
-next_holds key blocks rest from to own some l =
-    let b : FrameBlock = block from 0 in
-    record {
-      are_blocks = l.are_blocks;
-      below = λ x h. ⊎_elim
-          (λ (lower : x < from). omega (arith, l.smalls x, own.below x lower))
-          (λ (here : from ≤ x). omega (
-            arith,
-            l.smalls x,
-            own.inside x here (omega arith),
-            in_block x b (omega arith) here (omega arith),
-          ))
-          (cases_lt x from);
-      inside = λ x low high. omega (arith, l.smalls x, own.inside x (omega arith) high, behind_block x b (omega arith));
-      above = λ x h. omega (arith, l.smalls x, own.above x h);
-      no_wholes = λ c. omega (arith, l.wholes c, own.no_wholes c);
-    }
-
-pub none_held : (key : Key) (blocks : List FrameBlock) (from to : ℕ) → HoldsFrames key blocks from to → to ≤ from → blocks ≡ []
-none_held key blocks from to own h =
+pub none_at : (key : Key) (blocks : List FrameBlock) (k : ℕ) → AreAt key k 0 blocks → blocks ≡ []
+none_at key blocks k own =
     nothing_left key blocks own.are_blocks
-    (λ x. ⊎_elim (λ (low : x < to). own.below x (omega arith)) (λ high. own.above x high) (cases_lt x to))
+    (λ x. ⊎_elim (λ e. own.here x e ∙ bit_at-zero (x % 64)) (λ ne. own.elsewhere x ne) (cases_eq (x / 64) k))
     own.no_wholes
 
 -- Views.
@@ -176,17 +177,64 @@ taken_both c j k v u w e f =
     ∙ all_same v _ (lowered c (j + k) v.charged) _ (lowered (c / 8) (j + k) v.paid) v.own v.own _ (v.lent +ℤ pos (j + k)) w.moves w.lost
     (lowered_both c j k v.charged) (lowered_both (c / 8) j k v.paid) refl (lent_more v.lent j k)
 
--- a run was claimed, and each of its frames handed out
-pub claimed_out : (word bit o : ℕ) (v u w : View) → v.own ≡ [] → HasClaimed word bit o v u → HasHandedOutAll (2 ^ o) u w
-    → HasTakenSome (word / 8) (2 ^ o) v w
+-- single frames were claimed, and each of them handed out
+pub claimed_out : (word mask : ℕ) (v u w : View) → v.own ≡ [] → HasClaimedSingles word mask v u → HasHandedOutAll (ones mask) u w
+    → HasTakenSome (word / 8) (ones mask) v w
 unfolding with_all
-claimed_out word bit o v u w own e f =
+claimed_out word mask v u w own e f =
+    let n : ℕ = ones mask in
     let tree : word / 64 ≡ word / 8 / 8 = omega arith in
     f
-    ∙ ap (λ (y : View). with_all y y.charged y.paid [] (y.lent +ℤ pos (2 ^ o)) w.moves w.lost) e
-    ∙ all_same v _ (lowered (word / 8) (2 ^ o) v.charged) _ (lowered (word / 8 / 8) (2 ^ o) v.paid) [] v.own _ _ w.moves w.lost
-    (sym (lowered_some (word / 8) (2 ^ o) v.charged (pow_pos o)))
-    (ap (λ t. less t (2 ^ o) v.paid) tree ∙ sym (lowered_some (word / 8 / 8) (2 ^ o) v.paid (pow_pos o))) (sym own) refl
+    ∙ ap (λ (y : View). with_all y y.charged y.paid [] (y.lent +ℤ pos n) w.moves w.lost) e
+    ∙ all_same v (lowered (word / 8) n v.charged) (lowered (word / 8) n v.charged) (lowered (word / 64) n v.paid)
+    (lowered (word / 8 / 8) n v.paid) [] v.own (v.lent +ℤ pos n) (v.lent +ℤ pos n) w.moves w.lost
+    refl (ap (λ t. lowered t n v.paid) tree) (sym own) refl
+
+pub claimed_singles : (t : ℕ → ℕ) (word seen mask : ℕ) (v u w : View) → 0 < ones mask → IsAsBefore v u
+    → w ≡ after t (claim_singles word seen mask) u → HasClaimedSingles word mask v w
+unfolding with_all
+claimed_singles t word seen mask v u w some e h =
+    let n : ℕ = ones mask in
+    let F : ℕ → ℕ → View = (λ m l. record u {
+      charged = less (word / 8) n u.charged;
+      paid = less (word / 64) n u.paid;
+      own = single_blocks word mask ++ u.own;
+      moves = m;
+      lost = l;
+    }) in
+    let G : View → View = (λ y. with_all y (lowered (word / 8) n y.charged) (lowered (word / 64) n y.paid) (single_blocks word mask ++ y.own)
+    y.lent w.moves w.lost) in
+    h
+    ∙ sym (ap (λ m. F m w.lost) (ap (λ (y : View). y.moves) h) ∙ ap (λ l. F (t u.moves) l) (ap (λ (y : View). y.lost) h))
+    ∙ all_same u (less (word / 8) n u.charged) (lowered (word / 8) n u.charged) (less (word / 64) n u.paid) (lowered (word / 64) n u.paid)
+    (single_blocks word mask ++ u.own) (single_blocks word mask ++ u.own) u.lent u.lent w.moves w.lost
+    (sym (lowered_some (word / 8) n u.charged some)) (sym (lowered_some (word / 64) n u.paid some)) refl refl
+    ∙ ap G e
+
+-- none was claimed
+pub none_claimed : (key : Key) (word : ℕ) (v w : View) → word < 8 * key.children → IsAsBefore v w → HasClaimedSingles word 0 v w
+unfolding with_all
+none_claimed key word v w inside e =
+    e
+    ∙ all_same v v.charged (lowered (word / 8) (ones 0) v.charged) v.paid (lowered (word / 64) (ones 0) v.paid) v.own
+    (single_blocks word 0 ++ v.own) v.lent v.lent w.moves w.lost
+    (sym (ap (λ n. lowered (word / 8) n v.charged) ones_zero ∙ lowered_none (word / 8) v.charged))
+    (sym (ap (λ n. lowered (word / 64) n v.paid) ones_zero ∙ lowered_none (word / 64) v.paid))
+    (sym (ap (λ l. l ++ v.own) (none_at key (single_blocks word 0) word (singles_at key word 0 inside)))) refl
+
+pub can_claim_singles : (key was : Key) (v w : View) (word seen mask n : ℕ) → key ≡ was → IsAsBefore v w → word < 8 * was.children
+    → 0 < mask → mask < 2 ^ 64 → bit_and seen mask ≡ 0 → ones mask ≤ n → n ≤ charged_in (word / 8) v → n ≤ paid_on (word / 8 / 8) v
+    → CanClaimSingles key w word seen mask
+can_claim_singles key was v w word seen mask n k b inside some fits clear few charged paid =
+    let tree : word / 64 ≡ word / 8 / 8 = omega arith in
+    record {
+      inside = subst (λ (k : Key). word < 8 * k.children) (sym k) inside;
+      some = some;
+      fits = fits;
+      clear = clear;
+      charged = subst (λ (x : View). ones mask ≤ charged_in (word / 8) x) (sym b) (omega (arith, few, charged));
+      paid = subst (λ (x : View). ones mask ≤ paid_on (word / 64) x) (sym b) (omega (arith, few, paid, ap (λ t. paid_on t v) tree));
+    }
 
 -- the view of some that were taken, and then as before
 pub taken_still : (c n : ℕ) (v u w : View) → HasTakenSome c n v u → IsAsBefore u w → HasTakenSome c n v w
@@ -356,43 +404,37 @@ module _ {T H : Type 0} {block_of : H → FrameBlock} {tree : ℕ} where
           (λ ws us vs d e h p q. then alone (map block_of g.got) ws us vs d h p q);
     }
 
--- A single frame of a run in flight, which is handed out.
+-- A single frame in flight, which is handed out.
 
-pub run_start : (key : Key) (v : View) (f o : ℕ) → o ≤ 6 → IsBlock key (block f o) → v.own ≡ block f o ∷ []
-    → HoldsFrames key v.own (f + 0) (f + 2 ^ o)
-run_start key v f o small is own =
-    let start : f ≡ f + 0 = omega arith in
-    subst (λ k. HoldsFrames key v.own k (f + 2 ^ o)) start
-    (subst (λ l. HoldsFrames key l f (f + 2 ^ o)) (sym own) (run_holds key f o small is))
-
--- a frame of the only block in flight is held
-frame_held : (v : View) (b d : FrameBlock) (f : ℕ) → v.own ≡ b ∷ [] → d ≡ block f 0 → covers b f ≡ 1 → (x : ℕ) → covers d x ≡ 1
-    → 0 < holders x v.own
-unfolding holders
-frame_held v b d f own e here x h =
-    let g : FrameBlock → ℕ = λ k. covers k x in
-    let c = covered_from (block f 0) x (sym (ap g e) ∙ h) in
-    let same : x ≡ f = omega (arith, c.0, c.1) in
-    omega (arith, ap (sum_by g) own, sum_by-cons g b [], ap (covers b) same, here)
-
-same_tree : (f o i : ℕ) → o ≤ 9 → f % 2 ^ o ≡ 0 → i < 2 ^ o → (f + i) / 4096 ≡ f / 4096
-same_tree f o i small aligned h = omega (arith, within_child o f small aligned)
-
-pub single_out : {T H : Type 0} (block_of : H → FrameBlock) (m w : Mover T H) (f o i : ℕ) (held : H) → MayHandOutEach f o m → i < 2 ^ o
-    → w.key ≡ m.key → block_of held ≡ block (f + i) 0 → w.is_out held → IsSingleOut block_of (f / 4096) m.view.kept w held
-single_out block_of m w f o i held may h key e out =
+pub single_out : {T H : Type 0} (block_of : H → FrameBlock) (m w : Mover T H) (k mask i : ℕ) (held : H) → MayHandOutEach k mask m → i < 64
+    → bit_at mask i ≡ 1 → w.key ≡ m.key → block_of held ≡ block (64 * k + i) 0 → w.is_out held
+    → IsSingleOut block_of (k / 8 / 8) m.view.kept w held
+single_out block_of m w k mask i held may low has key e out =
     let d : FrameBlock = block_of held in
-    let covered = frame_held m.view (block f o) d (f + i) may.own e (is_covered (block f o) (f + i) (omega arith) (omega arith)) in
-    let frame : d.frame ≡ f + i = ap (λ (k : FrameBlock). k.frame) e in
-    let order : d.order ≡ 0 = ap (λ (k : FrameBlock). k.order) e in
-    let is : IsBlock m.key d =
-    subst (IsBlock m.key) (sym e) (single_is_block m.key (f + i) (omega (arith, may.is_block.inside))) in
+    let f : ℕ = 64 * k + i in
+    let there : f / 64 ≡ k = omega (arith, low) in
+    let bit : f % 64 ≡ i = omega (arith, low) in
+    let are = singles_at m.key k mask may.inside in
+    let covered : (x : ℕ) → covers d x ≡ 1 → 0 < holders x m.view.own =
+    λ x h.
+    let c = covered_from (block f 0) x (sym (ap (λ b. covers b x) e) ∙ h) in
+    let same : x ≡ f = omega (arith, c.0, c.1) in
+    omega (
+      arith,
+      ap (λ y. holders y m.view.own) same,
+      ap (holders f) may.own,
+      holders_are m.key f (single_blocks k mask) are.are_blocks,
+      are.here f there,
+      ap (bit_at mask) bit,
+      has,
+    ) in
+    let is : IsBlock m.key d = subst (IsBlock m.key) (sym e) (single_is_block m.key f (omega (arith, may.inside, low))) in
     record {
       is_out = out;
       is_one = record {
         is_block = subst (λ k. IsBlock k d) (sym key) is;
-        has_order = order;
-        in_tree = ap (λ n. n / 4096) frame ∙ same_tree f o i (omega (arith, may.order)) may.is_block.aligned h;
+        has_order = ap (λ (b : FrameBlock). b.order) e;
+        in_tree = ap (λ (b : FrameBlock). b.frame / 4096) e ∙ omega (arith, low);
       };
       apart = flight_apart d covered may.apart refl;
       no_boot_frame = subst (λ k. HasNoBootFrame k d) (sym key) (flight_not_boot d covered may.apart);

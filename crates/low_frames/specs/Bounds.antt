@@ -67,13 +67,13 @@ most_at_words = attempt + most_to_claim_words most_words + 1
 abbrev pub most_at_place : ℕ
 most_at_place = most_at_words
 
--- single frames of a bit word, k together: each run is tried and each frame goes out, and one try more finds none
+-- single frames of a bit word, k together: their bits are tried at once, and each frame goes out
 abbrev pub most_in_word_singles : ℕ → ℕ
-most_in_word_singles k = attempt * (k + 1) + k
+most_in_word_singles k = attempt + k
 
 -- single frames of the bit words of a child, k together
 abbrev pub most_in_words_singles : ℕ → ℕ
-most_in_words_singles k = attempt * (k + child_words) + k
+most_in_words_singles k = child_words * attempt + k
 
 -- single frames of a child, k together: its entry is loaded, charged and refunded
 abbrev pub most_in_child_singles : ℕ → ℕ
@@ -81,4 +81,4 @@ most_in_child_singles k = 2 + attempt + most_in_words_singles k
 
 -- single frames of a tree, k together: each of its children is tried
 abbrev pub most_in_tree_singles : ℕ → ℕ
-most_in_tree_singles k = tree_children * most_in_child_singles 0 + (attempt + 1) * k
+most_in_tree_singles k = tree_children * most_in_child_singles 0 + k

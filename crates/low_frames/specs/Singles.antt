@@ -1,22 +1,22 @@
 -- Takes of several single frames at a time: what they ask, and what they leave.
-use Rattle.std.specs.Prelude.{◌≡◌, ℕ, pos, ◌^◌, ◌+ℤ◌, ◌<◌, ◌≤◌, ◌/◌, List, [], ◌∷◌, ◌++◌, length, map, Option, None, IfSome, IfNone, nat_eq, if◌then◌else◌}
+use Rattle.std.specs.Prelude.{◌≡◌, ℕ, pos, ◌*◌, ◌+ℤ◌, ◌<◌, ◌≤◌, List, [], ◌++◌, length, map, Option, None, nat_eq, if◌then◌else◌}
+use Rattle.std.specs.Int.Count.{ones}
 use Rattle.std.specs.List.{All}
 use Rattle.frame_model.specs.declared.block.FrameBlock.{FrameBlock}
 use Rattle.frame_model.specs.declared.view.Amount.{Amount}
-use Rattle.frame_model.specs.declared.key.Key.{Key}
 use Rattle.frame_model.specs.declared.view.View.{View}
 use Rattle.frame_model.specs.Key.{tree_count, tree_of_child}
-use Rattle.frame_model.specs.Block.{block, IsBlock}
+use Rattle.frame_model.specs.Block.{single_blocks}
 use Rattle.frame_model.specs.View.{charged_in, paid_on}
 use Rattle.frame_model.specs.Holding.{IsFreeBlock}
-use Rattle.frame_model.specs.Steps.Amounts.{less, IsRun}
+use Rattle.frame_model.specs.Steps.Amounts.{less}
 use Rattle.frame_core.specs.Mover.{Mover, LiesInside, Keeps, IsApart}
-use Rattle.frame_words.specs.Runs.{IsClearRun}
+use Rattle.frame_words.specs.Runs.{child_words}
 use Rattle.low_frames.specs.Bounds.{attempt}
 use Rattle.low_frames.specs.Outcomes.{HasNoBootFrame}
-use Rattle.low_frames.specs.Takes.{Counts, IsAsBefore, HasClaimed, IsBlockOfTree}
-use Rattle.low_frames.specs.Alone.{Turns, FindsOf, IsClaimed, HasNoRun}
-use Rattle.low_frames.specs.SinglesAlone.{HandsOutOf}
+use Rattle.low_frames.specs.Takes.{Counts, IsBlockOfTree, child_of_word, tree_of_word}
+use Rattle.low_frames.specs.Alone.{Turns}
+use Rattle.low_frames.specs.SinglesAlone.{SetsBits, HandsOutOf}
 
 -- What they ask.
 
@@ -44,25 +44,28 @@ pub record MayTakeRuns {T H : Type 0} (c n : ℕ) (m : Mover T H) : Type 0 where
   pub charged : n ≤ charged_in c m.view
   pub paid : n ≤ paid_on (tree_of_child c) m.view
 
--- a block of a bit word at most is all that is in flight
-pub record MayHandOutEach {T H : Type 0} (f n : ℕ) (m : Mover T H) : Type 0 where
+-- single frames of a bit word are all that is in flight
+pub record MayHandOutEach {T H : Type 0} (word mask : ℕ) (m : Mover T H) : Type 0 where
   pub share : 0 < m.view.share
-  pub order : n ≤ 6
-  pub is_block : IsBlock m.key (block f n)
-  pub own : m.view.own ≡ block f n ∷ []
+  pub inside : word < child_words * m.key.children
+  pub own : m.view.own ≡ single_blocks word mask
   pub apart : IsApart m.key m.view
-
--- at this bit of the word begins a run of 2 ^ order clear bits, of which there are at most n
-pub record IsRunOfMost (word n bit order : ℕ) : Type 0 where
-  pub small : order ≤ 6
-  pub few : 2 ^ order ≤ n
-  pub run : IsClearRun word order bit
 
 -- What they leave.
 
 -- n frames less, and nothing is changed by none
 unfoldable pub lowered : ℕ → ℕ → Option Amount → Option Amount
 lowered place n amount = if nat_eq n 0 then amount else less place n amount
+
+-- the frames of the bit word at these bits, charged and paid before, are in flight one by one
+abbrev pub HasClaimedSingles : ℕ → ℕ → View → View → Type 0
+HasClaimedSingles word mask v w = w ≡ record v {
+  charged = lowered (child_of_word word) (ones mask) v.charged;
+  paid = lowered (tree_of_word word) (ones mask) v.paid;
+  own = single_blocks word mask ++ v.own;
+  moves = w.moves;
+  lost = w.lost;
+}
 
 -- n single frames of the child, charged and paid before, were handed out
 abbrev pub HasTakenSome : ℕ → ℕ → View → View → Type 0
@@ -115,29 +118,19 @@ pub record TakesSingles {T H : Type 0} (block_of : H → FrameBlock) (exact : �
   pub each : All (IsSingleOut block_of tree old.view.kept new) got
   pub alone : old.is_alone → Turns (W (map block_of got)) old.words new.words
 
--- each frame of a run that was in flight is out, behind the others
+-- each single frame of the bit word that was in flight is out, behind the others
 abbrev pub HandsOutEach : {T H : Type 0} → (H → FrameBlock) → (ℕ → Type 0) → ℕ → ℕ → List H → List H
     → Mover T H → Mover T H → Type 0
-HandsOutEach block_of exact frame order olds news old new =
-    TakesSingles block_of exact (frame / 4096) (2 ^ order) (HasHandedOutAll (2 ^ order))
-    (HandsOutOf frame order) (2 ^ order) olds news old new
+HandsOutEach block_of exact word mask olds news old new =
+    TakesSingles block_of exact (tree_of_child (child_of_word word)) (ones mask) (HasHandedOutAll (ones mask))
+    (HandsOutOf word mask) (ones mask) olds news old new
 
--- a run of at most n bits of the bit word is in flight
-pub record HasClaimedMost (key : Key) (word n bit order : ℕ) (v w : View) : Type 0 where
-  pub is_run : IsRun key word bit order
-  pub few : 2 ^ order ≤ n
-  pub view : HasClaimed word bit order v w
-  pub apart : IsApart key w
-
--- a run of at most n bits of the bit word was claimed, or the view is as before; where nobody else
--- steps, one is claimed where a bit is clear
-pub record ClaimsMost {T H : Type 0} (exact : ℕ → Type 0) (word n : ℕ) (answer : Option (ℕ × ℕ))
-    (old new : Mover T H) : Type 0 where
+-- at most n bits of the bit word, or none, were claimed; where nobody else steps, as many as are clear
+pub record ClaimsSome {T H : Type 0} (exact : ℕ → Type 0) (word n mask : ℕ) (old new : Mover T H)
+    : Type 0 where
   pub keeps : Keeps old new
   pub counts : Counts exact attempt old new
-  pub some : IfSome answer (λ r. HasClaimedMost old.key word n r.0 r.1 old.view new.view)
-  pub none : IfNone answer (IsAsBefore old.view new.view)
-  pub alone_some : old.is_alone
-      → IfSome answer (λ r. Turns (IsClaimed old.key word r.0 r.1) old.words new.words)
-  pub alone_none : old.is_alone → IfNone answer (FindsOf (λ ws. 0 < n → HasNoRun old.key word 0 ws)
-      old.words new.words)
+  pub few : ones mask ≤ n
+  pub view : HasClaimedSingles word mask old.view new.view
+  pub apart : IsApart old.key new.view
+  pub alone : old.is_alone → Turns (SetsBits old.key word mask n) old.words new.words

@@ -1,11 +1,13 @@
 -- What takes of several single frames leave of the words where nobody else steps.
-use Rattle.std.specs.Prelude.{◌≡◌, ℕ, ◌+◌, ◌*◌, ◌<◌, ◌≤◌, List}
+use Rattle.std.specs.Prelude.{◌≡◌, ℕ, ◌+◌, ◌-◌, ◌*◌, ◌^◌, ◌<◌, ◌≤◌, bit_and, bit_or, List}
+use Rattle.std.specs.Int.Count.{ones}
 use Rattle.frame_words.specs.Geometry.{child_frames, tree_frames, word_frames}
 use Rattle.frame_model.specs.declared.block.FrameBlock.{FrameBlock}
 use Rattle.frame_model.specs.declared.key.Key.{Key}
 use Rattle.frame_model.specs.Key.{frame_count}
-use Rattle.frame_model.specs.Block.{block, small_at, smalls}
-use Rattle.frame_model.specs.Words.{bit_of, free_of, huge_of}
+use Rattle.frame_model.specs.Block.{smalls, single_blocks}
+use Rattle.frame_model.specs.Words.{bit_of, free_of, huge_of, bit_word_of}
+use Rattle.frame_model.specs.Steps.{words_after, claim_singles}
 use Rattle.frame_model.specs.Report.{held_at}
 
 -- each of so many frames, from this one on, is held
@@ -47,7 +49,13 @@ TakesOfChild key child = TakesUpTo key (child_frames * child) child_frames
 abbrev pub TakesOfTree : Key → ℕ → ℕ → ℕ → List FrameBlock → List ℕ → List ℕ → Type 0
 TakesOfTree key tree = TakesUpTo key (tree_frames * tree) tree_frames
 
--- the words are as they were, and these are the frames of the block
+-- bits of the bit word, clear before, are set; where they are fewer than n, no bit of it is clear
+pub record SetsBits (key : Key) (word mask n : ℕ) (old new : List ℕ) : Type 0 where
+  pub were_clear : bit_and (bit_word_of key old word) mask ≡ 0
+  pub words : new ≡ words_after key (claim_singles word (bit_word_of key old word) mask) old
+  pub none_left : ones mask < n → bit_or (bit_word_of key old word) mask ≡ 2 ^ 64 - 1
+
+-- the words are as they were, and these are the frames of the bit word at the bits of the mask
 abbrev pub HandsOutOf : ℕ → ℕ → List FrameBlock → List ℕ → List ℕ → Type 0
-HandsOutOf frame order blocks old new =
-    (new ≡ old) × ((x : ℕ) → smalls x blocks ≡ small_at x (block frame order))
+HandsOutOf word mask blocks old new =
+    (new ≡ old) × ((x : ℕ) → smalls x blocks ≡ smalls x (single_blocks word mask))

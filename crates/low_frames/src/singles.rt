@@ -1,6 +1,8 @@
-//! Takes of several single frames at a time: one charge for each child, one exchange for each run.
+//! Takes of several single frames at a time: one charge for each child, one exchange for each bit word.
 
-ghost use Rattle.std.specs.Prelude.{◌≡◌, ◌+◌, ◌/◌, ◌^◌, ◌<◌, ◌≤◌, IfSome, IfNone, vec_len, vec_capacity};
+ghost use Rattle.std.specs.Prelude.{◌≡◌, ℕ, ◌+◌, ◌/◌, ◌<◌, ◌≤◌, vec_len, vec_capacity};
+ghost use Rattle.std.specs.Int.{bit_at};
+ghost use Rattle.std.specs.Int.Count.{ones};
 ghost use Rattle.low_frames.specs.Bounds.{
   most_in_word_singles,
   most_in_words_singles,
@@ -14,20 +16,15 @@ ghost use Rattle.low_frames.specs.Singles.{
   MayTakeSome,
   MayTakeSomeOf,
   TakesSingles,
-  ClaimsMost,
-  IsRunOfMost,
+  ClaimsSome,
   HasTakenSome,
   HasLentSome,
 };
 ghost use Rattle.low_frames.specs.SinglesAlone.{ClaimsOfWord, ClaimsOfChild, TakesOfChild, TakesOfTree};
-ghost use Rattle.frame_words.specs.Runs.{HasNoClearRun};
 
 use super::attempts::{TRIES, try_charge};
 use frame_core::{Moves, Place};
-use frame_words::{
-    CHILD_WORDS, TREE_CHILDREN, WORD_FRAMES, WORD_ORDER, entry_free, find_run, frames_of, lane,
-    mask,
-};
+use frame_words::{CHILD_WORDS, TREE_CHILDREN, WORD_FRAMES, entry_free, lane};
 
 /// Takes up to `n` single frames of the tree, lays them behind the others, and answers how many.
 #[inline(never)]
@@ -104,7 +101,7 @@ fn take_charged<M: Moves>(m: &mut M, child: u32, n: u32, out: &mut Vec<M::Held>)
     got
 }
 
-/// Takes up to `n` single frames of the bit word, the larger runs first.
+/// Takes up to `n` single frames of the bit word, the lowest, by one exchange.
 #[inline(always)]
 fn take_in_word<M: Moves>(m: &mut M, word: u32, n: u32, out: &mut Vec<M::Held>) -> u32
     requires may { MayTakeRuns (word / 8) n (M.at m.old) }
@@ -116,67 +113,62 @@ fn take_in_word<M: Moves>(m: &mut M, word: u32, n: u32, out: &mut Vec<M::Held>) 
     ensures room { vec_capacity out.new ≡ vec_capacity out.old }
     ensures len { vec_len out.new ≡ vec_len out.old + result }
 {
-    let mut got = 0;
-    while got < n {
-        let Some((bit, order)) = try_claim_most(m, word, n - got) else {
-            return got;
-        };
-        hand_out_each(m, WORD_FRAMES * word + bit, order, out);
-        got += frames_of(order);
-    }
-    got
+    let mask = try_claim_some(m, word, n);
+    hand_out_each(m, word, mask, out);
+    mask.count_ones()
 }
 
-/// Claims the largest run of up to `n` clear bits of the word, and answers its first bit and its order;
-/// none where no bit is clear, or all tries were lost.
+/// Claims the lowest `n` clear bits of the word, or all where fewer are clear, and answers them; none
+/// where all tries were lost.
 #[inline(always)]
-fn try_claim_most<M: Moves>(m: &mut M, word: u32, n: u32) -> Option<(u32, u8)>
+fn try_claim_some<M: Moves>(m: &mut M, word: u32, n: u32) -> u64
     requires { MayTakeRuns (word / 8) n (M.at m.old) }
-    ensures { ClaimsMost M.is_exact word n result (M.at m.old) (M.at m.new) }
+    ensures { ClaimsSome M.is_exact word n result (M.at m.old) (M.at m.new) }
 {
     for _i in 0..TRIES {
         let seen = m.load(Place::Bits(word));
-        let Some((bit, order)) = find_most(seen, n) else {
-            return None;
-        };
-        if m.claim(word, seen, mask(order, bit)) {
-            return Some((bit, order));
+        let mask = lowest(!seen, n);
+        if mask == 0 {
+            return 0;
+        }
+        if m.claim_singles(word, seen, mask) {
+            return mask;
         }
     }
-    None
+    0
 }
 
-/// The lowest of the largest runs of up to `n` clear bits: its first bit and its order.
+/// The lowest `n` ones of the word, or all where it has fewer.
 #[inline(always)]
-fn find_most(word: u64, n: u32) -> Option<(u32, u8)>
-    ensures found { IfSome result (λ r. IsRunOfMost word n r.0 r.1) }
-    ensures none { 0 < n → IfNone result (HasNoClearRun word 0) }
+fn lowest(word: u64, n: u32) -> u64
+    ensures among { (i : ℕ) → bit_at result i ≤ bit_at word i }
+    ensures few { ones result ≤ n }
+    ensures all { ones result < n → result ≡ word }
 {
-    if word == u64::MAX {
-        return None;
-    }
-    for step in 0..WORD_ORDER + 1 {
-        let order = WORD_ORDER - step;
-        if frames_of(order) <= n {
-            if let Some(bit) = find_run(word, order) {
-                return Some((bit, order));
-            }
+    let mut rest = word;
+    for _i in 0..n {
+        if rest == 0 {
+            return word;
         }
+        rest &= rest - 1;
     }
-    None
+    word & !rest
 }
 
-/// Hands out each frame of the one run in flight, the lowest first.
+/// Hands out each of the frames in flight, the lowest first.
 #[inline(always)]
-fn hand_out_each<M: Moves>(m: &mut M, frame: u32, order: u8, out: &mut Vec<M::Held>)
-    requires may { MayHandOutEach frame order (M.at m.old) }
-    requires room { vec_len out.old + 2 ^ order ≤ vec_capacity out.old }
-    ensures hands_out { HandsOutEach M.Held.block_of M.is_exact frame order
+fn hand_out_each<M: Moves>(m: &mut M, word: u32, mask: u64, out: &mut Vec<M::Held>)
+    requires may { MayHandOutEach word mask (M.at m.old) }
+    requires room { vec_len out.old + ones mask ≤ vec_capacity out.old }
+    ensures hands_out { HandsOutEach M.Held.block_of M.is_exact word mask
         out.old.items out.new.items (M.at m.old) (M.at m.new) }
     ensures room { vec_capacity out.new ≡ vec_capacity out.old }
-    ensures len { vec_len out.new ≡ vec_len out.old + 2 ^ order }
+    ensures len { vec_len out.new ≡ vec_len out.old + ones mask }
 {
-    for i in 0..frames_of(order) {
-        out.push_reserved(m.hand_out(frame + i, 0));
+    let mut rest = mask;
+    while rest != 0 {
+        let bit = rest.trailing_zeros();
+        out.push_reserved(m.hand_out(WORD_FRAMES * word + bit, 0));
+        rest &= rest - 1;
     }
 }

@@ -1,17 +1,20 @@
 -- How a block leaves a queue of blocks that is turned round once.
-use Rattle.std.proofs.Common.{◌≡◌, ◌⊎◌, inl, inr, ⊎_elim, ℕ, zero, suc, ◌+◌, ◌-◌, ◌*◌, ◌%◌, ◌^◌, ◌<◌, ◌≤◌, List, [], ◌∷◌, ◌++◌, Bool, true}
+use Rattle.std.proofs.Common.{◌≡◌, ◌≢◌, ◌⊎◌, inl, inr, ⊎_elim, ℕ, zero, suc, ◌+◌, ◌-◌, ◌*◌, ◌%◌, ◌^◌, ◌<◌, ◌≤◌, List, [], ◌∷◌, ◌++◌, Bool, true}
 use Rattle.std.proofs.Common.{false, cond, length, get_or, drop, take, flat_map, refl, ap, sym, subst, ◌∙◌, append_assoc, append-nil, arith}
 use Rattle.std.proofs.Math.Nat.{pow-suc}
 use Rattle.std.specs.List.{All}
-use Rattle.std.specs.Prelude.{nat_eq, not, ◌&&◌, ◌||◌}
+use Rattle.std.specs.Prelude.{nat_eq, not, ◌&&◌, ◌||◌, map, filter}
+use Rattle.std.specs.List.{range_with_len}
+use Rattle.std.specs.Int.{bit_at}
 use Rattle.std.proofs.lemmas.Bool.Decides.{nat_tests}
 use Rattle.std.proofs.lemmas.List.{drop_more, take_all, length-append, length-drop}
 use Rattle.std.proofs.lemmas.List.Folds.{length-flat_map-take}
 use Rattle.std.proofs.lemmas.List.Elements.{All-head, All-tail}
 use Rattle.std.proofs.lemmas.List.Concat.{flat_map-cons}
 use Rattle.frame_model.specs.declared.block.FrameBlock.{FrameBlock}
-use Rattle.frame_model.specs.Block.{block, covers}
+use Rattle.frame_model.specs.Block.{block, covers, single_blocks}
 use Rattle.frame_model.specs.Without.{is_same, less_one, is_apart, is_inside, remains}
+use Rattle.frame_model.proofs.Chosen.{chosen}
 use Rattle.frame_model.proofs.Without.{less_here, less_else, true_or_false}
 
 pub remains_apart : (b : FrameBlock) (order frame : ℕ) → is_apart b (block frame order) ≡ true
@@ -140,3 +143,40 @@ pub cut_done : (f : FrameBlock → List FrameBlock) (all items : List FrameBlock
     → items ≡ drop i all ++ flat_map f (take i all) → items ≡ flat_map f all
 cut_done f all items i h is =
     (all_turned all items (flat_map f (take i all)) i h is).1 ∙ ap (λ (l : List FrameBlock). flat_map f l) (take_all i all h)
+
+-- Single frames of a bit word.
+
+-- those of n frames from one on whose bits the mask has
+abbrev pub singles_from : ℕ → ℕ → ℕ → List FrameBlock
+singles_from mask from n = chosen (λ x. block x 0) (λ x. nat_eq (bit_at mask (x % 64)) 1) from n
+
+first_chosen : (b : Bool) (a : ℕ) (xs : List ℕ) → b ≡ true
+    → map (λ x. block x 0) (cond b (a ∷ xs) xs) ≡ block a 0 ∷ map (λ x. block x 0) xs
+first_chosen true a xs e = refl
+first_chosen false a xs e = absurd (let f : false ≡ true = e in cc)
+
+first_left : (b : Bool) (a : ℕ) (xs : List ℕ) → b ≡ false
+    → map (λ x. block x 0) (cond b (a ∷ xs) xs) ≡ map (λ x. block x 0) xs
+first_left false a xs e = refl
+first_left true a xs e = absurd (let f : true ≡ false = e in cc)
+
+is_one : (n : ℕ) → n ≡ 1 → nat_eq n 1 ≡ true
+is_one n e = grind (arith, nat_tests)
+
+is_not_one : (n : ℕ) → n ≢ 1 → nat_eq n 1 ≡ false
+is_not_one n e = grind (arith, nat_tests)
+
+pub single_more : (mask from n : ℕ) → bit_at mask (from % 64) ≡ 1
+    → singles_from mask from (suc n) ≡ block from 0 ∷ singles_from mask (from + 1) n
+single_more mask from n has =
+    first_chosen (nat_eq (bit_at mask (from % 64)) 1) from
+    (filter (λ x. nat_eq (bit_at mask (x % 64)) 1) (range_with_len (from + 1) n)) (is_one (bit_at mask (from % 64)) has)
+
+pub single_skipped : (mask from n : ℕ) → bit_at mask (from % 64) ≢ 1 → singles_from mask from (suc n) ≡ singles_from mask (from + 1) n
+single_skipped mask from n has =
+    first_left (nat_eq (bit_at mask (from % 64)) 1) from
+    (filter (λ x. nat_eq (bit_at mask (x % 64)) 1) (range_with_len (from + 1) n)) (is_not_one (bit_at mask (from % 64)) has)
+
+pub all_singles : (word mask : ℕ) → singles_from mask (64 * word) 64 ≡ single_blocks word mask
+unfolding single_blocks
+all_singles word mask = refl

@@ -8,7 +8,7 @@ use Rattle.frame_model.specs.declared.place.Place.TheVariants.{Tree}
 use Rattle.frame_model.specs.declared.view.View.{View}
 use Rattle.frame_model.specs.Seats.{hand_in, left_by, joined_by}
 use Rattle.frame_model.specs.Steps.{Kind, effect, after_load, after_loss}
-use Rattle.frame_model.specs.Steps.Kind.{charge, refund, claim, release, take_huge, give_huge, tree_pay, tree_refund, reserve, swap_local, unreserve, local_pay, local_refund, collect, fill_word, drop_flag}
+use Rattle.frame_model.specs.Steps.Kind.{charge, refund, claim, claim_singles, release, take_huge, give_huge, tree_pay, tree_refund, reserve, swap_local, unreserve, local_pay, local_refund, collect, fill_word, drop_flag}
 use Rattle.frame_model.specs.View.{holder}
 use Rattle.frame_core.specs.Moves.{hand_out_block}
 use Rattle.plain_moves.specs.declared.act.Act.TheVariants.{TreePay}
@@ -35,6 +35,7 @@ one_move : (kind : Kind) (found : ℕ) (v : View) → IsOneMove v (effect plain_
 one_move (charge child seen n) found v = record { moves = refl; about = refl; share = refl }
 one_move (refund child n) found v = record { moves = refl; about = refl; share = refl }
 one_move (claim word seen from order) found v = record { moves = refl; about = refl; share = refl }
+one_move (claim_singles word seen mask) found v = record { moves = refl; about = refl; share = refl }
 one_move (release word from order rest) found v = record { moves = refl; about = refl; share = refl }
 one_move (take_huge child seen) found v = record { moves = refl; about = refl; share = refl }
 one_move (give_huge child rest) found v = record { moves = refl; about = refl; share = refl }

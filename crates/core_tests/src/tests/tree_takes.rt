@@ -21,10 +21,10 @@ const FULL: u64 = u64::MAX;
 
 // What the words of one child and of its tree say: free frames by both, and bits.
 #[derive(Clone, Copy, PartialEq, Eq)]
-struct Words {
-    entry: u32,
-    tree: u32,
-    bits: [u64; 8],
+pub(super) struct Words {
+    pub(super) entry: u32,
+    pub(super) tree: u32,
+    pub(super) bits: [u64; 8],
 }
 
 // The first frame of the block that a take found, if it found one, in how many moves, how many cues
@@ -47,7 +47,7 @@ fn claims(who: u32, word: u32, at: u32) -> [Cue; 3] {
     ]
 }
 
-fn words_of(image: &Image) -> Result<Words, Fail> {
+pub(super) fn words_of(image: &Image) -> Result<Words, Fail> {
     let geometry = image.geometry();
     if geometry.children() != 1 || geometry.trees() != 1 || image.huge(0) {
         return Err(Fail::from("another memory"));
@@ -64,7 +64,7 @@ fn words_of(image: &Image) -> Result<Words, Fail> {
 }
 
 // A free child.
-fn open_child(alloc: Global) -> Result<PlainMoves, Fail>
+pub(super) fn open_child(alloc: Global) -> Result<PlainMoves, Fail>
     ensures company { IfOk result IsByItself }
     ensures idle { IfOk result (λ m. IsIdle (⟦<PlainMoves as Moves>⟧.at m).view) }
 {

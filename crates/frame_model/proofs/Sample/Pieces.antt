@@ -133,6 +133,9 @@ lies {v} none all = record { charged = none; smalls = smalls_apart v.own all; wh
 pub first_run : IsRun key 0 0 6
 first_run = record { inside = omega arith; small = omega arith; aligned = omega arith; fits = omega arith }
 
+pub second_run : IsRun key 0 32 5
+second_run = record { inside = omega arith; small = omega arith; aligned = omega arith; fits = omega arith }
+
 pub has_whole : 0 < wholes 0 (block 0 9 ∷ [])
 has_whole = omega (arith, wholes_cons 0 (block 0 9) [], whole_here 0)
 

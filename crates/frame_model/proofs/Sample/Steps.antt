@@ -1,10 +1,11 @@
 -- A run that does happen, from an opening at words in which a huge frame is held: it uses every kind of step, cut and join.
 use Rattle.std.proofs.Common.{List, [], ◌∷◌, ◌++◌, Some, true, refl, arith}
+use Rattle.std.specs.Int.Count.{ones}
 use Rattle.frame_words.specs.Words.{entry_word, free_in, flag_in, lane_in, lane_put, lane_shift, rest_in, local_word}
 use Rattle.frame_model.specs.Block.{block}
 use Rattle.frame_model.specs.Words.{entry_place, tree_place, local_place, bits_place, word_count}
 use Rattle.frame_model.specs.View.{counted, count_in, names, is_at, spent}
-use Rattle.frame_model.specs.Steps.{charge, refund, claim, release, take_huge, give_huge, tree_pay, tree_refund, reserve, swap_local}
+use Rattle.frame_model.specs.Steps.{charge, refund, claim, claim_singles, release, take_huge, give_huge, tree_pay, tree_refund, reserve, swap_local}
 use Rattle.frame_model.specs.Steps.{unreserve, local_pay, local_refund, collect, fill_word, drop_flag}
 use Rattle.frame_model.specs.Steps.Amounts.{more, less, rest_amount}
 use Rattle.frame_model.specs.Seats.{part_share, hand_out, recall, part_ground, adopt, join_idle, hand_in, keep_in}
@@ -12,7 +13,7 @@ use Rattle.frame_model.specs.Events.{State, eye, last_seen, Event, loads, makes,
 use Rattle.frame_model.proofs.Amounts.{count_none, count_else, names_none}
 use Rattle.frame_model.proofs.ComputedRuns.{reached, AllAllowed, run_of, and_then, ◌⟫◌}
 use Rattle.frame_model.proofs.Sample.Pieces.{key, words, none_left, second_left, after_release, no_blocks, is_half, whole_block}
-use Rattle.frame_model.proofs.Sample.Pieces.{second_half, gone, one_half, released, lies, first_run, has_whole, all_filled, differs}
+use Rattle.frame_model.proofs.Sample.Pieces.{second_half, second_run, gone, one_half, released, lies, first_run, has_whole, all_filled, differs}
 
 -- one seat has both shares, and keeps the huge frame until the ground parts off
 abbrev pub first : State
@@ -81,7 +82,7 @@ reserves =
     loads 0 17 ∷
     []
 
--- frames go into the local word and out of it, and a word is claimed
+-- frames go into the local word and out of it, and single frames and a run of a word are claimed
 abbrev pays_at_the_local_word : List Event
 pays_at_the_local_word =
     makes 0 (local_refund 0 9223372036854775808 32) ∷
@@ -93,7 +94,9 @@ pays_at_the_local_word =
     loads 0 8 ∷
     makes 0 (charge 0 64 64) ∷
     loads 0 25 ∷
-    makes 0 (claim 0 0 0 6) ∷
+    makes 0 (claim_singles 0 0 5) ∷
+    loads 0 25 ∷
+    makes 0 (claim 0 5 32 5) ∷
     []
 
 gives_the_huge_frame_allowed : AllAllowed key first gives_the_huge_frame
@@ -305,7 +308,7 @@ then_4 = reached key then_3 reserves
 
 pays_at_the_local_word_allowed : AllAllowed key then_4 pays_at_the_local_word
 unfolding last_seen entry_place tree_place local_place bits_place word_count lane_in lane_put lane_shift entry_word
-    free_in flag_in rest_in local_word count_in counted names is_at more less rest_amount
+    free_in flag_in rest_in local_word count_in counted names is_at more less rest_amount ones
 pays_at_the_local_word_allowed = (
   refl,
   record {
@@ -355,7 +358,24 @@ pays_at_the_local_word_allowed = (
       refl,
       record {
         share = omega arith;
-        may = record { is_run = first_run; clear = refl; charged = omega arith; paid = omega arith };
+        may = record {
+          inside = omega arith;
+          some = omega arith;
+          fits = omega arith;
+          clear = refl;
+          charged = omega arith;
+          paid = omega arith;
+        };
+        read = refl;
+      },
+      refl,
+    )
+    ⟫ (refl, refl, omega arith)
+    ⟫ (
+      refl,
+      record {
+        share = omega arith;
+        may = record { is_run = second_run; clear = refl; charged = omega arith; paid = omega arith };
         read = refl;
       },
       refl,

@@ -12,7 +12,7 @@ use Rattle.frame_model.specs.Words.{entry_place, tree_place, local_place, bits_p
 use Rattle.frame_model.specs.Words.{tree_free_of, reserved_of, local_word_of, rest_of, bit_word_of, bit_of, set_of, IsRest, AreInRange}
 use Rattle.frame_model.specs.Rebuilt.{rebuilt_free, rebuilt_in_tree, rebuilt_bits, IsRebuilt}
 use Rattle.frame_model.specs.Openings.{set_blocks, huge_blocks, held_blocks, reopener, opened}
-use Rattle.frame_model.specs.Laws.{Happening, AreOfEveryForm, charging, refunding, claiming, releasing, taking_huge}
+use Rattle.frame_model.specs.Laws.{Happening, AreOfEveryForm, charging, refunding, claiming, claiming_singles, releasing, taking_huge}
 use Rattle.frame_model.specs.Laws.{giving_huge, paying_tree, refunding_tree, reserving_tree, swapping_local}
 use Rattle.frame_model.specs.Laws.{unreserving_tree, paying_local, refunding_local, collecting, filling_word}
 use Rattle.frame_model.specs.Laws.{dropping_flag, parting_share, handing_out, recalling, parting_ground, adopting}
@@ -126,7 +126,8 @@ is_key = record {
 every_form : AreOfEveryForm events
 every_form charging = (47, omega arith, refl)
 every_form refunding = (26, omega arith, refl)
-every_form claiming = (49, omega arith, refl)
+every_form claiming = (51, omega arith, refl)
+every_form claiming_singles = (49, omega arith, refl)
 every_form releasing = (25, omega arith, refl)
 every_form taking_huge = (11, omega arith, refl)
 every_form giving_huge = (6, omega arith, refl)

@@ -6,12 +6,12 @@ use Rattle.frame_model.specs.declared.key.Key.{Key}
 use Rattle.frame_model.specs.declared.view.View.{View}
 use Rattle.frame_model.specs.View.{spent}
 use Rattle.frame_model.specs.Fit.{Fit}
-use Rattle.frame_model.specs.Steps.{Kind, charge, refund, claim, release, take_huge, give_huge, tree_pay, tree_refund, reserve, swap_local}
+use Rattle.frame_model.specs.Steps.{Kind, charge, refund, claim, claim_singles, release, take_huge, give_huge, tree_pay, tree_refund, reserve, swap_local}
 use Rattle.frame_model.specs.Steps.{unreserve, local_pay, local_refund, collect, fill_word, drop_flag, place, turned, IsMade, May, effect}
 use Rattle.frame_model.specs.Seats.{Cut, part_share, hand_out, recall, part_ground, adopt, Join, join_idle, hand_in, keep_in, MayCut}
 use Rattle.frame_model.specs.Seats.{left_by, right_by, MayJoin, joined_by}
 use Rattle.frame_model.proofs.Steps.Counting.{charge_keeps, refund_keeps}
-use Rattle.frame_model.proofs.Steps.Marking.{claim_keeps, release_keeps, fill_word_keeps}
+use Rattle.frame_model.proofs.Steps.Marking.{claim_keeps, claim_singles_keeps, release_keeps, fill_word_keeps}
 use Rattle.frame_model.proofs.Steps.Huge.{take_huge_keeps, give_huge_keeps, drop_flag_keeps}
 use Rattle.frame_model.proofs.Steps.Trees.{tree_pay_keeps, tree_refund_keeps, reserve_keeps, unreserve_keeps, collect_keeps}
 use Rattle.frame_model.proofs.Steps.Locals.{swap_local_keeps, local_pay_keeps, local_refund_keeps}
@@ -28,6 +28,8 @@ module _ (t : ℕ → ℕ) (key : Key) (shares : ℕ) (ws : List ℕ) (vs : List
   kind_keeps (refund c n) share may made = refund_keeps t key shares ws vs id v fit at share c n may
   kind_keeps (claim k seen from o) share may made =
       claim_keeps t key shares ws vs id v fit at share k seen from o (get_or ws (place key (claim k seen from o)) 0) may made
+  kind_keeps (claim_singles k seen m) share may made =
+      claim_singles_keeps t key shares ws vs id v fit at share k seen m may made
   kind_keeps (release k from o rest) share may made = release_keeps t key shares ws vs id v fit at share k from o rest may
   kind_keeps (take_huge c seen) share may made =
       take_huge_keeps t key shares ws vs id v fit at share c seen (get_or ws (place key (take_huge c seen)) 0) may made

@@ -1,7 +1,7 @@
 -- What no step changes of the view that makes it.
 use Rattle.std.proofs.Common.{◌≡◌, ℕ, refl}
 use Rattle.frame_model.specs.declared.view.View.{View}
-use Rattle.frame_model.specs.Steps.{Kind, charge, refund, claim, release, take_huge, give_huge, tree_pay, tree_refund, reserve, swap_local}
+use Rattle.frame_model.specs.Steps.{Kind, charge, refund, claim, claim_singles, release, take_huge, give_huge, tree_pay, tree_refund, reserve, swap_local}
 use Rattle.frame_model.specs.Steps.{unreserve, local_pay, local_refund, collect, fill_word, drop_flag, effect}
 
 pub record Untouched (v w : View) : Type 0 where
@@ -16,6 +16,7 @@ pub untouched : (t : ℕ → ℕ) (kind : Kind) (found : ℕ) (v : View) → Unt
 untouched t (charge c seen n) found v = record { about = refl; share = refl; lent = refl; is_ground = refl; kept = refl; lost = refl }
 untouched t (refund c n) found v = record { about = refl; share = refl; lent = refl; is_ground = refl; kept = refl; lost = refl }
 untouched t (claim w seen from o) found v = record { about = refl; share = refl; lent = refl; is_ground = refl; kept = refl; lost = refl }
+untouched t (claim_singles w seen m) found v = record { about = refl; share = refl; lent = refl; is_ground = refl; kept = refl; lost = refl }
 untouched t (release w from o rest) found v = record { about = refl; share = refl; lent = refl; is_ground = refl; kept = refl; lost = refl }
 untouched t (take_huge c seen) found v = record { about = refl; share = refl; lent = refl; is_ground = refl; kept = refl; lost = refl }
 untouched t (give_huge c rest) found v = record { about = refl; share = refl; lent = refl; is_ground = refl; kept = refl; lost = refl }

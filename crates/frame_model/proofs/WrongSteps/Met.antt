@@ -1,5 +1,6 @@
 -- What the wrong steps ask for is met: each of them at a state that is reached from an opening.
 use Rattle.std.proofs.Common.{◌≡◌, ℕ, ◌<◌, ◌≤◌, List, [], ◌∷◌, Some, refl, arith}
+use Rattle.std.specs.Int.{bit_at}
 use mathlib.Core.Option.{some}
 use lib.ListN.{get_elem?}
 use Rattle.frame_words.specs.Words.{entry_word, free_in, flag_in, lane_in, lane_put, lane_shift}
@@ -19,7 +20,7 @@ use Rattle.frame_model.specs.WrongSteps.{IsBefore, IsClearNow, IsMet, AreMet}
 use Rattle.frame_model.proofs.Blocks.{smalls_cons, smalls_none, behind_block}
 use Rattle.frame_model.proofs.Opening.{sealed_fits}
 use Rattle.frame_model.proofs.Runs.{every_run_fits}
-use Rattle.frame_model.proofs.WorkedRuns.Pieces.{can_pay, can_charge}
+use Rattle.frame_model.proofs.WorkedRuns.Pieces.{can_pay, can_charge, ones_one}
 use Rattle.frame_model.proofs.WorkedRuns.Rebuilding.{opens_all_free}
 use Rattle.frame_model.proofs.WorkedRuns.Splits.{stop_with_half_filled_allowed, whole_leaves}
 use Rattle.frame_model.proofs.ComputedRuns.{seat, reached, AllAllowed, run_of, ◌⟫◌}
@@ -126,6 +127,10 @@ only_half has =
       behind_block 64 (block 0 6) (omega arith),
     )
 
+frame_0_is_set : bit_at (bit_word_of one_child (at_end claimed_one).words 0) 0 ≡ 1
+unfolding bit_word_of entry_place tree_place bits_place local_place word_count
+frame_0_is_set = refl
+
 -- Four words of a huge frame are filled, and word 4 is not.
 before_drop : Before fills_half 0
 before_drop = before fills_half 0 stop_with_half_filled_allowed refl
@@ -162,6 +167,8 @@ pub are_met : AreMet
 are_met = record {
   bits = met _ [] 0 tt idle_before (0, 0, 0, (frame_0_is_run, frame_0_is_clear));
   claims = met _ [] 0 tt idle_before (0, 0, 0, (frame_0_is_run, frame_0_is_clear, nothing_charged));
+  singles = met _ [] 0 tt idle_before (0, 1, (omega arith, omega arith, frame_0_is_clear, omega (arith, nothing_charged, ones_one)));
+  held = met _ claimed_one 0 stop_after_one_claim_allowed before_half (0, 1, 0, (omega arith, omega arith, refl, frame_0_is_set));
   refund = met _ [] 0 tt idle_before (0, 1, (omega arith, omega arith, nothing_charged));
   huge = met _ one_charged 0 one_charged_allowed before_511 (0, (omega arith, free_511.0, at_most), free_511.1);
   drops = met _ reserved 0 reserved_allowed before_unreserve (0, 0, 512, (can_unreserve, omega arith));

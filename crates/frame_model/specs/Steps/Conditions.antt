@@ -1,5 +1,6 @@
 -- What a step asks of the view that makes it, and of the word that was seen.
 use Rattle.std.specs.Prelude.{◌≡◌, ℕ, ◌+◌, ◌*◌, ◌/◌, ◌^◌, ◌<◌, ◌≤◌, bit_and, List, Option, Some, None}
+use Rattle.std.specs.Int.Count.{ones}
 use Rattle.frame_words.specs.Geometry.{child_frames, word_frames, tree_words}
 use Rattle.frame_words.specs.Runs.{child_words}
 use Rattle.frame_words.specs.Words.{free_in, flag_in, lane_in, rest_in}
@@ -30,6 +31,15 @@ pub record CanClaim (key : Key) (v : View) (word seen from order : ℕ) : Type 0
   pub clear : bit_and seen (run from (2 ^ order)) ≡ 0
   pub charged : 2 ^ order ≤ charged_in (word / child_words) v
   pub paid : 2 ^ order ≤ paid_on (word / tree_words) v
+
+-- the bits, one or more, were seen clear, and their frames are charged and paid
+pub record CanClaimSingles (key : Key) (v : View) (word seen mask : ℕ) : Type 0 where
+  pub inside : word < child_words * key.children
+  pub some : 0 < mask
+  pub fits : mask < 2 ^ 64
+  pub clear : bit_and seen mask ≡ 0
+  pub charged : ones mask ≤ charged_in (word / child_words) v
+  pub paid : ones mask ≤ paid_on (word / tree_words) v
 
 -- the frames of the run are in flight, and nothing is charged or paid elsewhere
 pub record CanRelease (key : Key) (v : View) (word from order : ℕ)

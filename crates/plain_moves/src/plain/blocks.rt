@@ -1,9 +1,10 @@
 //! The blocks in flight of one thread, and how a block leaves them.
 
-ghost use Rattle.std.specs.Prelude.{◌≡◌, ◌+◌, ◌≤◌, ◌<◌, ◌^◌, ◌∷◌, [], ◌++◌, length, flat_map, not, ◌&&◌, ◌||◌, if◌then◌else◌};
+ghost use Rattle.std.specs.Prelude.{◌≡◌, ◌+◌, ◌*◌, ◌≤◌, ◌<◌, ◌^◌, ◌∷◌, [], ◌++◌, length, flat_map, not, ◌&&◌, ◌||◌, if◌then◌else◌};
 ghost use Rattle.std.specs.List.{All};
 ghost use Rattle.std.specs.VecDeque.{deque_capacity};
-ghost use Rattle.frame_model.specs.Block.{block};
+ghost use Rattle.frame_words.specs.Geometry.{most_children, word_frames};
+ghost use Rattle.frame_model.specs.Block.{block, single_blocks};
 ghost use Rattle.frame_model.specs.Without.{
   is_same,
   is_apart,
@@ -16,7 +17,7 @@ ghost use Rattle.frame_model.specs.Without.{
 ghost use Rattle.plain_moves.specs.Plain.{IsLow};
 
 use frame_model::FrameBlock;
-use frame_words::HUGE_ORDER;
+use frame_words::{HUGE_ORDER, WORD_FRAMES};
 use std::collections::VecDeque;
 
 /// The block leaves the list.
@@ -32,6 +33,24 @@ pub(crate) fn leave(list: &mut VecDeque<FrameBlock>, b: FrameBlock)
         cut_all(list, b);
     } else {
         leave_once(list, b);
+    }
+}
+
+/// The frames of a bit word at the bits of a mask come first.
+pub(crate) fn push_singles(list: &mut VecDeque<FrameBlock>, word: u32, mask: u64)
+    requires word { word < 8 * most_children }
+    requires room { length list.old.items + word_frames ≤ deque_capacity list.old }
+    ensures items { list.new.items ≡ single_blocks word mask ++ list.old.items }
+    ensures room { deque_capacity list.new ≡ deque_capacity list.old }
+{
+    for step in 0..WORD_FRAMES {
+        let bit = WORD_FRAMES - 1 - step;
+        if mask >> bit & 1 == 1 {
+            list.push_front_reserved(FrameBlock {
+                frame: WORD_FRAMES * word + bit,
+                order: 0,
+            });
+        }
     }
 }
 

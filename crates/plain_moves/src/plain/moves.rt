@@ -12,7 +12,7 @@ ghost use Rattle.plain_moves.specs.Plain.{plain_key};
 
 use super::PlainMoves;
 use super::amounts::{amount_in, amount_of, tree_in, with_less, with_more};
-use super::blocks::leave;
+use super::blocks::{leave, push_singles};
 use frame_core::Moves;
 use frame_core::layout::{bits_place, entry_place, local_place, tree_place};
 use frame_core::turns::{
@@ -171,6 +171,16 @@ impl Moves for PlainMoves {
             frame: WORD_FRAMES * word + bit,
             order,
         });
+        self.words[number_of(self.geometry, Place::Bits(word))] = seen | mask;
+        self.moves = self.moves.saturating_add(1);
+        true
+    }
+
+    fn claim_singles(&mut self, word: u32, seen: u64, mask: u64) -> bool {
+        let n = mask.count_ones();
+        self.charged = with_less(self.charged, word / CHILD_WORDS, n);
+        self.paid = with_less(self.paid, word / TREE_WORDS, n);
+        push_singles(&mut self.own, word, mask);
         self.words[number_of(self.geometry, Place::Bits(word))] = seen | mask;
         self.moves = self.moves.saturating_add(1);
         true

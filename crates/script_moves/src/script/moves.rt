@@ -63,6 +63,7 @@ impl Moves for ScriptMoves {
       charge,
       refund,
       claim,
+      claim_singles,
       take_huge,
       tree_pay,
       tree_refund,
@@ -178,6 +179,20 @@ impl Moves for ScriptMoves {
             return false;
         }
         let made = self.stage.plain.claim(word, seen, mask);
+        self.stage.find(Place::Bits(word));
+        made
+    }
+
+    fn claim_singles(&mut self, word: u32, seen: u64, mask: u64) -> bool
+        requires { MayTry (claim_singles word seen mask) seen (script_mover self.old) }
+        ensures tries { Tries plain_tick (claim_singles word seen mask) seen result
+            (script_mover self.old) (script_mover self.new) }
+        ensures plays { Plays true (TriesIt (claim_singles word seen mask) seen result) self.old self.new }
+    {
+        if self.stage.loses(Place::Bits(word), seen) {
+            return false;
+        }
+        let made = self.stage.plain.claim_singles(word, seen, mask);
         self.stage.find(Place::Bits(word));
         made
     }

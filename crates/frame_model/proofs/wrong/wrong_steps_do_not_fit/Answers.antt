@@ -1,4 +1,4 @@
-use Rattle.frame_model.proofs.WrongSteps.Claims.{bits_before_the_charge, claims_uncharged}
+use Rattle.frame_model.proofs.WrongSteps.Claims.{bits_before_the_charge, claims_uncharged, claims_singles_uncharged, claims_a_held_frame}
 use Rattle.frame_model.proofs.WrongSteps.Entries.{refund_before_the_release, huge_from_511, flag_dropped_before_the_bits}
 use Rattle.frame_model.proofs.WrongSteps.Seats.{hands_out_half}
 use Rattle.frame_model.proofs.wrong.wrong_steps_do_not_fit.Goals as goal
@@ -7,6 +7,8 @@ pub returns : goal.returns
 returns c = record {
   bits_before_the_charge = bits_before_the_charge;
   claims_uncharged = claims_uncharged;
+  claims_singles_uncharged = claims_singles_uncharged;
+  claims_a_held_frame = claims_a_held_frame;
   refund_before_the_release = refund_before_the_release;
   huge_from_511 = huge_from_511;
   hands_out_half = hands_out_half;

@@ -1,4 +1,4 @@
-use Rattle.std.proofs.Common.{◌≡◌, ◌+◌, ◌-◌, ◌*◌, ◌/◌, ◌<◌, refl, ap, subst, ◌∙◌, arith}
+use Rattle.std.proofs.Common.{◌≡◌, ◌+◌, ◌-◌, ◌*◌, ◌/◌, refl, ap, subst, ◌∙◌, arith}
 use Rattle.frame_model.specs.declared.view.View.{View}
 use Rattle.low_frames.specs.Singles.{MayTakeRuns, HasTakenSome, TakesSingles}
 use Rattle.low_frames.proofs.SinglesLemmas.{may_go_on, taken_none, taken_both, none_singles, both_singles, at_most_so_many}
@@ -38,9 +38,9 @@ loop-i-preserved g c =
     let k = c.take_in_word-got.result in
     let word = 8 * c.args.child + c.loop-i.i in
     let here : (8 * c.args.child + c.loop-i.i) / 8 ≡ c.args.child = omega (arith, c.loop-i-test.true) in
-    let step : TakesSingles B M.is_exact (c.args.child / 8) (8 * (k + 1) + k) (HasTakenSome c.args.child k)
+    let step : TakesSingles B M.is_exact (c.args.child / 8) (8 + k) (HasTakenSome c.args.child k)
     (ClaimsOfWord u.key word k (c.args.n - c.loop-i.got)) k c.loop-i.out.items c.take_in_word-got.new.out.items u w =
-    subst (λ d. TakesSingles B M.is_exact (d / 8) (8 * (k + 1) + k) (HasTakenSome d k)
+    subst (λ d. TakesSingles B M.is_exact (d / 8) (8 + k) (HasTakenSome d k)
     (ClaimsOfWord u.key word k (c.args.n - c.loop-i.got)) k c.loop-i.out.items c.take_in_word-got.new.out.items u w) here now.takes in
     record {
       takes = both_singles g.met.M.Moves.ticks was.takes step (ap (λ (v : View). v.kept) was.takes.view)

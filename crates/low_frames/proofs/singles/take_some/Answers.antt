@@ -47,9 +47,9 @@ loop-i-preserved g c =
           let k = w.take_some_in-got.result in
           let x = M.at w.take_some_in-got.new.m in
           let here : child / 8 ≡ tree = omega (arith, c.loop-i-test.true) in
-          let step : TakesSingles B M.is_exact tree (74 + 9 * k) (HasLentSome tree k)
+          let step : TakesSingles B M.is_exact tree (74 + k) (HasLentSome tree k)
           (TakesOfChild u.key child k (c.args.n - c.loop-i.got)) k c.loop-i.out.items w.take_some_in-got.new.out.items u x =
-          subst (λ t. TakesSingles B M.is_exact t (74 + 9 * k) (HasLentSome t k)
+          subst (λ t. TakesSingles B M.is_exact t (74 + k) (HasLentSome t k)
           (TakesOfChild u.key child k (c.args.n - c.loop-i.got)) k c.loop-i.out.items w.take_some_in-got.new.out.items u x) here
           (at_most_so_many ticks now.takes (omega arith) (λ bs ws us p. p)) in
           rw (w.m-is, w.out-is, w.got-is) (record {

@@ -146,7 +146,7 @@ returns-then-got-charged-clause-takes g c =
       lowered_count child k w.view.charged,
       charged_of child n u.view w.view tried.view none,
     ) in
-    let taken : TakesSingles B M.is_exact (child / 8) (9 + (8 * (k + 8) + k)) (λ v y. y ≡ x.view)
+    let taken : TakesSingles B M.is_exact (child / 8) (9 + (64 + k)) (λ v y. y ≡ x.view)
     (TakesUpTo m.key (512 * child) 512 k n) k c.args.out.now.items c.take_charged-got.new.out.items m x =
     nothing_then ticks (keeps_both load.keeps tried.keeps) (both_counts ticks (load_counts ticks load) tried.counts) takes kept refl
     (omega arith)

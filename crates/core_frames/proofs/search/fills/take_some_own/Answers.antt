@@ -81,7 +81,7 @@ returns-then-got-paid-clause-takes g c =
     let paid = c.in-Some.ensures.some in
     let took = c.take_some-got.ensures.takes in
     let back = c.refund.ensures in
-    let taken : TakesSingles B M.is_exact t (8 + (592 + 9 * k)) (λ v y. y ≡ w.view)
+    let taken : TakesSingles B M.is_exact t (8 + (592 + k)) (λ v y. y ≡ w.view)
     (FillsFrom m.key c.args.core k c.args.n) k c.args.out.now.items c.take_some-got.new.out.items m w =
     nothing_then ticks c.in-Some.ensures.keeps c.in-Some.ensures.counts took (ap (λ (v : View). v.kept) paid.view) refl (omega arith)
     (λ alone. c.in-Some.ensures.alone_some alone)
