@@ -409,7 +409,7 @@ enum llfree_status llfree_split_block(llfree_core *handle, llfree_block *block, 
 
 /* Single frames that rest with a core. Beside each core is a list of up to 128 frames, which only the calls below
  * use. A frame that is given rests there, and is the next one that is taken: neither makes a step that other cores
- * see. Where none rests, a take lets up to 8 of the tree that the core has reserved rest first. This is for frames
+ * see. Where none rests, a take lets up to 16 of the tree that the core has reserved rest first. This is for frames
  * that are soon taken again on the same CPU, and for many in a row. (Which frame is taken first, and how many come to
  * rest, is tested, not proved.)
  *  - A frame that rests counts as held in llfree_free_frames; llfree_resting says how many do. After a kill, or
@@ -428,14 +428,14 @@ LLFREE_NODISCARD
 enum llfree_status llfree_take_frame(llfree_core *handle, llfree_block *block);
 
 /* Gives the single frame that the struct holds, whichever core took it and by whichever call for structs, and
- * empties the struct. The frame rests with this core. If 128 rest there already, 16 of them go back first. On
+ * empties the struct. The frame rests with this core. If 128 rest there already, 8 of them go back first. On
  * NOT_HELD (an empty struct), BAD_ORDER (a larger block) and CLOSED_HANDLE nothing changes. It never locks or
  * waits. */
 enum llfree_status llfree_give_frame(llfree_core *handle, llfree_block *block);
 
 /* Takes a single frame into each of count empty structs, from the first one on, as repeated calls of llfree_take_frame
  * do, and writes how many came. They are fewer only if the last of these calls found none; the structs after them stay
- * empty. Fewer than 8 frames rest then, if not all came from those that rested. On failure the structs and *taken are
+ * empty. Fewer than 16 frames rest then, if not all came from those that rested. On failure the structs and *taken are
  * unchanged and nothing more is held: NO_BLOCK and CONTENDED as that call, only if count is not 0 and no frame came;
  * CLOSED_HANDLE; OPEN_HANDLE if a struct holds a block. */
 LLFREE_NODISCARD

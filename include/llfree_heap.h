@@ -25,7 +25,7 @@ typedef struct llfree_heap {
 enum {
     LLFREE_HEAP_LINE = 64,
     LLFREE_HEAP_ZONE = 2097152, /* frames of a zone at most */
-    LLFREE_HEAP_MOST = 1024,    /* zones, and ranges */
+    LLFREE_HEAP_MOST = 1024,    /* cores, zones, ranges */
     LLFREE_HEAP_CHILD = 512,
 };
 
@@ -41,7 +41,7 @@ enum {
     LLFREE_HEAP_SLOT = 8,     /* a block on the list, which has room for two a frame */
     LLFREE_HEAP_SHARED = 384, /* what all cores share */
     LLFREE_HEAP_REST = 576,   /* frames that rest with a core */
-    LLFREE_HEAP_BATCH = 128,  /* and those that come to rest at once */
+    LLFREE_HEAP_BATCH = 192,  /* and those that come to rest at once */
     LLFREE_HEAP_CORE = 408,
     LLFREE_HEAP_PLAIN = 336,  /* of an allocator for one thread: itself, its core, and frames on their way */
     LLFREE_HEAP_ALONE = 28,

@@ -136,12 +136,12 @@ class Calls(unittest.TestCase):
         for wrong in (taken[0], taken[128] + (1 << 32), -1, None):
             self.refused(status.NOT_HELD, second.give_frame, wrong)
         first.give_frame(taken[128])
-        self.assertEqual((first.resting(), second.free_frames()), (113, 4096 - 113))
-        again = [first.take_frame() for _ in range(113)]
-        self.assertEqual(again, taken[:15:-1])
+        self.assertEqual((first.resting(), second.free_frames()), (121, 4096 - 121))
+        again = [first.take_frame() for _ in range(121)]
+        self.assertEqual(again, taken[:7:-1])
         for frame in again:
             second.give_frame(frame)
-        self.assertEqual((first.resting(), second.resting(), first.free_frames()), (0, 113, 4096 - 113))
+        self.assertEqual((first.resting(), second.resting(), first.free_frames()), (0, 121, 4096 - 121))
         second.drain()
         self.assertEqual((second.resting(), first.free_huge()), (0, 8))
         frame = first.take_frame()

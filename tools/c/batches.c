@@ -6,7 +6,7 @@
 #include <stdatomic.h>
 
 /* FRAMES are two trees, MANY two for each core. */
-enum { MOST = 128, REFILL = 8, FLUSH = 16, FRAMES = 16 * 512, CORES = 4, MANY = CORES * FRAMES, ROOM = 200 };
+enum { MOST = 128, REFILL = 16, FLUSH = 8, FRAMES = 16 * 512, CORES = 4, MANY = CORES * FRAMES, ROOM = 200 };
 #if defined __SANITIZE_THREAD__ || defined __SANITIZE_ADDRESS__
 enum { ROUNDS = 2000 };
 #else
@@ -80,11 +80,11 @@ static void statuses(void)
 }
 
 /* Of ample memory all that are wanted come, whatever rested before; each is had once, and goes back. From one give on
- * where 128 rest, 16 go back: 113 rest then, and 128 again after 15 more. */
+ * where 128 rest, 8 go back: 121 rest then, and 128 again after 7 more. */
 static void counts(void)
 {
-    static const size_t rested_before[] = { 0, 1, 7, 8, 9, 16, 111, 112, 113, 127, 128 };
-    static const size_t wanted[] = { 0, 1, 7, 8, 9, 15, 16, 17, 111, 112, 113, 127, 128, 129, 200, 1000, 4096, FRAMES };
+    static const size_t rested_before[] = { 0, 1, 8, 15, 16, 17, 119, 120, 121, 127, 128 };
+    static const size_t wanted[] = { 0, 1, 7, 8, 9, 15, 16, 17, 119, 120, 121, 127, 128, 129, 200, 1000, 4096, FRAMES };
     static llfree_block blocks[FRAMES + 1], few[MOST];
     llfree_core h[2];
 
@@ -106,7 +106,7 @@ static void counts(void)
             CHECK(are_empty(&blocks[n], FRAMES + 1 - n));
             CHECK(llfree_give_frames(&h[0], blocks, n) == LLFREE_OK && are_empty(blocks, n));
             uint32_t then = llfree_resting(&h[0]);
-            CHECK(then == (rests + n <= MOST ? rests + n : 113 + (rests + n - 129) % FLUSH));
+            CHECK(then == (rests + n <= MOST ? rests + n : 121 + (rests + n - 129) % FLUSH));
             CHECK(llfree_free_frames(&h[1]) == FRAMES - then);
             llfree_drain(&h[0]);
             CHECK(llfree_free_frames(&h[1]) == FRAMES && llfree_free_huge(&h[1]) == FRAMES / 512);

@@ -5,7 +5,7 @@
 #include <sched.h>
 #include <stdatomic.h>
 
-enum { MOST = 128, REFILL = 8, FLUSH = 16, FRAMES = 16 * 512, RING = 256, PAIRS = 2, MIXED = 40000 };
+enum { MOST = 128, REFILL = 16, FLUSH = 8, FRAMES = 16 * 512, RING = 256, PAIRS = 2, MIXED = 40000 };
 #if defined __SANITIZE_THREAD__ || defined __SANITIZE_ADDRESS__
 enum { ROUNDS = 30000 };
 #else
@@ -108,7 +108,7 @@ static void last_first(void)
     close_two(h);
 }
 
-/* From one give on where 128 rest, the 16 that came first go back. */
+/* From one give on where 128 rest, the 8 that came first go back. */
 static void borders(void)
 {
     static llfree_block blocks[3 * MOST];
@@ -142,8 +142,8 @@ static void borders(void)
     }
 }
 
-/* Where none rests others come to rest with one that is taken, at most 8 with it, and count as held. Of a fresh memory
- * most are had in order, and all of a tree before the next one. */
+/* Where none rests others come to rest with one that is taken, at most 16 with it, and count as held. Of a fresh memory
+ * all of a tree are had in order, and before the next one. */
 static void batches(void)
 {
     enum { TREE = 8 * 512 };
@@ -164,7 +164,7 @@ static void batches(void)
         batches += rested == 0;
         ascend += i > 0 && x == blocks[i - 1].frame + 1;
     }
-    CHECK(batches <= FRAMES / REFILL + FRAMES / TREE && ascend >= FRAMES / 10 * 9);
+    CHECK(batches <= FRAMES / REFILL + FRAMES / TREE && ascend >= FRAMES - FRAMES / TREE);
     CHECK(llfree_take_frame(&h[0], &(llfree_block) LLFREE_EMPTY) == LLFREE_NO_BLOCK && llfree_resting(&h[0]) == 0);
     /* and where no two free frames lie side by side */
     for (uint32_t i = 0; i < FRAMES; i++)
@@ -177,7 +177,44 @@ static void batches(void)
     close_two(h);
 }
 
-/* Of a memory that is about as large as a batch, too: 7 come to rest with the first frame and with each eighth one
+/* Where the free frames lie scattered, from few of them to all, each one that is taken is the lowest of its tree. */
+static void scattered(void)
+{
+    enum { TREE = 8 * 512, SIXTEENTHS = 16 };
+    static llfree_block blocks[FRAMES];
+    static unsigned char is_free[FRAMES];
+    uint64_t x = 88172645463325252ull;
+
+    for (uint32_t share = 1; share <= SIXTEENTHS; share++) {
+        uint32_t frames = FRAMES - 37 * (share - 1), free = 0, lowest[FRAMES / TREE] = { 0, TREE };
+        llfree_core h[2];
+
+        open_two(h, frames);
+        memset(blocks, 0, sizeof blocks);
+        memset(is_free, 0, sizeof is_free);
+        for (uint32_t i = 0; i < frames; i++)
+            take(&h[0], &blocks[i]);
+        for (uint32_t i = 0; i < frames; i++)
+            if (next_random(&x) % SIXTEENTHS < share) {
+                is_free[blocks[i].frame] = 1;
+                CHECK(llfree_give_block(&h[1], &blocks[i]) == LLFREE_OK);
+                free++;
+            }
+        for (; free > 0; free--) {
+            llfree_block block = LLFREE_EMPTY;
+            take(&h[1], &block);
+            CHECK(block.frame < frames);
+            uint32_t *next = &lowest[block.frame / TREE];
+            while (*next < frames && !is_free[*next])
+                (*next)++;
+            CHECK(block.frame == (*next)++);
+        }
+        CHECK(llfree_free_frames(&h[0]) == 0 && llfree_resting(&h[1]) == 0);
+        close_two(h);
+    }
+}
+
+/* Of a memory that is about as large as a batch, too: 15 come to rest with the first frame and with each sixteenth one
  * behind it, or as many as there are. */
 static void small_batches(void)
 {
@@ -347,7 +384,7 @@ static void numbers(void)
 }
 
 /* All frames by number, in zones with a hole between them: each once, the others are not held, and from one give on
- * where 128 rest the 16 that came first go back. */
+ * where 128 rest the 8 that came first go back. */
 static void numbers_of_zones(void)
 {
     static const llfree_range two[2] = { { 1024, 700 }, { 4096, 600 } };
@@ -606,6 +643,7 @@ int main(void)
     last_first();
     borders();
     batches();
+    scattered();
     small_batches();
     refusals();
     closings();

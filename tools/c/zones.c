@@ -480,8 +480,8 @@ static void homes_are_set(void)
         CHECK(llfree_take_block(&h[1], 3, &b) == LLFREE_OK && b.frame / 8192 == z);
         CHECK(llfree_give_block(&h[1], &b) == LLFREE_OK);
         CHECK(llfree_take_frame(&h[1], &b) == LLFREE_OK && b.frame / 8192 == z);
-        CHECK(llfree_give_frame(&h[1], &b) == LLFREE_OK && llfree_resting(&h[1]) == 8);
-        CHECK(llfree_set_home(&h[1], (z + 1) % 3) == LLFREE_OK && llfree_resting(&h[1]) == 8);
+        CHECK(llfree_give_frame(&h[1], &b) == LLFREE_OK && llfree_resting(&h[1]) == 16);
+        CHECK(llfree_set_home(&h[1], (z + 1) % 3) == LLFREE_OK && llfree_resting(&h[1]) == 16);
         CHECK(llfree_take_frame(&h[1], &b) == LLFREE_OK && b.frame / 8192 == z);
         CHECK(llfree_give_block(&h[1], &b) == LLFREE_OK);
         llfree_drain(&h[1]);

@@ -14,7 +14,7 @@
 #include <sys/wait.h>
 #include <unistd.h>
 
-enum { CORES = 3, MOST_RESTING = 128, BACK = 16 /* where so many rest already */ };
+enum { CORES = 3, MOST_RESTING = 128, BACK = 8 /* where so many rest already */ };
 
 enum doing { NOTHING, TAKING, TAKEN, GIVING, SPLITTING, SPLIT, DRAINING, DOINGS };
 

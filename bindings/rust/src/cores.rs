@@ -208,7 +208,7 @@ impl<F: Form> Core<F> {
         }
     }
 
-    /// Gives a single frame, which rests with this core, whichever core took it. If 128 rest there already, 16 of them
+    /// Gives a single frame, which rests with this core, whichever core took it. If 128 rest there already, 8 of them
     /// go back first. What is refused comes back: [`Refused::BadOrder`] for a larger block.
     pub fn give_frame(&mut self, block: Block<F>) -> Result<(), (Refused, Block<F>)> {
         let Block { right, memory } = self.own(block)?;

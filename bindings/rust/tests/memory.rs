@@ -285,7 +285,7 @@ fn rest(core: &mut Core<Unchecked>, block: Block<Unchecked>) {
     core.give_frame(block).map_err(|(refused, _)| refused).expect("a frame rests");
 }
 
-/// What came to rest last is taken first; from one give on where 128 rest, 16 go back.
+/// What came to rest last is taken first; from one give on where 128 rest, 8 go back.
 #[test]
 fn frames_rest_with_a_core() {
     let [mut a, mut b]: [Core<Unchecked>; 2] = Core::open(4_096, &[]).expect("a memory");
@@ -297,12 +297,12 @@ fn frames_rest_with_a_core() {
     for (given, block) in (1..).zip(blocks) {
         assert_eq!((block.order(), block.frames()), (0, 1));
         rest(&mut a, block);
-        let resting = if given == 129 { 113 } else { given };
+        let resting = if given == 129 { 121 } else { given };
         assert_eq!((a.resting(), b.resting(), b.free_frames()), (resting, 0, 4_096 - 129 + given - resting));
     }
-    let mut again: Vec<_> = (0..113).map(|_| a.take_frame().expect("it rested")).collect();
-    assert!(again.iter().map(Block::frame).eq(numbers[16..].iter().rev().copied()), "the last one comes first");
-    assert_eq!((a.resting(), a.free_frames()), (0, 4_096 - 113));
+    let mut again: Vec<_> = (0..121).map(|_| a.take_frame().expect("it rested")).collect();
+    assert!(again.iter().map(Block::frame).eq(numbers[8..].iter().rev().copied()), "the last one comes first");
+    assert_eq!((a.resting(), a.free_frames()), (0, 4_096 - 121));
 
     rest(&mut a, again.remove(0));
     let other = a.take(0).expect("the calls for blocks leave alone what rests");
@@ -327,9 +327,9 @@ fn checked_frames_rest_with_a_core() {
     blocks.into_iter().for_each(|block| a.give_frame(block).map_err(|(refused, _)| refused).expect("it rests"));
     assert_eq!((a.resting(), b.order_at(numbers[0]), b.order_at(numbers[128])), (128, None, Some(0)));
     a.give_frame(last).map_err(|(refused, _)| refused).expect("it rests");
-    assert_eq!((a.resting(), b.free_frames()), (113, 4_096 - 113));
-    let again: Vec<_> = (0..113).map(|_| a.take_frame().expect("it rested")).collect();
-    assert!(again.iter().map(Block::frame).eq(numbers[16..].iter().rev().copied()), "the last one comes first");
+    assert_eq!((a.resting(), b.free_frames()), (121, 4_096 - 121));
+    let again: Vec<_> = (0..121).map(|_| a.take_frame().expect("it rested")).collect();
+    assert!(again.iter().map(Block::frame).eq(numbers[8..].iter().rev().copied()), "the last one comes first");
     again.into_iter().for_each(|block| b.give(block).map_err(|(refused, _)| refused).expect("a frame is a block"));
     let single = b.take(0).expect("a block");
     a.give_frame(single).map_err(|(refused, _)| refused).expect("a block of order 0 rests");

@@ -59,7 +59,7 @@ none_filled hs s =
       rests = λ less. absurd (omega (arith, less));
     }
 
--- where none or some rest, one is taken: fewer than 8 rest then
+-- where none or some rest, one is taken: fewer than 16 rest then
 still_few : (h : BlockHandle) (t u : CoreState) → length (resting_in t) < refill_frames → TakesFrame h t u
     → length (resting_in u) < refill_frames
 still_few h t u few took =

@@ -48,7 +48,7 @@ one_lost h s t refused = (
 pub has_order : (h : BlockHandle) (s t : CoreState) → RefusesSingle s t BadOrder → RefusesFrameAs h bad_order s t
 has_order h s t refused = absurd (omega (arith, refused.why.0.0))
 
--- a single frame was given: it rests, or 16 of those that rested went back before
+-- a single frame was given: it rests, or 8 of those that rested went back before
 pub frame_given : (n : ℕ) (f : SingleFrame) (s t : CoreState) → LendsOneLess n s t
     → (length (resting_in s) < most_resting → RestsLast f s t)
     → (length (resting_in s) ≡ most_resting → resting_in t ≡ drop flush_frames (resting_in s) ++ f ∷ []) → GivesFrame n s t

@@ -80,7 +80,7 @@ pub record FindsNoMore (hs : List BlockHandle) (s t : CoreState) : Type 0 where
   pub why : FindsNoFrame core t ⊎ LosesFrame core t
 
 -- The first n structs were filled: all, or the core found no frame more. Where enough rested, all were and no step was
--- made; else fewer than 8 rest then.
+-- made; else fewer than 16 rest then.
 pub record TakesFrames (n : ℕ) (before after : List BlockHandle) (s t : CoreState) : Type 0 where
   pub taken : FillsFirst n before after s t
   pub enough : length before ≤ length (resting_in s) → (n ≡ length before) × RestFewer n s t

@@ -21,7 +21,7 @@ pub record ComesToRest (s t : CoreState) : Type 0 where
   pub core : KeepsCore s t
 
 -- a single frame was taken through the core, and is carried; where one rested, no step was made, and where none did,
--- fewer than 8 rest then
+-- fewer than 16 rest then
 pub record TakesFrame (h : BlockHandle) (s t : CoreState) : Type 0 where
   pub live : h.live ≡ true
   pub order : h.order ≡ 0
@@ -31,7 +31,7 @@ pub record TakesFrame (h : BlockHandle) (s t : CoreState) : Type 0 where
   pub few : resting_in s ≡ [] → length (resting_in t) < refill_frames
 
 -- the single frame of this number was given through the core; where there was room for it to rest, no step was
--- made, and where there was none, 16 of those that rested went back
+-- made, and where there was none, 8 of those that rested went back
 pub record GivesFrame (frame : ℕ) (s t : CoreState) : Type 0 where
   pub lent : LendsOneLess frame s t
   pub rests : length (resting_in s) < most_resting → ComesToRest s t

@@ -30,7 +30,7 @@ pub record GoesBack (frame : ℕ) (s t : CoreState) : Type 0 where
   pub rest : KeepsRest s t
 
 -- a single frame was taken through the core, and this very one was laid down at its slot: where some rested, the one
--- that came last, and the core is as it was in each zone; where none did, fewer than 8 rest then
+-- that came last, and the core is as it was in each zone; where none did, fewer than 16 rest then
 pub record TakesNumber (frame : ℕ) (s t : CoreState) : Type 0 where
   pub is_frame : HasBlockOf (zones_of s) 0 frame
   pub laid : last_laid t ≡ Some (block frame 0)
@@ -50,7 +50,7 @@ pub record FindsNoPlace (s t : CoreState) : Type 0 where
 abbrev pub RefusesNumber : CoreState → CoreState → TakeFault → Type 0
 RefusesNumber s t fault = (RefusesSingle s t fault × CountsNone s t) ⊎ ((fault ≡ Contended) × FindsNoPlace s t)
 
--- this very single frame was given through the core, and came to rest last; where there was no room, the 16 that came
+-- this very single frame was given through the core, and came to rest last; where there was no room, the 8 that came
 -- first went back before
 pub record GivesNumber (frame : ℕ) (s t : CoreState) : Type 0 where
   pub is_frame : HasBlockOf (zones_of s) 0 frame

@@ -20,11 +20,11 @@ most_resting = 128
 
 -- how many come to rest at once at most
 abbrev pub refill_frames : ℕ
-refill_frames = 8
+refill_frames = 16
 
 -- how many of them go back where there is no place for one more
 abbrev pub flush_frames : ℕ
-flush_frames = 16
+flush_frames = 8
 
 -- it is the right to the frame of its number
 abbrev pub IsSingleIn : Zones → SingleFrame → Type 0

@@ -11,18 +11,18 @@ use std::alloc::Global;
 pub(crate) const MOST_RESTING: usize = 128;
 
 /// How many come to rest at once at most.
-pub(crate) const REFILL: usize = 8;
+pub(crate) const REFILL: usize = 16;
 
 /// How many of them go back where there is no place for one more.
-pub(crate) const FLUSH: usize = 16;
+pub(crate) const FLUSH: usize = 8;
 
 // How many times as many stand behind these in a full list.
-const FLUSHES_BEHIND: usize = 7;
+const FLUSHES_BEHIND: usize = 15;
 
 // Room for a cache line more: behind what one core writes lies nothing that another one does.
 const ROOM: usize = 144;
 
-const BATCH_ROOM: usize = 16;
+const BATCH_ROOM: usize = 24;
 
 /// The frames that rest with a core, the one that came first in front. It has room for all from the start.
 #[derive(Drop)]
@@ -33,7 +33,7 @@ pub struct FrameList {
     pub(crate) ghost few: { length list.items ≤ 128 },
     pub(crate) ghost room: { 128 ≤ vec_capacity list },
     pub(crate) ghost no_batch: { batch.items ≡ [] },
-    pub(crate) ghost batch_room: { 8 ≤ vec_capacity batch },
+    pub(crate) ghost batch_room: { 16 ≤ vec_capacity batch },
 }
 
 impl FrameList {
@@ -76,21 +76,21 @@ impl FrameList {
         self.list.push_reserved(frame);
     }
 
-    /// Of a full list the 16 that came first stand last.
+    /// Of a full list the 8 that came first stand last.
     pub(crate) fn turn(&mut self)
         requires { length self.old.list.items ≡ 128 }
-        ensures turned { self.new.list.items ≡ drop 16 self.old.list.items ++ take 16 self.old.list.items }
+        ensures turned { self.new.list.items ≡ drop 8 self.old.list.items ++ take 8 self.old.list.items }
         ensures len { length self.new.list.items ≡ length self.old.list.items }
     {
         move_back(self.list.as_mut_slice(), FLUSHES_BEHIND);
     }
 }
 
-// Puts the first 16 behind so many times 16 others, which move up one 16 after another: a rotation would have the
+// Puts the first 8 behind so many times 8 others, which move up 8 after 8: a rotation would have the
 // frames wait on the stack, in 7 KiB.
 fn move_back(frames: &mut [SingleFrame], times: usize)
-    requires { length frames.old ≡ 16 * times + 16 }
-    ensures { frames.new ≡ drop 16 frames.old ++ take 16 frames.old }
+    requires { length frames.old ≡ 8 * times + 8 }
+    ensures { frames.new ≡ drop 8 frames.old ++ take 8 frames.old }
 {
     if times == 0 {
         return;

@@ -13,7 +13,7 @@ use frame_words::TakeFault;
 
 impl CoreState {
     /// Takes a single frame: the one that came to rest last, with no step of the allocator. Where none rests, up
-    /// to 8 of the core's own tree come to rest first; where that has none, one as `take_block` takes it.
+    /// to 16 of the core's own tree come to rest first; where that has none, one as `take_block` takes it.
     #[inline(always)]
     pub fn take_frame(&mut self) -> Result<SingleFrame, TakeFault>
         ensures shared { SharesOne self.old self.new }
@@ -82,7 +82,7 @@ impl CoreState {
         }
     }
 
-    /// Gives a single frame back, whichever core took it: it comes to rest. Where 128 rest, the 16 that came
+    /// Gives a single frame back, whichever core took it: it comes to rest. Where 128 rest, the 8 that came
     /// first go back before. It always succeeds.
     #[inline(always)]
     pub fn give_frame(&mut self, frame: SingleFrame)
@@ -131,7 +131,7 @@ impl CoreState {
         self.rest.push(frame);
     }
 
-    // Gives the 16 frames back that came first.
+    // Gives the 8 frames back that came first.
     fn flush(&mut self)
         requires { length (resting_in self.old) ≡ most_resting }
         ensures shared { SharesOne self.old self.new }

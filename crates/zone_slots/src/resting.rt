@@ -61,7 +61,7 @@ impl Memory {
         requires known { IsFirstOf self.now.zones known }
         requires core { AreCoresOf self.now.zones core.old }
         requires empty { rest.old.list.items ≡ [] }
-        requires few { most ≤ 8 }
+        requires few { most ≤ 16 }
         ensures lent { LendAsManyBesides self.now.zones core.old rest.old.list.items core.new rest.new.list.items }
         ensures none { rest.new.list.items ≡ [] → BringsNone self.now.zones most core.old core.new }
         ensures few { length rest.new.list.items ≤ most }

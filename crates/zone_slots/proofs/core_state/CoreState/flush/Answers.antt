@@ -11,7 +11,7 @@ use Rattle.zone_slots.proofs.core_state.CoreState.flush.Goals as goal
 pub give_last-requires-clause-rest : goal.give_last-requires-clause-rest
 give_last-requires-clause-rest c =
     subst (λ (m : Memory). AreSingles m.zones c.turn.new.self.list.items) (sym c.deref.ensures)
-    (turned_all (zones_of c.args.self.now) 16 (resting_in c.args.self.now) c.turn.new.self.list.items c.turn.ensures.turned
+    (turned_all (zones_of c.args.self.now) 8 (resting_in c.args.self.now) c.turn.new.self.list.items c.turn.ensures.turned
     c.args.self.now.rests)
 
 pub give_last-requires-clause-enough : goal.give_last-requires-clause-enough
@@ -25,13 +25,13 @@ returns-clause-lent c =
     c.deref.ensures c.give_last.ensures.gives in
     λ z x within. gives.lent z x within
     ∙ ap (λ n. lent_by (core_at s.core z x) -ℤ pos n)
-    (turned_count (zones_of s) 16 z (resting_in s) c.turn.new.self.list.items c.turn.ensures.turned)
+    (turned_count (zones_of s) 8 z (resting_in s) c.turn.new.self.list.items c.turn.ensures.turned)
 
 pub returns-clause-rest : goal.returns-clause-rest
 returns-clause-rest c =
-    newer 16 (resting_in c.args.self.now) c.turn.new.self.list.items c.give_last.new.rest.list.items (omega (arith, c.requires))
+    newer 8 (resting_in c.args.self.now) c.turn.new.self.list.items c.give_last.new.rest.list.items (omega (arith, c.requires))
     c.turn.ensures.turned c.give_last.ensures.first
 
 pub returns-clause-less : goal.returns-clause-less
 returns-clause-less c =
-    omega (arith, ap length (returns-clause-rest c), length-drop 16 (resting_in c.args.self.now), c.requires)
+    omega (arith, ap length (returns-clause-rest c), length-drop 8 (resting_in c.args.self.now), c.requires)
