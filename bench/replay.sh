@@ -3,7 +3,7 @@
 # numbers, and by structs with single frames that rest with their core; through a buddy allocator with lists for each
 # processor, as Linux has it, and a buddy allocator and a bitmap, each under a mutex (bench/replay.c). It needs a C
 # compiler and python3; the library is built where it is not there.
-#     bench/replay.sh [RECORDING.gz]
+#     bench/replay.sh [RECORDING.gz|RECORDING.xz]
 # A round is a tenth of a second of the recording, so threads seldom wait for each other. A time is the median of
 # REPEATS repeats, in nanoseconds of one thread for a take or a give; `times` is how many times as long as the library;
 # huge are the huge frames left free at the end, of CHILDREN, in the mean, where frames that rest or lie in lists count
@@ -15,6 +15,7 @@ here=$(cd "$(dirname "$0")" && pwd)
 top=$(dirname "$here")
 . "$here/progress.sh"
 recording=${1:-$top/examples/replay/kernel-events.txt.gz}
+case $recording in *.xz) unpack=xz ;; *) unpack=gzip ;; esac
 children=${CHILDREN:-64}
 repeats=${REPEATS:-15}
 library=$top/build/libllfree_c.a
@@ -26,7 +27,7 @@ make -s -C "$top" library >&2
 
 for threads in 1 2 3 4; do
     shows "$threads of 4 threads"
-    gzip -dc "$recording" | "$top/tools/kernel_trace.py" --cores "$threads" --slice 100000 \
+    "$unpack" -dc "$recording" | "$top/tools/kernel_trace.py" --cores "$threads" --slice 100000 \
         >"$folder/trace" 2>"$folder/counts" || { cat "$folder/counts" >&2; exit 1; }
     ${UNDER:-} "$folder/replay" "$threads" "$children" "$repeats" <"$folder/trace" >>"$folder/lines"
 done

@@ -16,9 +16,9 @@ case ${1:---} in
         shift
         ;;
 esac
-for needed in python3 "${CC:-cc}"; do
-    command -v "$needed" >/dev/null && continue
-    printf "skipped: the page that plays, for want of %s\n0 passed, 0 failed\n" "$needed"
+for needed in 'python3 python3' "${CC:-cc} gcc"; do
+    command -v "${needed% *}" >/dev/null && continue
+    printf 'skipped: the page that plays, for want of %s (%s)\n0 passed, 0 failed\n' "${needed% *}" "${needed#* }"
     exit 0
 done
 exec tools/play/checks.py "$program" "$@"
