@@ -4,8 +4,9 @@ mount -t devtmpfs dev /dev
 mkdir -p /etc /dev/shm /dev/hugepages /selftests/huge
 mount -t tmpfs -o size=40% shm /dev/shm
 mount -t debugfs debug /sys/kernel/debug
-mount -t hugetlbfs huge /dev/hugepages
-mount -t hugetlbfs huge /selftests/huge
+# of a name that is a file, such as huge, it would make a loop device
+mount -t hugetlbfs none /dev/hugepages
+mount -t hugetlbfs none /selftests/huge
 echo nobody:x:65534:65534::/: >/etc/passwd
 left_out=0
 # where Linux was compiled, which the file system on /tmp may hide
