@@ -142,8 +142,8 @@ static void borders(void)
     }
 }
 
-/* Where none rests others come to rest with one that is taken, at most 16 with it, and count as held. Of a fresh memory
- * all of a tree are had in order, and before the next one. */
+/* Where none rests up to 16 of the core's own tree come, and where that has none, one alone. They count as held. Of a
+ * fresh memory all of a tree are had in order, and before the next one. */
 static void batches(void)
 {
     enum { TREE = 8 * 512 };
@@ -214,8 +214,40 @@ static void scattered(void)
     }
 }
 
-/* Of a memory that is about as large as a batch, too: 15 come to rest with the first frame and with each sixteenth one
- * behind it, or as many as there are. */
+/* Behind a batch whose ends lie a huge frame or more apart 8 come at once, behind one that lies closer 16 again. The
+ * last gives went to the upper tree, which the core has reserved. */
+static void apart(void)
+{
+    static llfree_block blocks[FRAMES], again[32];
+    static const uint32_t far[32] = { [0] = 16, [16] = 1, [17] = 8, [25] = 7 }, near[32] = { [0] = 8, [8] = 16, [24] = 8 };
+    llfree_core h[2];
+
+    open_two(h, FRAMES);
+    for (uint32_t i = 0; i < FRAMES; i++)
+        take(&h[0], &blocks[i]);
+    for (int round = 0; round < 2; round++) {
+        for (uint32_t i = 0; i < FRAMES; i++) {
+            uint32_t x = blocks[i].frame;
+            if (blocks[i].live && (round > 0 ? x / 32 == 33 : x % 512 == 7 || x % 512 == 300))
+                CHECK(llfree_give_block(&h[1], &blocks[i]) == LLFREE_OK);
+        }
+        CHECK(llfree_free_frames(&h[0]) == 32);
+        uint32_t rests = 0;
+        for (uint32_t i = 0; i < 32; i++) {
+            uint32_t come = round > 0 ? near[i] : far[i];
+            again[i] = (llfree_block) LLFREE_EMPTY;
+            take(&h[1], &again[i]);
+            CHECK((rests == 0) == (come > 0));
+            rests += come - 1;
+            CHECK(llfree_resting(&h[1]) == rests);
+        }
+        CHECK(llfree_free_frames(&h[0]) == 0);
+    }
+    close_two(h);
+}
+
+/* Of a memory that is about as large as a batch, too: the first frame comes alone, and 15 come to rest with the next one
+ * and with each sixteenth one behind it, or as many as there are. */
 static void small_batches(void)
 {
     static llfree_block blocks[2 * REFILL + 1];
@@ -226,7 +258,8 @@ static void small_batches(void)
         open_two(h, frames);
         memset(blocks, 0, sizeof blocks);
         for (uint32_t i = 0; i < frames; i++) {
-            uint32_t left = frames - 1 - i, rests = REFILL - 1 - i % REFILL < left ? REFILL - 1 - i % REFILL : left;
+            uint32_t left = frames - 1 - i, behind = i == 0 ? 0 : REFILL - 1 - (i - 1) % REFILL;
+            uint32_t rests = behind < left ? behind : left;
             take(&h[0], &blocks[i]);
             CHECK(blocks[i].frame < frames && !(seen >> blocks[i].frame & 1));
             seen |= 1ull << blocks[i].frame;
@@ -644,6 +677,7 @@ int main(void)
     borders();
     batches();
     scattered();
+    apart();
     small_batches();
     refusals();
     closings();

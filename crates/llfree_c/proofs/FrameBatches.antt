@@ -13,7 +13,7 @@ use Rattle.frame_zones.proofs.Rounds.{some_zone}
 use Rattle.frame_zones.specs.Zones.{zone_count, core_at}
 use Rattle.frame_zones.specs.declared.zones.Zones.{Zones}
 use Rattle.zone_slots.specs.Calls.{zones_of, SharesOne}
-use Rattle.zone_slots.specs.FrameCalls.{resting_in, KeepsRest, lent_out_in}
+use Rattle.zone_slots.specs.FrameCalls.{resting_in, next_batch, KeepsRest, lent_out_in}
 use Rattle.zone_slots.specs.Resting.{most_resting, refill_frames, flush_frames, one_in, singles_in}
 use Rattle.zone_slots.specs.Uses.{EachLendsSame}
 use Rattle.zone_slots.specs.declared.core_state.CoreState.{CoreState}
@@ -59,12 +59,16 @@ none_filled hs s =
       rests = λ less. absurd (omega (arith, less));
     }
 
+-- fewer than may come at once
+under_most : (t : CoreState) (n : ℕ) → n < next_batch t → n < refill_frames
+under_most t n less = omega (arith, less, t.rest.few_next)
+
 -- where none or some rest, one is taken: fewer than 16 rest then
 still_few : (h : BlockHandle) (t u : CoreState) → length (resting_in t) < refill_frames → TakesFrame h t u
     → length (resting_in u) < refill_frames
 still_few h t u few took =
     elim (cases_order (length (resting_in t)) 0) as (λ _. length (resting_in u) < refill_frames) [
-      | inl none ↦ took.few (nil_from_length (resting_in t) none)
+      | inl none ↦ under_most t (length (resting_in u)) (took.few (nil_from_length (resting_in t) none))
       | inr less ↦ elim less as (λ _. length (resting_in u) < refill_frames) [
         | inl below ↦ absurd (omega (arith, below))
         | inr above ↦ omega (arith, (took.rested above).one, few)
@@ -103,7 +107,7 @@ one_filled n before items h s t u inside long so shared took =
       rests = λ less. elim (cases_order (length (resting_in s)) n) as (λ _. length (resting_in u) < refill_frames) [
         | inl same ↦
             let was = so.enough (omega (arith, same)) in
-            took.few (nil_from_length (resting_in t) (omega (arith, was.fewer, same)))
+            under_most t (length (resting_in u)) (took.few (nil_from_length (resting_in t) (omega (arith, was.fewer, same))))
         | inr other ↦ elim other as (λ _. length (resting_in u) < refill_frames) [
           | inl below ↦ still_few h t u (so.rests below) took
           | inr above ↦ absurd (omega (arith, less, above))

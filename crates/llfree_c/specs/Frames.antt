@@ -2,8 +2,8 @@
 use Rattle.std.specs.Prelude.{◌≡◌, ◌⊎◌, ℕ, ◌+◌, ◌<◌, [], true, false, length, Option, Some, None}
 use Rattle.frame_zones.specs.declared.zones.ZoneCore.{ZoneCore}
 use Rattle.zone_slots.specs.Calls.{zones_of, SharesOne, KeepsCore}
-use Rattle.zone_slots.specs.FrameCalls.{resting_in, KeepsRest, LendsOneMore, LendsOneLess, LendsAsManyInEach}
-use Rattle.zone_slots.specs.Resting.{most_resting, refill_frames, flush_frames, BringsNone}
+use Rattle.zone_slots.specs.FrameCalls.{resting_in, next_batch, KeepsRest, LendsOneMore, LendsOneLess, LendsAsManyInEach}
+use Rattle.zone_slots.specs.Resting.{most_resting, flush_frames, BringsNone}
 use Rattle.zone_slots.specs.Uses.{EachLendsSame, FindsNothingAnywhere, LoseSome}
 use Rattle.zone_slots.specs.declared.core_state.CoreState.{CoreState}
 use Rattle.llfree_c.specs.Blocks.{IsOutOfOne}
@@ -21,14 +21,14 @@ pub record ComesToRest (s t : CoreState) : Type 0 where
   pub core : KeepsCore s t
 
 -- a single frame was taken through the core, and is carried; where one rested, no step was made, and where none did,
--- fewer than 16 rest then
+-- fewer rest then than were asked for, at most 16
 pub record TakesFrame (h : BlockHandle) (s t : CoreState) : Type 0 where
   pub live : h.live ≡ true
   pub order : h.order ≡ 0
   pub out : IsOutOfOne s h
   pub lent : LendsOneMore h.frame s t
   pub rested : 0 < length (resting_in s) → LeavesRest s t
-  pub few : resting_in s ≡ [] → length (resting_in t) < refill_frames
+  pub few : resting_in s ≡ [] → length (resting_in t) < next_batch s
 
 -- the single frame of this number was given through the core; where there was room for it to rest, no step was
 -- made, and where there was none, 8 of those that rested went back
@@ -40,14 +40,14 @@ pub record GivesFrame (frame : ℕ) (s t : CoreState) : Type 0 where
 -- behind a batch that brought none the core found no single frame in any zone, and lost no exchange
 pub record FindsNoFrame (s t : CoreState) : Type 0 where
   pub core : ZoneCore
-  pub batch : BringsNone (zones_of s) refill_frames s.core core
+  pub batch : BringsNone (zones_of s) (next_batch s) s.core core
   pub in_each : FindsNothingAnywhere (zones_of s) 0 core t.core
   pub lent : EachLendsSame (zones_of s) s.core t.core
 
 -- behind a batch that brought none the core found no single frame in any zone, and lost an exchange
 pub record LosesFrame (s t : CoreState) : Type 0 where
   pub core : ZoneCore
-  pub batch : BringsNone (zones_of s) refill_frames s.core core
+  pub batch : BringsNone (zones_of s) (next_batch s) s.core core
   pub lost : LoseSome (zones_of s) 0 core t.core
   pub lent : EachLendsSame (zones_of s) s.core t.core
 

@@ -1,5 +1,5 @@
 -- Single frames of a batch come to rest.
-use Rattle.std.proofs.Common.{◌≡◌, ℕ, ℤ, pos, ◌+◌, ◌*◌, ◌<◌, List, [], ◌∷◌, ◌++◌, length, inl, inr, refl, sym, ◌∙◌, ap, ap₂, subst, arith, ◌+ℤ◌, ◌-ℤ◌, Result, Ok, Err, IfErr}
+use Rattle.std.proofs.Common.{◌≡◌, ℕ, ℤ, pos, ◌+◌, ◌*◌, ◌<◌, List, [], ◌∷◌, ◌++◌, length, inl, inr, refl, sym, ◌∙◌, ap, ap₂, subst, arith, ◌+ℤ◌, ◌-ℤ◌, Result, Ok, Err, IfOk, IfErr}
 use Rattle.std.specs.List.{All}
 use Rattle.std.proofs.Math.Nat.{one-le-pow}
 use Rattle.std.proofs.lemmas.Bool.{cases_eq}
@@ -18,8 +18,8 @@ use Rattle.frame_zones.specs.Zones.{zone_count, zone_at, core_at, first_frame_of
 use Rattle.frame_zones.specs.declared.zones.Zones.{Zones}
 use Rattle.frame_zones.specs.declared.zones.ZoneCore.{ZoneCore}
 use Rattle.zone_slots.specs.Calls.{zones_of, SharesOne}
-use Rattle.zone_slots.specs.FrameCalls.{resting_in, LendsAsManyInEach, TakesSingle, RefusesOne, RefusesSingle}
-use Rattle.zone_slots.specs.Resting.{refill_frames, IsSingleIn, AreSingles, one_in, singles_in, lent_besides, LendAsManyBesides, IsSingleOfZone, ComeToRest, BringsNone}
+use Rattle.zone_slots.specs.FrameCalls.{resting_in, next_batch, LendsAsManyInEach, TakesSingle, RefusesOne, RefusesSingle}
+use Rattle.zone_slots.specs.Resting.{IsSingleIn, AreSingles, one_in, singles_in, lent_besides, LendAsManyBesides, IsSingleOfZone, ComeToRest, BringsNone}
 use Rattle.zone_slots.specs.Rights.{IsRightIn}
 use Rattle.zone_slots.specs.Uses.{EachLendsSame, IsRefusedBlock}
 use Rattle.zone_slots.specs.declared.core_state.CoreState.{CoreState}
@@ -132,51 +132,45 @@ lends_none zs n c d brings i a x within =
     left l = omega (arith, ints)
 
 -- a single frame was taken where as many were lent in between as before
-pub then_taken : (f : SingleFrame) (s m t : CoreState) → SharesOne s m → LendsAsManyInEach s m → TakesSingle m t f
-    → TakesSingle s t f
-then_taken f s m t same as_many taken =
+pub then_taken : (r : Result SingleFrame TakeFault) (s m t : CoreState) → SharesOne s m → LendsAsManyInEach s m
+    → IfOk r (TakesSingle m t) → IfOk r (TakesSingle s t)
+then_taken (Ok f) s m t same as_many taken =
     let zones : zones_of m ≡ zones_of s = λ i. (arc_value (same i)).zones in record {
       is_single = subst (λ (zs : Zones). IsRightIn zs f.frame 0 f.seat.table_id f.seat.me) zones taken.is_single;
       lent = λ z x within.
           taken.lent z x (subst (λ (zs : Zones). z < zone_count zs) (sym zones) within)
           ∙ ap₂ (λ l (zs : Zones). l +ℤ pos (one_in zs z f.frame)) (as_many z x within) zones;
     }
-
--- and as many are lent from then on
-pub taken_then : (f : SingleFrame) (s m t : CoreState) → SharesOne s m → TakesSingle s m f → LendsAsManyInEach m t
-    → TakesSingle s t f
-taken_then f s m t same taken as_many =
-    let zones : zones_of m ≡ zones_of s = λ i. (arc_value (same i)).zones in record {
-      is_single = taken.is_single;
-      lent = λ z x within.
-          as_many z x (subst (λ (zs : Zones). z < zone_count zs) (sym zones) within) ∙ taken.lent z x within;
-    }
+then_taken (Err e) s m t same as_many taken = tt
 
 -- a take of one was refused behind a batch that brought none
-pub then_refused : (fault : TakeFault) (s m t : CoreState) → SharesOne s m → resting_in s ≡ []
-    → (resting_in m ≡ [] → BringsNone (zones_of s) refill_frames s.core m.core) → RefusesOne m t fault → RefusesSingle s t fault
-then_refused fault s m t same none brings refused =
+pub then_refused : (r : Result SingleFrame TakeFault) (s m t : CoreState) → SharesOne s m → resting_in s ≡ []
+    → (resting_in m ≡ [] → BringsNone (zones_of s) (next_batch s) s.core m.core) → IfErr r (RefusesOne m t)
+    → IfErr r (RefusesSingle s t)
+then_refused (Ok f) s m t same none brings refused = tt
+then_refused (Err e) s m t same none brings refused =
     let zones : zones_of m ≡ zones_of s = λ i. (arc_value (same i)).zones in
-    let why : IsRefusedBlock (zones_of s) 0 m.core t.core fault =
-    subst (λ (zs : Zones). IsRefusedBlock zs 0 m.core t.core fault) zones refused.why in
+    let why : IsRefusedBlock (zones_of s) 0 m.core t.core e =
+    subst (λ (zs : Zones). IsRefusedBlock zs 0 m.core t.core e) zones refused.why in
     let brought = brings refused.none in record {
       core = m.core;
       batch = brought;
       why = why;
-      lent = λ z a x within. why.1 z a x within ∙ lends_none (zones_of s) refill_frames s.core m.core brought z a x within;
+      lent = λ z a x within. why.1 z a x within ∙ lends_none (zones_of s) (next_batch s) s.core m.core brought z a x within;
       none = none;
       none_then = refused.none_then;
     }
 
 -- the same, seen from where nothing but the list's end was looked at
 pub refused_from : (r : Result SingleFrame TakeFault) (s m t : CoreState) → m.shared ≡ s.shared → m.core ≡ s.core
-    → resting_in s ≡ [] → IfErr r (RefusesSingle m t) → IfErr r (RefusesSingle s t)
-refused_from (Ok f) s m t same core none refused = tt
-refused_from (Err e) s m t same core none refused =
+    → next_batch m ≡ next_batch s → resting_in s ≡ [] → IfErr r (RefusesSingle m t) → IfErr r (RefusesSingle s t)
+refused_from (Ok f) s m t same core next none refused = tt
+refused_from (Err e) s m t same core next none refused =
     let zones : zones_of m ≡ zones_of s = λ i. (arc_value (same i)).zones in record {
       core = refused.core;
-      batch = subst (λ (c : ZoneCore). BringsNone (zones_of s) refill_frames c refused.core) core
-          (subst (λ (zs : Zones). BringsNone zs refill_frames m.core refused.core) zones refused.batch);
+      batch = subst (λ (c : ZoneCore). BringsNone (zones_of s) (next_batch s) c refused.core) core
+          (subst (λ (zs : Zones). BringsNone zs (next_batch s) m.core refused.core) zones
+          (subst (λ n. BringsNone (zones_of m) n m.core refused.core) next refused.batch));
       why = subst (λ (zs : Zones). IsRefusedBlock zs 0 refused.core t.core e) zones refused.why;
       lent = subst (λ (c : ZoneCore). EachLendsSame (zones_of s) c t.core) core
           (subst (λ (zs : Zones). EachLendsSame zs m.core t.core) zones refused.lent);

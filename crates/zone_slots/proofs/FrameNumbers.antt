@@ -17,11 +17,11 @@ use Rattle.frame_zones.specs.declared.block.ZoneBlock.{ZoneBlock}
 use Rattle.frame_zones.specs.declared.zones.Zones.{Zones}
 use Rattle.frame_zones.specs.declared.zones.ZoneCore.{ZoneCore}
 use Rattle.zone_slots.specs.Calls.{zones_of, SharesOne, CountsNone, RemembersLast}
-use Rattle.zone_slots.specs.FrameCalls.{resting_in, lent_out_in, LendsOneLess, IsSingleFor, TakesSingle, TakesLastFrame, RestsLast}
+use Rattle.zone_slots.specs.FrameCalls.{resting_in, next_batch, lent_out_in, LendsOneLess, IsSingleFor, TakesSingle, TakesLastFrame, RestsLast}
 use Rattle.zone_slots.specs.FrameNumbers.{LeavesLast, LaysDown, GoesBack, TakesNumber, RefusesNumber, GivesNumber}
 use Rattle.zone_slots.specs.Looks.{HasBlockOf}
 use Rattle.zone_slots.specs.Memories.{block_laid}
-use Rattle.zone_slots.specs.Resting.{most_resting, refill_frames, flush_frames, one_in, singles_in, lent_besides}
+use Rattle.zone_slots.specs.Resting.{most_resting, flush_frames, one_in, singles_in, lent_besides}
 use Rattle.zone_slots.specs.Rights.{IsRightIn}
 use Rattle.zone_slots.specs.Uses.{GivesInZone, GivesByNumber, IsReceiptOf, one_more}
 use Rattle.zone_slots.specs.declared.core_state.CoreState.{CoreState}
@@ -106,7 +106,7 @@ single_still s m f same single =
 -- a single frame was taken, and laid down
 pub taken_number : (answer : Result ℕ TakeFault) (f : SingleFrame) (s m t : CoreState) → SharesOne m t → TakesSingle s m f
     → (0 < length (resting_in s) → TakesLastFrame (Ok f) s m)
-    → (resting_in s ≡ [] → length (resting_in m) < refill_frames)
+    → (resting_in s ≡ [] → length (resting_in m) < next_batch s)
     → IfOk answer (λ n. n ≡ f.frame) → IfOk answer (λ _. LaysDown f.frame m t) → IfOk answer (λ n. TakesNumber n s t)
 taken_number (Ok n) f s m t behind taken hits few is lays =
     let takes : TakesNumber f.frame s t = record {
@@ -114,7 +114,7 @@ taken_number (Ok n) f s m t behind taken hits few is lays =
       laid = lays.laid;
       lent = λ z x within. as_many m t behind lays.core lays.rest z x ∙ taken.lent z x within;
       rested = λ some. let hit = hits some in (left_last f s m t hit lays.rest, lays.core ∙ hit.core);
-      few = λ none. subst (λ (fs : List SingleFrame). length fs < refill_frames) (sym lays.rest) (few none);
+      few = λ none. subst (λ (fs : List SingleFrame). length fs < next_batch s) (sym lays.rest) (few none);
     } in
     subst (λ k. TakesNumber k s t) (sym is) takes
 taken_number (Err e) f s m t behind taken hits few is lays = tt
@@ -122,7 +122,7 @@ taken_number (Err e) f s m t behind taken hits few is lays = tt
 -- or it found no slot
 pub refused_number : (answer : Result ℕ TakeFault) (f : SingleFrame) (s m t : CoreState) → SharesOne s m
     → TakesSingle s m f → CountsNone s m → (0 < length (resting_in s) → TakesLastFrame (Ok f) s m)
-    → (resting_in s ≡ [] → length (resting_in m) < refill_frames) → IfErr answer (λ fault. fault ≡ Contended)
+    → (resting_in s ≡ [] → length (resting_in m) < next_batch s) → IfErr answer (λ fault. fault ≡ Contended)
     → IfErr answer (λ _. GoesBack f.frame m t) → IfErr answer (RefusesNumber s t)
 refused_number (Ok n) f s m t same taken counted hits few is back = tt
 refused_number (Err e) f s m t same taken counted hits few is back =
@@ -136,7 +136,7 @@ refused_number (Err e) f s m t same taken counted hits few is back =
             ∙ ap₂ (λ l (zs : Zones). l -ℤ pos (one_in zs z f.frame)) (taken.lent z x within) zones
             ∙ +ℤ-neg_ℤ_cancel (lent_out_in s z x) (pos (one_in (zones_of s) z f.frame));
         rested = λ some. (f.frame, left_last f s m t (hits some) back.rest);
-        few = λ none. subst (λ (fs : List SingleFrame). length fs < refill_frames) (sym back.rest) (few none);
+        few = λ none. subst (λ (fs : List SingleFrame). length fs < next_batch s) (sym back.rest) (few none);
       },
     )
 

@@ -9,7 +9,7 @@ use Rattle.frame_zones.specs.declared.image.ZoneImage.{ZoneImage}
 use Rattle.frame_zones.specs.declared.zones.ZoneCore.{ZoneCore}
 use Rattle.zone_slots.specs.Blocks.{IsRightThrough}
 use Rattle.zone_slots.specs.Calls.{zones_of, KeepsCore, RefusesBlock}
-use Rattle.zone_slots.specs.Resting.{refill_frames, one_in, lent_besides, BringsNone}
+use Rattle.zone_slots.specs.Resting.{one_in, lent_besides, BringsNone}
 use Rattle.zone_slots.specs.Uses.{EachLendsSame, IsRefusedBlock}
 use Rattle.zone_slots.specs.declared.core_state.CoreState.{CoreState}
 use Rattle.zone_slots.specs.declared.single_frame.SingleFrame.{SingleFrame}
@@ -17,6 +17,10 @@ use Rattle.zone_slots.specs.declared.single_frame.SingleFrame.{SingleFrame}
 -- what rests with the core, the one that came first in front
 abbrev pub resting_in : CoreState → List SingleFrame
 resting_in s = s.rest.list.items
+
+-- how many come to rest next, where none does
+abbrev pub next_batch : CoreState → ℕ
+next_batch s = s.rest.next
 
 -- the same frames rest with the core
 abbrev pub KeepsRest : CoreState → CoreState → Type 0
@@ -71,7 +75,7 @@ pub record RefusesOne (s t : CoreState) (fault : TakeFault) : Type 0 where
 -- then was refused; each zone lends as many as before
 pub record RefusesSingle (s t : CoreState) (fault : TakeFault) : Type 0 where
   pub core : ZoneCore
-  pub batch : BringsNone (zones_of s) refill_frames s.core core
+  pub batch : BringsNone (zones_of s) (next_batch s) s.core core
   pub why : IsRefusedBlock (zones_of s) 0 core t.core fault
   pub lent : EachLendsSame (zones_of s) s.core t.core
   pub none : resting_in s ≡ []

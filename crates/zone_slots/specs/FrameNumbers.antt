@@ -4,10 +4,10 @@ use Rattle.frame_model.specs.Block.{block}
 use Rattle.frame_words.specs.declared.fault.TakeFault.{TakeFault}
 use Rattle.frame_words.specs.declared.fault.TakeFault.TheVariants.{Contended}
 use Rattle.zone_slots.specs.Calls.{zones_of, last_laid, KeepsCore, CountsNone, CountsOne}
-use Rattle.zone_slots.specs.FrameCalls.{resting_in, KeepsRest, RestsLast, RefusesSingle}
+use Rattle.zone_slots.specs.FrameCalls.{resting_in, next_batch, KeepsRest, RestsLast, RefusesSingle}
 use Rattle.zone_slots.specs.FrameCalls.{LendsOneMore, LendsOneLess, LendsAsManyInEach}
 use Rattle.zone_slots.specs.Looks.{HasBlockOf}
-use Rattle.zone_slots.specs.Resting.{most_resting, refill_frames, flush_frames}
+use Rattle.zone_slots.specs.Resting.{most_resting, flush_frames}
 use Rattle.zone_slots.specs.declared.core_state.CoreState.{CoreState}
 use Rattle.zone_slots.specs.declared.single_frame.SingleFrame.{SingleFrame}
 
@@ -30,20 +30,20 @@ pub record GoesBack (frame : ℕ) (s t : CoreState) : Type 0 where
   pub rest : KeepsRest s t
 
 -- a single frame was taken through the core, and this very one was laid down at its slot: where some rested, the one
--- that came last, and the core is as it was in each zone; where none did, fewer than 16 rest then
+-- that came last, and the core is as it was in each zone; where none did, fewer rest then than were asked for
 pub record TakesNumber (frame : ℕ) (s t : CoreState) : Type 0 where
   pub is_frame : HasBlockOf (zones_of s) 0 frame
   pub laid : last_laid t ≡ Some (block frame 0)
   pub lent : LendsOneMore frame s t
   pub rested : 0 < length (resting_in s) → LeavesLast frame s t × KeepsCore s t
-  pub few : resting_in s ≡ [] → length (resting_in t) < refill_frames
+  pub few : resting_in s ≡ [] → length (resting_in t) < next_batch s
 
 -- the single frame that was taken found no slot, and is counted; as many are lent out in each zone as before
 pub record FindsNoPlace (s t : CoreState) : Type 0 where
   pub counted : CountsOne s t
   pub lent : LendsAsManyInEach s t
   pub rested : 0 < length (resting_in s) → (frame : ℕ) × LeavesLast frame s t
-  pub few : resting_in s ≡ [] → length (resting_in t) < refill_frames
+  pub few : resting_in s ≡ [] → length (resting_in t) < next_batch s
 
 -- why no single frame was taken by number: as none is that leaves with its right, and nothing is counted; or the one
 -- that was taken found no slot

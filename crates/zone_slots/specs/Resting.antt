@@ -1,9 +1,10 @@
 -- Single frames that rest with a core, and what each zone lends besides.
-use Rattle.std.specs.Prelude.{◌≡◌, ℕ, ℤ, pos, ◌-ℤ◌, ◌+◌, ◌<◌, Bool, ◌&&◌, nat_le, nat_lt, if◌then◌else◌, List, [], length, slice_index_or}
+use Rattle.std.specs.Prelude.{◌≡◌, ℕ, ℤ, pos, ◌-ℤ◌, ◌+◌, ◌<◌, Bool, ◌&&◌, nat_le, nat_lt, if◌then◌else◌, List, [], Some, length, ◌-◌, slice_get, slice_index_or}
 use Rattle.std.specs.List.{All, sum_by}
 use Rattle.core_frames.specs.Cores.{lent_by}
 use Rattle.core_frames.specs.declared.shared.allocator.Core.{Core}
 use Rattle.frame_table.specs.declared.block.Block.{Block}
+use Rattle.frame_words.specs.Geometry.{child_frames}
 use Rattle.frame_zones.specs.Fills.{TakesMoreIn}
 use Rattle.frame_zones.specs.Zones.{zone_count, core_at, first_frame_of, AreCoresOf}
 use Rattle.frame_zones.specs.declared.zones.Zones.{Zones}
@@ -22,9 +23,24 @@ most_resting = 128
 abbrev pub refill_frames : ℕ
 refill_frames = 16
 
+-- how many where those that came last lay apart
+abbrev pub refill_apart : ℕ
+refill_apart = 8
+
 -- how many of them go back where there is no place for one more
 abbrev pub flush_frames : ℕ
 flush_frames = 8
+
+-- how many come to rest next, behind a batch that reaches down from one of these frames to the other: as many as may
+-- where they lie less than a huge frame apart, else fewer
+abbrev pub batch_behind : (upper lower : ℕ) → ℕ
+batch_behind m n = if nat_lt (m - n) child_frames then refill_frames else refill_apart
+
+-- so many come next behind the frames that rest; where none does, as many as before
+pub record PlansNext (frames : List SingleFrame) (before after : ℕ) : Type 0 where
+  pub ends : (upper lower : SingleFrame) → slice_get frames 0 ≡ Some upper
+      → slice_get frames (length frames - 1) ≡ Some lower → after ≡ batch_behind upper.frame lower.frame
+  pub none : frames ≡ [] → after ≡ before
 
 -- it is the right to the frame of its number
 abbrev pub IsSingleIn : Zones → SingleFrame → Type 0

@@ -39,7 +39,7 @@ pub struct CoreState {
     // Single frames that were given to the core, and rest with it.
     pub(crate) rest: FrameList,
     // No two cores share a cache line.
-    pub(crate) apart: [u64; 14],
+    pub(crate) apart: [u64; 13],
     pub ghost is_core: { AreCoresOf (arc_value shared).zones core },
     pub ghost rests: { AreSingles (arc_value shared).zones rest.list.items },
     pub ghost known: { IsFirstOf (arc_value shared).zones first },

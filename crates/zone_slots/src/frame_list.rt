@@ -1,17 +1,21 @@
 //! The single frames that rest with a core, in a list of its own.
 
 ghost use Rattle.std.specs.Prelude.{◌≡◌, ◌+◌, ◌*◌, ◌<◌, ◌≤◌, ◌∷◌, ◌++◌, [], length, drop, take, vec_capacity, IfOk, IfErr, IfSome, IfNone};
+ghost use Rattle.zone_slots.specs.Resting.{PlansNext};
 
 use crate::single_frame::SingleFrame;
 use frame_table::Block;
-use frame_words::Fault;
+use frame_words::{CHILD_FRAMES, Fault};
 use std::alloc::Global;
 
 /// How many frames rest with a core at most.
 pub(crate) const MOST_RESTING: usize = 128;
 
 /// How many come to rest at once at most.
-pub(crate) const REFILL: usize = 16;
+pub(crate) const REFILL: u32 = 16;
+
+/// How many where those that came last lay apart: there each costs an exchange of its own.
+pub(crate) const REFILL_APART: u32 = 8;
 
 /// How many of them go back where there is no place for one more.
 pub(crate) const FLUSH: usize = 8;
@@ -30,10 +34,14 @@ pub struct FrameList {
     pub(crate) list: Vec<SingleFrame>,
     // Where a batch lies before it rests, empty in between.
     pub(crate) batch: Vec<Block>,
+    // How many come to rest next.
+    pub(crate) next: u32,
     pub(crate) ghost few: { length list.items ≤ 128 },
     pub(crate) ghost room: { 128 ≤ vec_capacity list },
     pub(crate) ghost no_batch: { batch.items ≡ [] },
     pub(crate) ghost batch_room: { 16 ≤ vec_capacity batch },
+    pub(crate) ghost some_next: { 0 < next },
+    pub(crate) ghost few_next: { next ≤ 16 },
 }
 
 impl FrameList {
@@ -48,7 +56,11 @@ impl FrameList {
         let Ok(batch) = Vec::with_capacity(alloc, BATCH_ROOM) else {
             return Err(Fault::NoMemory);
         };
-        Ok(FrameList { list, batch })
+        Ok(FrameList {
+            list,
+            batch,
+            next: REFILL,
+        })
     }
 
     #[inline(always)]
@@ -63,6 +75,7 @@ impl FrameList {
     pub(crate) fn pop(&mut self) -> Option<SingleFrame>
         ensures some { IfSome result (λ f. self.old.list.items ≡ self.new.list.items ++ f ∷ []) }
         ensures none { IfNone result ((self.old.list.items ≡ []) × (self.new.list.items ≡ [])) }
+        ensures next { self.new.next ≡ self.old.next }
     {
         self.list.pop()
     }
@@ -74,6 +87,25 @@ impl FrameList {
         ensures { self.new.list.items ≡ self.old.list.items ++ frame ∷ [] }
     {
         self.list.push_reserved(frame);
+    }
+
+    /// Plans how many come to rest next: as many as may, where those that rest lie less than a huge frame apart, since
+    /// a batch of these costs few exchanges. Where none rests the plan stays.
+    pub(crate) fn plan(&mut self)
+        ensures list { self.new.list.items ≡ self.old.list.items }
+        ensures next { PlansNext self.new.list.items self.old.next self.new.next }
+    {
+        let Some(upper) = self.list.as_slice().first() else {
+            return;
+        };
+        let Some(lower) = self.list.as_slice().last() else {
+            return;
+        };
+        self.next = if upper.frame.saturating_sub(lower.frame) < CHILD_FRAMES {
+            REFILL
+        } else {
+            REFILL_APART
+        };
     }
 
     /// Of a full list the 8 that came first stand last.

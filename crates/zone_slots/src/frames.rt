@@ -2,25 +2,26 @@
 
 ghost use Rattle.std.specs.Prelude.{◌≡◌, ◌+◌, ◌-◌, ◌<◌, ◌≤◌, ◌∷◌, ◌++◌, [], drop, length, IfOk, IfErr};
 ghost use Rattle.zone_slots.specs.Calls.{zones_of, SharesOne, CountsNone, RemembersLast};
-ghost use Rattle.zone_slots.specs.Resting.{most_resting, refill_frames, flush_frames, BringsNone};
-ghost use Rattle.zone_slots.specs.FrameCalls.{resting_in, IsSingleFor, LendsOneLess, LendsAsManyInEach};
+ghost use Rattle.zone_slots.specs.Resting.{most_resting, refill_frames, flush_frames, BringsNone, PlansNext};
+ghost use Rattle.zone_slots.specs.FrameCalls.{resting_in, next_batch, IsSingleFor, LendsOneLess, LendsAsManyInEach};
 ghost use Rattle.zone_slots.specs.FrameCalls.{TakesSingle, TakesLastFrame, RestsLast, RefusesOne, RefusesSingle};
 
 use crate::core_state::CoreState;
-use crate::frame_list::{FLUSH, MOST_RESTING, REFILL};
+use crate::frame_list::{FLUSH, MOST_RESTING};
 use crate::single_frame::SingleFrame;
 use frame_words::TakeFault;
 
 impl CoreState {
     /// Takes a single frame: the one that came to rest last, with no step of the allocator. Where none rests, up
-    /// to 16 of the core's own tree come to rest first; where that has none, one as `take_block` takes it.
+    /// to 16 of the core's own tree come to rest first, or to 8 where the last ones lay apart; where that has none,
+    /// one as `take_block` takes it.
     #[inline(always)]
     pub fn take_frame(&mut self) -> Result<SingleFrame, TakeFault>
         ensures shared { SharesOne self.old self.new }
         ensures taken { IfOk result (TakesSingle self.old self.new) }
         ensures refused { IfErr result (RefusesSingle self.old self.new) }
         ensures hits { 0 < length (resting_in self.old) → TakesLastFrame result self.old self.new }
-        ensures few { resting_in self.old ≡ [] → length (resting_in self.new) < refill_frames }
+        ensures few { resting_in self.old ≡ [] → length (resting_in self.new) < next_batch self.old }
         ensures counted { CountsNone self.old self.new }
         ensures last { RemembersLast self.old self.new }
     {
@@ -30,24 +31,20 @@ impl CoreState {
         Ok(frame)
     }
 
-    // Where the own tree had none, others of the tree where one was found come to rest behind it, so that in a
-    // fresh tree each later batch lies in one bit word.
+    // Where the own tree had none, one is taken where one is found: a search does not pay for a batch, too.
     #[inline(never)]
     fn take_anew(&mut self) -> Result<SingleFrame, TakeFault>
         requires { resting_in self.old ≡ [] }
         ensures shared { SharesOne self.old self.new }
         ensures taken { IfOk result (TakesSingle self.old self.new) }
         ensures refused { IfErr result (RefusesSingle self.old self.new) }
-        ensures few { length (resting_in self.new) < refill_frames }
+        ensures few { length (resting_in self.new) < next_batch self.old }
         ensures counted { CountsNone self.old self.new }
         ensures last { RemembersLast self.old self.new }
     {
-        self.refill(REFILL as u32);
-        let frame = self.take_one()?;
-        if self.resting() == 0 {
-            self.refill(REFILL as u32 - 1);
-        }
-        Ok(frame)
+        let most = self.rest.next;
+        self.refill(most);
+        self.take_one()
     }
 
     // Up to so many single frames of the own tree come to rest.
@@ -59,6 +56,7 @@ impl CoreState {
         ensures none { resting_in self.new ≡ []
             → BringsNone (zones_of self.old) most self.old.core self.new.core }
         ensures few { length (resting_in self.new) ≤ most }
+        ensures next { PlansNext (resting_in self.new) (next_batch self.old) (next_batch self.new) }
         ensures counted { CountsNone self.old self.new }
         ensures last { RemembersLast self.old self.new }
     {

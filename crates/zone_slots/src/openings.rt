@@ -228,6 +228,6 @@ pub(crate) fn state_over(
         seen: None,
         first,
         rest,
-        apart: [0; 14],
+        apart: [0; 13],
     })
 }

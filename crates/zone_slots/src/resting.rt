@@ -5,7 +5,7 @@ ghost use Rattle.std.specs.List.{All};
 ghost use Rattle.frame_zones.specs.Zones.{zone_count, first_frame_in, AreCoresOf, IsOutOfItsZone};
 ghost use Rattle.zone_slots.specs.Memories.{IsFirstOf};
 ghost use Rattle.zone_slots.specs.Resting.{IsSingleIn, AreSingles, HasTakenSingle, LendAsManyBesides};
-ghost use Rattle.zone_slots.specs.Resting.{IsSingleOfZone, ComeToRest, BringsNone};
+ghost use Rattle.zone_slots.specs.Resting.{IsSingleOfZone, ComeToRest, BringsNone, PlansNext};
 ghost use Rattle.zone_slots.specs.Uses.{GivesByNumber, IsRefusedBlock};
 
 use crate::first_zone::FirstZone;
@@ -65,9 +65,11 @@ impl Memory {
         ensures lent { LendAsManyBesides self.now.zones core.old rest.old.list.items core.new rest.new.list.items }
         ensures none { rest.new.list.items ≡ [] → BringsNone self.now.zones most core.old core.new }
         ensures few { length rest.new.list.items ≤ most }
+        ensures next { PlansNext rest.new.list.items rest.old.next rest.new.next }
     {
         let (zone, _count) = self.zones.take_more(core, most, &mut rest.batch);
         self.lay_all(known, zone, &mut rest.batch, &mut rest.list);
+        rest.plan();
     }
 
     // The rights to the frames of the zone come to rest, the last one first.

@@ -16,7 +16,7 @@ invariant_of-self c = record {
 
 pub returns-in_default-clause-refused : goal.returns-in_default-clause-refused
 returns-in_default-clause-refused c =
-    refused_from c.take_anew.result c.args.self.now _ c.take_anew.new.self refl refl c.in_default.ensures.none.0
+    refused_from c.take_anew.result c.args.self.now _ c.take_anew.new.self refl refl c.pop.ensures.next c.in_default.ensures.none.0
     c.take_anew.ensures.refused
 
 pub returns-clause-taken : goal.returns-clause-taken
