@@ -21,6 +21,11 @@ const STARTS: [u64; 7] = [
     1,
 ];
 
+/// The word that the entry of a child stands in: a tree has a cache line for its two.
+fn entry_word(child: usize) -> usize {
+    8 + 8 * (child / 8) + child % 8 / 4
+}
+
 struct Block {
     frame: usize,
     order: u32,
@@ -37,10 +42,12 @@ struct Table {
 impl Table {
     /// All frames are free. Word 0 is the anchor, which handing a block out and in loads.
     fn new(cores: usize) -> Table {
-        let first_tree = 8 + CHILDREN.div_ceil(4);
+        let first_tree = 8 + 8 * TREES;
         let first_bits = first_tree + TREES + 7 + 8 * cores;
         let mut words = vec![0; first_bits + 8 * CHILDREN];
-        words[8..first_tree].fill(0x0200_0200_0200_0200);
+        for child in 0..CHILDREN {
+            words[entry_word(child)] |= 512 << (16 * (child % 4));
+        }
         words[first_tree..first_tree + TREES].fill(4096);
         Table {
             words: words.into_iter().map(AtomicU64::new).collect(),
@@ -86,7 +93,7 @@ impl Table {
     }
 
     fn charge(&self, child: usize, n: u64) -> bool {
-        let (word, shift) = (8 + child / 4, 16 * (child % 4));
+        let (word, shift) = (entry_word(child), 16 * (child % 4));
         for _ in 0..TRIES {
             let seen = self.load(word);
             let entry = seen >> shift & 0xffff;
@@ -101,7 +108,7 @@ impl Table {
     }
 
     fn refund(&self, child: usize, n: u64) {
-        self.words[8 + child / 4].fetch_add(n << (16 * (child % 4)), SeqCst);
+        self.words[entry_word(child)].fetch_add(n << (16 * (child % 4)), SeqCst);
     }
 
     fn take_small(&self, child: usize, order: u32) -> Option<usize> {
@@ -166,7 +173,7 @@ impl Table {
     }
 
     fn take_huge(&self, child: usize) -> Option<usize> {
-        let (word, shift) = (8 + child / 4, 16 * (child % 4));
+        let (word, shift) = (entry_word(child), 16 * (child % 4));
         for _ in 0..TRIES {
             let seen = self.load(word);
             if seen >> shift & 0xffff != 512 {
@@ -195,7 +202,7 @@ impl Table {
             }
             _ => {
                 let shift = 16 * (child % 4);
-                self.words[8 + child / 4].fetch_sub(32256 << shift, SeqCst);
+                self.words[entry_word(child)].fetch_sub(32256 << shift, SeqCst);
                 return;
             }
         }
@@ -218,7 +225,7 @@ impl Table {
     }
 
     fn is_all_free(&self) -> bool {
-        (8..self.first_tree).all(|word| self.load(word) == 0x0200_0200_0200_0200)
+        (0..CHILDREN).all(|child| self.load(entry_word(child)) == 0x0200_0200_0200_0200)
             && (0..TREES).all(|tree| self.load(self.first_tree + tree) == 4096)
             && (self.first_bits..self.words.len()).all(|word| self.load(word) == 0)
     }

@@ -9,7 +9,7 @@ static layout layout_of(uint32_t frames, uint32_t cores)
 
     l.children = (frames + CHILD - 1) / CHILD;
     l.trees = (l.children + TREE_CHILDREN - 1) / TREE_CHILDREN;
-    l.tree = 8 + (l.children + 3) / 4;
+    l.tree = 8 + 8 * (size_t)l.trees;
     l.local = l.tree + l.trees + 7;
     l.bits = l.local + 8 * (size_t)cores;
     l.count = l.bits + 8 * (size_t)l.children;
@@ -97,7 +97,7 @@ uint32_t open_again(const memory *m, llfree_core *handles, const uint64_t *numbe
 uint32_t entry_at(const layout *l, const uint64_t *words, uint32_t child)
 {
     (void)l;
-    return words[8 + child / 4] >> (16 * (child % 4)) & 0xffff;
+    return words[8 + 8 * (child / TREE_CHILDREN) + child % TREE_CHILDREN / 4] >> (16 * (child % 4)) & 0xffff;
 }
 
 uint64_t tree_at(const layout *l, const uint64_t *words, uint32_t tree) { return words[l->tree + tree]; }

@@ -7,7 +7,7 @@ use std::sync::atomic::{AtomicU64, Ordering::SeqCst};
 /// How often an exchange on one word is tried.
 pub const TRIES: usize = 4;
 
-/// The words that a cache line has: the anchor and each local word have one alone.
+/// The words that a cache line has: the anchor, a tree's entries and each local word have one alone.
 const LINE: usize = 8;
 
 const LANES: usize = 4;
@@ -26,7 +26,7 @@ impl Table {
     /// All frames are free. Word 0 is the anchor, which handing a block out and in loads.
     pub fn new(children: usize, cores: usize) -> Table {
         let trees = children.div_ceil(TREE_CHILDREN);
-        let first_tree = LINE + children.div_ceil(LANES);
+        let first_tree = LINE + LINE * trees;
         let first_local = first_tree + trees + LINE - 1;
         let first_bits = first_local + LINE * cores;
         let words = vec![0; first_bits + 8 * children];
@@ -83,7 +83,8 @@ impl Table {
     }
 
     fn entry_place(&self, child: usize) -> (usize, usize) {
-        (LINE + child / LANES, 16 * (child % LANES))
+        let line = LINE + LINE * (child / TREE_CHILDREN);
+        (line + child % TREE_CHILDREN / LANES, 16 * (child % LANES))
     }
 
     /// The free frames of the child and its huge flag, as one number.

@@ -46,7 +46,7 @@ end_then = reached one_child at_first both_charge
 
 -- what seat 0 does in the rest of its take
 abbrev rest_of_take : List Event
-rest_of_take = loads 0 26 ∷ releases_word 0 0 ∷ claims_word 0 2 ∷ claims_word 0 3
+rest_of_take = loads 0 33 ∷ releases_word 0 0 ∷ claims_word 0 2 ∷ claims_word 0 3
     ∷ cuts 0 (hand_out (block 128 7) (without (block 128 7))) ∷ []
 
 charges : LeadsTo one_child at_first both_charge end_then

@@ -11,7 +11,7 @@ use Rattle.frame_words.proofs.LaneLemmas.{lane_in-zero}
 use Rattle.frame_words.proofs.WordLemmas.{free_in-zero, flag_in-zero, rest_in-zero}
 use Rattle.frame_model.specs.declared.key.Key.{Key}
 use Rattle.frame_model.specs.Key.{tree_count, frame_count}
-use Rattle.frame_model.specs.Words.{entry_word_count, entry_place, tree_place, local_place, bits_place, word_count, entry_of, free_of}
+use Rattle.frame_model.specs.Words.{entry_place, tree_place, local_place, bits_place, word_count, entry_of, free_of}
 use Rattle.frame_model.specs.Words.{huge_of, tree_word_of, tree_free_of, reserved_of, local_word_of, rest_of, bit_word_of, bit_of, IsRest}
 use Rattle.frame_model.specs.Words.{AreInRange}
 use Rattle.frame_core.specs.Image.{IsImage, IsUncounted, bits_past, blank_words}
@@ -107,7 +107,7 @@ module _ (key : Key) where
 
   -- What the readers say.
 
-  entry_zero : (c : ℕ) → c < 4 * entry_word_count key → entry_of (blank_words key) c ≡ 0
+  entry_zero : (c : ℕ) → c < 8 * tree_count key → entry_of (blank_words key) c ≡ 0
   unfolding entry_of
   entry_zero c h = ap (λ n. lane_in n c) (low (entry_place c) (entry-lt-bits key c 0 h)) ∙ lane_in-zero c
 
@@ -135,6 +135,10 @@ module _ (key : Key) where
   unfolding rest_of
   rest_zero k h = ap rest_in (local_zero k h) ∙ rest_in-zero
 
+  behind-lt : (u i : ℕ) → u < tree_count key → i < 8 → entry_place (8 * u) + i < bits_place key 0
+  unfolding entry_place bits_place
+  behind-lt u i h few = omega arith
+
   between-lt : (i : ℕ) → i < 7 → tree_place key (tree_count key) + i < bits_place key 0
   unfolding tree_place bits_place
   between-lt i h = omega arith
@@ -155,6 +159,7 @@ module _ (key : Key) where
     free = λ c q. omega (arith, free_zero c q);
     huge = λ c q. omega (arith, huge_zero c q);
     absent = λ c l q. entry_zero c q;
+    behind = λ u i q l m. low (entry_place (8 * u) + i) (behind-lt u i q m);
     tree_free = λ t q. omega (arith, tree_free_zero t q);
     reserved = λ t q. omega (arith, reserved_zero t q);
     locals = λ k q. local_zero k q ∙ sym (ap local_word (rest_zero k q) ∙ local_word-none);

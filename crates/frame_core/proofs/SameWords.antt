@@ -7,7 +7,7 @@ use Rattle.frame_words.proofs.WordLemmas.{entry_word-parts}
 use Rattle.frame_words.proofs.LaneLemmas.{lane_in-place, same_lanes}
 use Rattle.frame_model.specs.declared.key.Key.{Key}
 use Rattle.frame_model.specs.Key.{tree_count}
-use Rattle.frame_model.specs.Words.{entry_place, tree_place, local_place, bits_place, word_count, entry_word_count, entry_of, free_of}
+use Rattle.frame_model.specs.Words.{first_tree, first_local, first_bits, entry_place, tree_place, local_place, bits_place, word_count, entry_of, free_of}
 use Rattle.frame_model.specs.Words.{huge_of, tree_word_of, tree_free_of, reserved_of, local_word_of, rest_of, bit_word_of, AreInRange}
 
 -- two lists of words say the same of the children, trees and cores below these numbers
@@ -29,7 +29,7 @@ module _ (key : Key) (a b : List ℕ) (ra : AreInRange key a) (rb : AreInRange k
   unfolding tree_free_of reserved_of
   tree_parts ws t = entry_word-parts (tree_word_of key ws t)
 
-  same_entry : (c : ℕ) → c < 4 * entry_word_count key → entry_of b c ≡ entry_of a c
+  same_entry : (c : ℕ) → c < 8 * tree_count key → entry_of b c ≡ entry_of a c
   same_entry c h =
       ⊎_elim
       (λ l. sym (entry_parts b c) ∙ ap (λ n. entry_word n (huge_of b c)) (same.free c l)
@@ -38,18 +38,16 @@ module _ (key : Key) (a b : List ℕ) (ra : AreInRange key a) (rb : AreInRange k
       (cases_lt c key.children)
 
   -- the word of four entries
-  same_entries : (i : ℕ) → i < entry_word_count key → get_or b (8 + i) 0 ≡ get_or a (8 + i) 0
+  same_entries : (w : ℕ) → w < 2 * tree_count key → get_or b (entry_place (4 * w)) 0 ≡ get_or a (entry_place (4 * w)) 0
   unfolding entry_of entry_place
-  same_entries i h =
-      let place : (j : ℕ) → j < 4 → 8 + (4 * i + j) / 4 ≡ 8 + i = λ j few. omega arith in
-      let first : 8 + 4 * i / 4 ≡ 8 + i = omega arith in
-      let fits : (ws : List ℕ) → AreInRange key ws → get_or ws (8 + i) 0 < 2 ^ 64 =
-      λ ws r. subst (λ p. get_or ws p 0 < 2 ^ 64) first (r.entry_words (4 * i) (omega arith)) in
-      let lane : (ws : List ℕ) (j : ℕ) → j < 4 → entry_of ws (4 * i + j) ≡ lane_in (get_or ws (8 + i) 0) j =
-      λ ws j few. ap (λ p. lane_in (get_or ws p 0) (4 * i + j)) (place j few)
-      ∙ lane_in-place (get_or ws (8 + i) 0) j (4 * i + j) (omega arith) in
-      same_lanes (get_or b (8 + i) 0) (get_or a (8 + i) 0) (fits b rb) (fits a ra)
-      (λ j few. sym (lane b j few) ∙ same_entry (4 * i + j) (omega arith) ∙ lane a j few)
+  same_entries w h =
+      let p : ℕ = entry_place (4 * w) in
+      let place : (j : ℕ) → j < 4 → entry_place (4 * w + j) ≡ p = λ j few. omega arith in
+      let lane : (ws : List ℕ) (j : ℕ) → j < 4 → entry_of ws (4 * w + j) ≡ lane_in (get_or ws p 0) j =
+      λ ws j few. ap (λ q. lane_in (get_or ws q 0) (4 * w + j)) (place j few)
+      ∙ lane_in-place (get_or ws p 0) j (4 * w + j) (omega arith) in
+      same_lanes (get_or b p 0) (get_or a p 0) (rb.entry_words (4 * w) (omega arith)) (ra.entry_words (4 * w) (omega arith))
+      (λ j few. sym (lane b j few) ∙ same_entry (4 * w + j) (omega arith) ∙ lane a j few)
 
   same_tree : (t : ℕ) → t < tree_count key → tree_word_of key b t ≡ tree_word_of key a t
   same_tree t h =
@@ -79,35 +77,45 @@ module _ (key : Key) (a b : List ℕ) (ra : AreInRange key a) (rb : AreInRange k
   at_beside i k d h some few e = rw e (rb.beside k d h some few ∙ sym (ra.beside k d h some few))
 
   -- behind the entries
-  at_trees : (i : ℕ) → 8 + entry_word_count key ≤ i → i < 8 + entry_word_count key + tree_count key
+  at_trees : (i : ℕ) → first_tree key ≤ i → i < first_tree key + tree_count key
       → get_or b i 0 ≡ get_or a i 0
   unfolding tree_place
-  at_trees i l h = at_tree i (i - (8 + entry_word_count key)) (omega arith) (omega arith)
+  at_trees i l h = at_tree i (i - first_tree key) (omega arith) (omega arith)
 
-  at_gap : (i : ℕ) → 8 + entry_word_count key + tree_count key ≤ i
-      → i < 15 + entry_word_count key + tree_count key → get_or b i 0 ≡ get_or a i 0
+  at_gap : (i : ℕ) → first_tree key + tree_count key ≤ i
+      → i < first_local key → get_or b i 0 ≡ get_or a i 0
   unfolding tree_place
-  at_gap i l h = at_between i (i - (8 + entry_word_count key + tree_count key)) (omega arith) (omega arith)
+  at_gap i l h = at_between i (i - (first_tree key + tree_count key)) (omega arith) (omega arith)
 
-  at_locals : (i : ℕ) → 15 + entry_word_count key + tree_count key ≤ i
-      → i < 15 + entry_word_count key + tree_count key + 8 * key.cores → get_or b i 0 ≡ get_or a i 0
+  at_locals : (i : ℕ) → first_local key ≤ i
+      → i < first_bits key → get_or b i 0 ≡ get_or a i 0
   unfolding local_place
   at_locals i l h =
-      let d : ℕ = i - (15 + entry_word_count key + tree_count key) in
+      let d : ℕ = i - first_local key in
       ⊎_elim
       (λ (e : d % 8 ≡ 0). at_local i (d / 8) (omega arith) (omega arith))
       (λ ne. at_beside i (d / 8) (d % 8) (omega arith) (omega arith) (omega arith) (omega arith))
       (cases_eq (d % 8) 0)
 
-  at_last : (i : ℕ) → 15 + entry_word_count key + tree_count key + 8 * key.cores ≤ i → i < word_count key
+  at_last : (i : ℕ) → first_bits key ≤ i → i < word_count key
       → get_or b i 0 ≡ get_or a i 0
   unfolding bits_place word_count
-  at_last i l h = at_bits i (i - (15 + entry_word_count key + tree_count key + 8 * key.cores)) (omega arith) (omega arith)
+  at_last i l h = at_bits i (i - first_bits key) (omega arith) (omega arith)
 
-  at_entries : (i : ℕ) → 8 ≤ i → i < 8 + entry_word_count key → get_or b i 0 ≡ get_or a i 0
+  at_entry : (i w : ℕ) → w < 2 * tree_count key → i ≡ entry_place (4 * w) → get_or b i 0 ≡ get_or a i 0
+  at_entry i w h e = rw e (same_entries w h)
+
+  at_behind : (i u d : ℕ) → u < tree_count key → 1 < d → d < 8 → i ≡ entry_place (8 * u) + d → get_or b i 0 ≡ get_or a i 0
+  at_behind i u d h some few e = rw e (rb.behind u d h some few ∙ sym (ra.behind u d h some few))
+
+  at_entries : (i : ℕ) → 8 ≤ i → i < first_tree key → get_or b i 0 ≡ get_or a i 0
+  unfolding entry_place
   at_entries i l h =
-      let e : 8 + (i - 8) ≡ i = omega arith in
-      subst (λ p. get_or b p 0 ≡ get_or a p 0) e (same_entries (i - 8) (omega arith))
+      let d : ℕ = i - 8 in
+      ⊎_elim
+      (λ (few : d % 8 < 2). at_entry i (2 * (d / 8) + d % 8) (omega arith) (omega arith))
+      (λ more. at_behind i (d / 8) (d % 8) (omega arith) (omega arith) (omega arith) (omega arith))
+      (cases_lt (d % 8) 2)
 
   at_any : (i : ℕ) → i < word_count key → get_or b i 0 ≡ get_or a i 0
   at_any i h =
@@ -116,10 +124,10 @@ module _ (key : Key) (a b : List ℕ) (ra : AreInRange key a) (rb : AreInRange k
       ⊎_elim (λ l. at_trees i g2 l) (λ g3.
       ⊎_elim (λ l. at_gap i g3 l) (λ g4.
       ⊎_elim (λ l. at_locals i g4 l) (λ g5. at_last i g5 h)
-      (cases_lt i (15 + entry_word_count key + tree_count key + 8 * key.cores)))
-      (cases_lt i (15 + entry_word_count key + tree_count key)))
-      (cases_lt i (8 + entry_word_count key + tree_count key)))
-      (cases_lt i (8 + entry_word_count key)))
+      (cases_lt i (first_bits key)))
+      (cases_lt i (first_local key)))
+      (cases_lt i (first_tree key + tree_count key)))
+      (cases_lt i (first_tree key)))
       (cases_lt i 8)
 
   -- words that say the same of all children, trees and cores are the same

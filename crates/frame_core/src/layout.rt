@@ -3,22 +3,25 @@
 ghost use Rattle.std.specs.Prelude.{◌≡◌, ◌+◌, ◌*◌, ◌<◌};
 ghost use Rattle.frame_model.specs.declared.key.Key.{Key};
 ghost use Rattle.frame_model.specs.Key.{key_of, tree_count};
-ghost use Rattle.frame_model.specs.Words.{entry_word_count, entry_place, tree_place, local_place};
-ghost use Rattle.frame_model.specs.Words.{bits_place, word_count};
+ghost use Rattle.frame_model.specs.Words.{first_tree, first_local, entry_place, tree_place};
+ghost use Rattle.frame_model.specs.Words.{local_place, bits_place, word_count};
 
-use frame_words::{CHILD_WORDS, Geometry, LANES};
+use frame_words::{CHILD_WORDS, Geometry, LANES, TREE_CHILDREN};
 
-/// Words before the first entry, and words from one local word to the next: a cache line each.
+/// Words before the first entry, and from the entries of one tree, and from one local word, to the
+/// next: a cache line each.
 pub const LINE_WORDS: usize = 8;
 
-/// The place of the word that the entry of this child stands in, beside three others.
+/// The place of the word that the entry of this child stands in, beside three others. The entries of
+/// a tree stand in two words, a line behind those of the tree before it, so that cores with trees of
+/// their own share no line of entries. The six words between are not used.
 #[inline]
 #[tactic(auto, unfolding(frame_model::specs::Words::entry_place, frame_model::specs::Words::word_count))]
 pub fn entry_place(child: u32) -> usize
     ensures value { result ≡ entry_place child }
     ensures inside { (key : Key) → child < key.children → result < word_count key }
 {
-    LINE_WORDS + child as usize / LANES as usize
+    LINE_WORDS * (1 + child / TREE_CHILDREN) as usize + (child % TREE_CHILDREN / LANES) as usize
 }
 
 /// The place of the word of this tree.
@@ -28,7 +31,7 @@ pub fn tree_place(geometry: Geometry, tree: u32) -> usize
     ensures value { result ≡ tree_place (key_of geometry) tree }
     ensures inside { tree < tree_count (key_of geometry) → result < word_count (key_of geometry) }
 {
-    LINE_WORDS + entry_words(geometry) + tree as usize
+    first_tree(geometry) + tree as usize
 }
 
 /// The place of the local word of this core. The seven words behind it are not used.
@@ -63,16 +66,16 @@ pub fn word_count(geometry: Geometry) -> usize
 }
 
 #[inline]
-fn entry_words(geometry: Geometry) -> usize
-    ensures { result ≡ entry_word_count (key_of geometry) }
+fn first_tree(geometry: Geometry) -> usize
+    ensures { result ≡ first_tree (key_of geometry) }
 {
-    (geometry.children as usize).div_ceil(LANES as usize)
+    LINE_WORDS * (1 + geometry.trees()) as usize
 }
 
 // Seven words behind the trees are not used, so that the first local word has its line alone.
 #[inline]
 fn first_local(geometry: Geometry) -> usize
-    ensures { result ≡ 15 + entry_word_count (key_of geometry) + tree_count (key_of geometry) }
+    ensures { result ≡ first_local (key_of geometry) }
 {
-    2 * LINE_WORDS - 1 + entry_words(geometry) + geometry.trees() as usize
+    first_tree(geometry) + geometry.trees() as usize + LINE_WORDS - 1
 }

@@ -53,6 +53,7 @@ in_range_cut ws r = record {
   free = r.free;
   huge = r.huge;
   absent = r.absent;
+  behind = r.behind;
   tree_free = r.tree_free;
   reserved = r.reserved;
   locals = r.locals;

@@ -20,6 +20,7 @@ in_range_held_back key ranges sealed ws r = record {
   free = r.free;
   huge = r.huge;
   absent = r.absent;
+  behind = r.behind;
   tree_free = r.tree_free;
   reserved = r.reserved;
   locals = r.locals;

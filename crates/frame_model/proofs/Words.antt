@@ -13,7 +13,7 @@ use Rattle.std.proofs.lemmas.List.Sums.{sum_by-set}
 use Rattle.frame_words.specs.Words.{free_in, flag_in, lane_in, lane_put, rest_in, local_word}
 use Rattle.frame_model.specs.declared.key.Key.{Key}
 use Rattle.frame_model.specs.Key.{tree_count, children_in, tree_of_child}
-use Rattle.frame_model.specs.Words.{entry_word_count, entry_place, tree_place, local_place, bits_place, word_count, entry_of, free_of}
+use Rattle.frame_model.specs.Words.{first_tree, first_local, first_bits, entry_place, tree_place, local_place, bits_place, word_count, entry_of, free_of}
 use Rattle.frame_model.specs.Words.{huge_of, tree_word_of, tree_free_of, reserved_of, local_word_of, rest_of, bit_word_of, bit_of, set_of}
 use Rattle.frame_model.specs.Words.{held_of, held_in_tree, count_on, is_on, resting_on, cores_on, with_entry, with_tree, with_local}
 use Rattle.frame_model.specs.Words.{with_bits, IsRest, AreInRange}
@@ -23,15 +23,15 @@ use Rattle.frame_words.proofs.LaneLemmas.{lane_in-lane_put, lane_in-lane_put_oth
 -- The places of the kinds of words lie apart.
 
 module _ (key : Key) where
-  pub entry-lt-tree : (c t : ℕ) → c < 4 * entry_word_count key → entry_place c < tree_place key t
+  pub entry-lt-tree : (c t : ℕ) → c < 8 * tree_count key → entry_place c < tree_place key t
   unfolding entry_place tree_place
   entry-lt-tree c t h = omega arith
 
-  pub entry-lt-local : (c k : ℕ) → c < 4 * entry_word_count key → entry_place c < local_place key k
+  pub entry-lt-local : (c k : ℕ) → c < 8 * tree_count key → entry_place c < local_place key k
   unfolding entry_place local_place
   entry-lt-local c k h = omega arith
 
-  pub entry-lt-bits : (c w : ℕ) → c < 4 * entry_word_count key → entry_place c < bits_place key w
+  pub entry-lt-bits : (c w : ℕ) → c < 8 * tree_count key → entry_place c < bits_place key w
   unfolding entry_place bits_place
   entry-lt-bits c w h = omega arith
 
@@ -51,7 +51,7 @@ module _ (key : Key) where
   unfolding bits_place word_count
   bits-lt-count w h = omega arith
 
-  pub child-has-lane : (c : ℕ) → c < key.children → c < 4 * entry_word_count key
+  pub child-has-lane : (c : ℕ) → c < key.children → c < 8 * tree_count key
   child-has-lane c h = omega arith
 
 -- One number of a list was written.
@@ -152,7 +152,7 @@ pub record EntryWritten (key : Key) (ws : List ℕ) (c e : ℕ) (new : List ℕ)
 
 module _ (key : Key) (ws : List ℕ) (c e : ℕ) (r : AreInRange key ws) (h : c < key.children)
     (small : e < 65536) where
-  e_lane : c < 4 * entry_word_count key
+  e_lane : c < 8 * tree_count key
   e_lane = child-has-lane key c h
 
   e_room : entry_place c < length ws
@@ -178,14 +178,14 @@ module _ (key : Key) (ws : List ℕ) (c e : ℕ) (r : AreInRange key ws) (h : c 
   unfolding entry_of entry_place
   entry_beside d ne s =
       let lanes : d % 4 ≢ c % 4 = (λ q. ne (omega arith)) in
-      let p : 8 + d / 4 ≡ 8 + c / 4 = omega arith in
+      let p : entry_place d ≡ entry_place c = omega arith in
       ap (λ i. lane_in (get_or (with_entry ws c e) i 0) d) p ∙ ap (λ n. lane_in n d) e_there
-      ∙ lane_in-lane_put_other (get_or ws (8 + c / 4) 0) c d e small lanes
+      ∙ lane_in-lane_put_other (get_or ws (entry_place c) 0) c d e small lanes
       ∙ ap (λ i. lane_in (get_or ws i 0) d) (sym p)
 
   entry_far : (d : ℕ) → d / 4 ≢ c / 4 → entry_of (with_entry ws c e) d ≡ entry_of ws d
   unfolding entry_of entry_place
-  entry_far d ne = ap (λ n. lane_in n d) (e_word (8 + d / 4) (λ q. ne (omega arith)))
+  entry_far d ne = ap (λ n. lane_in n d) (e_word (entry_place d) (λ q. ne (omega arith)))
 
   entry_else : (d : ℕ) → d ≢ c → entry_of (with_entry ws c e) d ≡ entry_of ws d
   entry_else d ne = ⊎_elim (λ s. entry_beside d ne s) (λ f. entry_far d f) (cases_eq (d / 4) (c / 4))
@@ -212,7 +212,7 @@ module _ (key : Key) (ws : List ℕ) (c e : ℕ) (r : AreInRange key ws) (h : c 
   unfolding with_entry
   e_count = length-set ws (entry_place c) (lane_put (get_or ws (entry_place c) 0) c e)
 
-  e_lanes : (d : ℕ) → d < 4 * entry_word_count key → get_or (with_entry ws c e) (entry_place d) 0 < 2 ^ 64
+  e_lanes : (d : ℕ) → d < 8 * tree_count key → get_or (with_entry ws c e) (entry_place d) 0 < 2 ^ 64
   unfolding with_entry
   e_lanes d q = at_below ws (entry_place c) (lane_put (get_or ws (entry_place c) 0) c e) (2 ^ 64) e_room
       (lane_put-lt (get_or ws (entry_place c) 0) c e (r.entry_words c e_lane) small) (entry_place d) (r.entry_words d q)
@@ -220,6 +220,10 @@ module _ (key : Key) (ws : List ℕ) (c e : ℕ) (r : AreInRange key ws) (h : c 
   e_anchor : (i : ℕ) → i < 8 → i ≢ entry_place c
   unfolding entry_place
   e_anchor i q s = omega arith
+
+  e_behind : (t i : ℕ) → 1 < i → i < 8 → entry_place (8 * t) + i ≢ entry_place c
+  unfolding entry_place
+  e_behind t i l m s = omega arith
 
   e_between : (i : ℕ) → tree_place key (tree_count key) + i ≢ entry_place c
   e_between i s = omega (arith, entry-lt-tree key c (tree_count key) e_lane)
@@ -266,6 +270,7 @@ module _ (key : Key) (ws : List ℕ) (c e : ℕ) (r : AreInRange key ws) (h : c 
           huge = λ d q. ⊎_elim (λ s. omega (arith, e_huge_here, ap (huge_of new) s))
               (λ n. omega (arith, huge_same key ws new d (entry_else d n), r.huge d q)) (cases_eq d c);
           absent = λ d low q. entry_else d (λ s. omega arith) ∙ r.absent d low q;
+          behind = λ u i q l m. e_word (entry_place (8 * u) + i) (e_behind u i l m) ∙ r.behind u i q l m;
           tree_free = λ t q. omega (arith, tree_free_same key ws new t (e_tree t), r.tree_free t q);
           reserved = λ t q. omega (arith, reserved_same key ws new t (e_tree t), r.reserved t q);
           locals = λ k q. e_local k ∙ r.locals k q ∙ ap local_word (sym (rest_same key ws new k (e_local k)));
@@ -306,7 +311,7 @@ module _ (key : Key) (ws : List ℕ) (t n : ℕ) (r : AreInRange key ws) (h : t 
 
   t_else : (u : ℕ) → u ≢ t → tree_word_of key (with_tree key ws t n) u ≡ tree_word_of key ws u
   unfolding tree_word_of tree_place
-  t_else u ne = t_word (8 + entry_word_count key + u) (λ q. ne (omega arith))
+  t_else u ne = t_word (first_tree key + u) (λ q. ne (omega arith))
 
   t_free_here : tree_free_of key (with_tree key ws t n) t ≡ free_in n
   unfolding tree_free_of
@@ -316,11 +321,11 @@ module _ (key : Key) (ws : List ℕ) (t n : ℕ) (r : AreInRange key ws) (h : t 
   unfolding reserved_of
   t_reserved_here = ap flag_in t_there
 
-  t_lanes : (d : ℕ) → d < 4 * entry_word_count key
+  t_lanes : (d : ℕ) → d < 8 * tree_count key
       → get_or (with_tree key ws t n) (entry_place d) 0 ≡ get_or ws (entry_place d) 0
   t_lanes d q = t_word (entry_place d) (λ s. omega (arith, entry-lt-tree key d t q))
 
-  t_entry : (d : ℕ) → d < 4 * entry_word_count key → entry_of (with_tree key ws t n) d ≡ entry_of ws d
+  t_entry : (d : ℕ) → d < 8 * tree_count key → entry_of (with_tree key ws t n) d ≡ entry_of ws d
   unfolding entry_of
   t_entry d q = ap (λ m. lane_in m d) (t_lanes d q)
 
@@ -344,6 +349,10 @@ module _ (key : Key) (ws : List ℕ) (t n : ℕ) (r : AreInRange key ws) (h : t 
   t_anchor : (i : ℕ) → i < 8 → i ≢ tree_place key t
   unfolding tree_place
   t_anchor i q s = omega arith
+
+  t_behind : (u i : ℕ) → u < tree_count key → i < 8 → entry_place (8 * u) + i ≢ tree_place key t
+  unfolding entry_place tree_place
+  t_behind u i q m s = omega arith
 
   t_between : (i : ℕ) → tree_place key (tree_count key) + i ≢ tree_place key t
   unfolding tree_place
@@ -380,6 +389,7 @@ module _ (key : Key) (ws : List ℕ) (t n : ℕ) (r : AreInRange key ws) (h : t 
           free = λ d q. omega (arith, t_free d q, r.free d q);
           huge = λ d q. omega (arith, t_huge d q, r.huge d q);
           absent = λ d low q. t_entry d q ∙ r.absent d low q;
+          behind = λ u i q l m. t_word (entry_place (8 * u) + i) (t_behind u i q m) ∙ r.behind u i q l m;
           tree_free = λ v q. ⊎_elim (λ s. omega (arith, t_free_here, ap (tree_free_of key new) s))
               (λ ne. omega (arith, tree_free_same key ws new v (t_else v ne), r.tree_free v q)) (cases_eq v t);
           reserved = λ v q. ⊎_elim (λ s. omega (arith, t_reserved_here, ap (reserved_of key new) s))
@@ -428,7 +438,7 @@ module _ (key : Key) (ws : List ℕ) (k n : ℕ) (r : AreInRange key ws) (h : k 
 
   l_else : (j : ℕ) → j ≢ k → local_word_of key (with_local key ws k n) j ≡ local_word_of key ws j
   unfolding local_word_of local_place
-  l_else j ne = l_word (15 + entry_word_count key + tree_count key + 8 * j) (λ q. ne (omega arith))
+  l_else j ne = l_word (first_local key + 8 * j) (λ q. ne (omega arith))
 
   l_rest_else : (j : ℕ) → j ≢ k → rest_of key (with_local key ws k n) j ≡ rest_of key ws j
   l_rest_else j ne = rest_same key ws (with_local key ws k n) j (l_else j ne)
@@ -458,11 +468,11 @@ module _ (key : Key) (ws : List ℕ) (k n : ℕ) (r : AreInRange key ws) (h : k 
         ap (is_on t) l_rest,
       )
 
-  l_lanes : (d : ℕ) → d < 4 * entry_word_count key
+  l_lanes : (d : ℕ) → d < 8 * tree_count key
       → get_or (with_local key ws k n) (entry_place d) 0 ≡ get_or ws (entry_place d) 0
   l_lanes d q = l_word (entry_place d) (λ s. omega (arith, entry-lt-local key d k q))
 
-  l_entry : (d : ℕ) → d < 4 * entry_word_count key → entry_of (with_local key ws k n) d ≡ entry_of ws d
+  l_entry : (d : ℕ) → d < 8 * tree_count key → entry_of (with_local key ws k n) d ≡ entry_of ws d
   unfolding entry_of
   l_entry d q = ap (λ m. lane_in m d) (l_lanes d q)
 
@@ -486,6 +496,10 @@ module _ (key : Key) (ws : List ℕ) (k n : ℕ) (r : AreInRange key ws) (h : k 
   l_anchor : (i : ℕ) → i < 8 → i ≢ local_place key k
   unfolding local_place
   l_anchor i q s = omega arith
+
+  l_behind : (u i : ℕ) → u < tree_count key → i < 8 → entry_place (8 * u) + i ≢ local_place key k
+  unfolding entry_place local_place
+  l_behind u i q m s = omega arith
 
   l_between : (i : ℕ) → i < 7 → tree_place key (tree_count key) + i ≢ local_place key k
   unfolding tree_place local_place
@@ -534,6 +548,7 @@ module _ (key : Key) (ws : List ℕ) (k n : ℕ) (r : AreInRange key ws) (h : k 
           free = λ d q. omega (arith, l_free d q, r.free d q);
           huge = λ d q. omega (arith, l_huge d q, r.huge d q);
           absent = λ d low q. l_entry d q ∙ r.absent d low q;
+          behind = λ u i q l m. l_word (entry_place (8 * u) + i) (l_behind u i q m) ∙ r.behind u i q l m;
           tree_free = λ t q. omega (arith, tree_free_same key ws new t (l_tree t q), r.tree_free t q);
           reserved = λ t q. omega (arith, reserved_same key ws new t (l_tree t q), r.reserved t q);
           locals = λ j q. l_locals e j q (cases_eq j k);
@@ -599,7 +614,7 @@ module _ (key : Key) (ws : List ℕ) (w n : ℕ) (r : AreInRange key ws) (h : w 
 
   b_else : (v : ℕ) → v ≢ w → bit_word_of key (with_bits key ws w n) v ≡ bit_word_of key ws v
   unfolding bit_word_of bits_place
-  b_else v ne = b_word (15 + entry_word_count key + tree_count key + 8 * key.cores + v) (λ q. ne (omega arith))
+  b_else v ne = b_word (first_bits key + v) (λ q. ne (omega arith))
 
   b_bit : (x : ℕ) → x / 64 ≡ w → bit_of key (with_bits key ws w n) x ≡ bit_at n (x % 64)
   unfolding bit_of
@@ -608,21 +623,21 @@ module _ (key : Key) (ws : List ℕ) (w n : ℕ) (r : AreInRange key ws) (h : w 
   b_sets_here : set_of key (with_bits key ws w n) (w / 8) + ones (bit_word_of key ws w) ≡ set_of key ws (w / 8) + ones n
   unfolding set_of with_bits bit_word_of bits_place word_count
   b_sets_here =
-      eight_here ws (15 + entry_word_count key + tree_count key + 8 * key.cores + w) n
-      (15 + entry_word_count key + tree_count key + 8 * key.cores + 8 * (w / 8))
+      eight_here ws (first_bits key + w) n
+      (first_bits key + 8 * (w / 8))
       (omega arith) (omega arith) (omega (arith, r.count))
 
   b_sets_else : (d : ℕ) → d ≢ w / 8 → set_of key (with_bits key ws w n) d ≡ set_of key ws d
   unfolding set_of with_bits bits_place
   b_sets_else d ne =
-      eight_other ws (15 + entry_word_count key + tree_count key + 8 * key.cores + w) n
-      (15 + entry_word_count key + tree_count key + 8 * key.cores + 8 * d) (grind arith)
+      eight_other ws (first_bits key + w) n
+      (first_bits key + 8 * d) (grind arith)
 
-  b_lanes : (d : ℕ) → d < 4 * entry_word_count key
+  b_lanes : (d : ℕ) → d < 8 * tree_count key
       → get_or (with_bits key ws w n) (entry_place d) 0 ≡ get_or ws (entry_place d) 0
   b_lanes d q = b_word (entry_place d) (λ s. omega (arith, entry-lt-bits key d w q))
 
-  b_entry : (d : ℕ) → d < 4 * entry_word_count key → entry_of (with_bits key ws w n) d ≡ entry_of ws d
+  b_entry : (d : ℕ) → d < 8 * tree_count key → entry_of (with_bits key ws w n) d ≡ entry_of ws d
   unfolding entry_of
   b_entry d q = ap (λ m. lane_in m d) (b_lanes d q)
 
@@ -641,6 +656,10 @@ module _ (key : Key) (ws : List ℕ) (w n : ℕ) (r : AreInRange key ws) (h : w 
   b_anchor : (i : ℕ) → i < 8 → i ≢ bits_place key w
   unfolding bits_place
   b_anchor i q s = omega arith
+
+  b_behind : (u i : ℕ) → u < tree_count key → i < 8 → entry_place (8 * u) + i ≢ bits_place key w
+  unfolding entry_place bits_place
+  b_behind u i q m s = omega arith
 
   b_between : (i : ℕ) → i < 7 → tree_place key (tree_count key) + i ≢ bits_place key w
   unfolding tree_place bits_place
@@ -685,6 +704,7 @@ module _ (key : Key) (ws : List ℕ) (w n : ℕ) (r : AreInRange key ws) (h : w 
           free = λ d q. omega (arith, b_free d q, r.free d q);
           huge = λ d q. omega (arith, b_huge d q, r.huge d q);
           absent = λ d low q. b_entry d q ∙ r.absent d low q;
+          behind = λ u i q l m. b_word (entry_place (8 * u) + i) (b_behind u i q m) ∙ r.behind u i q l m;
           tree_free = λ t q. omega (arith, tree_free_same key ws new t (b_tree t q), r.tree_free t q);
           reserved = λ t q. omega (arith, reserved_same key ws new t (b_tree t q), r.reserved t q);
           locals = λ k q. b_local k q ∙ r.locals k q ∙ ap local_word (sym (rest_same key ws new k (b_local k q)));

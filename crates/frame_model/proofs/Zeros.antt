@@ -1,5 +1,5 @@
 -- Words that are all 0: nothing is held, and nothing is counted as free.
-use Rattle.std.proofs.Common.{◌≡◌, ⊎_elim, ℕ, ◌+◌, List, length, get_or, replicate, refl, ap, sym, subst, ◌∙◌, arith, None}
+use Rattle.std.proofs.Common.{◌≡◌, ⊎_elim, ℕ, ◌+◌, ◌*◌, List, length, get_or, replicate, refl, ap, sym, subst, ◌∙◌, arith, None}
 use Rattle.std.proofs.lemmas.Bool.{cases_lt}
 use Rattle.std.proofs.lemmas.List.{get_or-replicate, get_or_past, length-replicate}
 use Rattle.frame_words.specs.Words.{free_in, flag_in, lane_in, rest_in, local_word}
@@ -64,6 +64,7 @@ module _ (key : Key) (ws : List ℕ) (zero : (i : ℕ) → get_or ws i 0 ≡ 0) 
     free = λ c q. omega (arith, free_zero c);
     huge = λ c q. omega (arith, huge_zero c);
     absent = λ c l q. entry_zero c;
+    behind = λ u i q l m. zero (entry_place (8 * u) + i);
     tree_free = λ t q. omega (arith, tree_free_zero t);
     reserved = λ t q. omega (arith, reserved_zero t);
     locals = λ k q. local_zero k ∙ sym (ap local_word (rest_zero k) ∙ local_word-none);

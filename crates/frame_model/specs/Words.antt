@@ -7,39 +7,51 @@ use Rattle.frame_words.specs.Geometry.{child_frames, word_frames, tree_frames}
 use Rattle.frame_words.specs.Runs.{child_words}
 use Rattle.frame_words.specs.Words.{free_in, flag_in, lane_in, lane_put, rest_in, local_word}
 use Rattle.frame_model.specs.declared.key.Key.{Key}
-use Rattle.frame_model.specs.Key.{tree_count, children_of}
+use Rattle.frame_model.specs.Key.{tree_count, tree_of_child, children_of}
 
 -- the word with n ones from a bit on
 abbrev pub run : ℕ → ℕ → ℕ
 run from n = 2 ^ (from + n) - 2 ^ from
 
--- Places. Word 0 is the anchor, which nothing writes; the entries begin a cache line behind it.
--- Local words stand eight words apart, a cache line each, and the bit words come last.
+-- Places. Word 0 is the anchor, which nothing writes. The entries begin a cache line behind it, and
+-- have a line for each tree. Behind them stand the words of the trees side by side, then the local
+-- words, a line each, and last the bit words.
 
--- four entries stand in one word
+-- how many words have entries of children: four stand in one
 abbrev pub entry_word_count : Key → ℕ
 entry_word_count key = (key.children + 3) / 4
 
--- the word of the list in which the entry of a child stands
+-- where the words of the trees begin: behind a line of entries for each
+abbrev pub first_tree : Key → ℕ
+first_tree key = 8 + 8 * tree_count key
+
+-- where the local words begin: seven words behind those of the trees are not used
+abbrev pub first_local : Key → ℕ
+first_local key = first_tree key + tree_count key + 7
+
+-- where the bit words begin
+abbrev pub first_bits : Key → ℕ
+first_bits key = first_local key + 8 * key.cores
+
+-- the word of the list in which the entry of a child stands, one of two in the line of its tree
 unfoldable pub entry_place : ℕ → ℕ
-entry_place child = 8 + child / 4
+entry_place child = 8 + 8 * tree_of_child child + child % 8 / 4
 
 -- the word of the list that is the word of a tree
 unfoldable pub tree_place : Key → ℕ → ℕ
-tree_place key tree = 8 + entry_word_count key + tree
+tree_place key tree = first_tree key + tree
 
 -- the word of the list that is the local word of a core
 unfoldable pub local_place : Key → ℕ → ℕ
-local_place key core = 15 + entry_word_count key + tree_count key + 8 * core
+local_place key core = first_local key + 8 * core
 
 -- bit word w belongs to the child w / 8
 unfoldable pub bits_place : Key → ℕ → ℕ
-bits_place key word = 15 + entry_word_count key + tree_count key + 8 * key.cores + word
+bits_place key word = first_bits key + word
 
 -- how many words there are
 unfoldable pub word_count : Key → ℕ
-word_count key =
-    15 + entry_word_count key + tree_count key + 8 * key.cores + child_words * key.children
+word_count key = first_bits key + child_words * key.children
 
 -- Readers.
 
@@ -149,11 +161,12 @@ IsRest key (Some rest) = (rest.0 < tree_count key) × (rest.1 ≤ tree_frames)
 pub record AreInRange (key : Key) (words : List ℕ) : Type 0 where
   pub count : length words ≡ word_count key
   pub anchor : (i : ℕ) → i < 8 → slice_index words i ≡ 0
-  pub entry_words : (c : ℕ) → c < 4 * entry_word_count key
-      → slice_index words (entry_place c) < 2 ^ 64
+  pub entry_words : (c : ℕ) → c < 8 * tree_count key → slice_index words (entry_place c) < 2 ^ 64
   pub free : (c : ℕ) → c < key.children → free_of words c ≤ child_frames
   pub huge : (c : ℕ) → c < key.children → huge_of words c ≤ 1
-  pub absent : (c : ℕ) → key.children ≤ c → c < 4 * entry_word_count key → entry_of words c ≡ 0
+  pub absent : (c : ℕ) → key.children ≤ c → c < 8 * tree_count key → entry_of words c ≡ 0
+  pub behind : (t i : ℕ) → t < tree_count key → 1 < i → i < 8
+      → slice_index words (entry_place (8 * t) + i) ≡ 0
   pub tree_free : (t : ℕ) → t < tree_count key → tree_free_of key words t ≤ tree_frames
   pub reserved : (t : ℕ) → t < tree_count key → reserved_of key words t ≤ 1
   pub locals : (k : ℕ) → k < key.cores

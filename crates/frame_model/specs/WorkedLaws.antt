@@ -25,9 +25,9 @@ pub record SafeRun : Type 0 where
 
 -- Frame 0 is taken, handed out, and kept by the seat that took it.
 abbrev pub takes_and_keeps : List Event
-takes_and_keeps = loads 0 9 ∷ makes 0 (tree_pay 0 512 1)
+takes_and_keeps = loads 0 16 ∷ makes 0 (tree_pay 0 512 1)
     ∷ loads 0 8 ∷ makes 0 (charge 0 512 1)
-    ∷ loads 0 25 ∷ makes 0 (claim 0 0 0 0)
+    ∷ loads 0 32 ∷ makes 0 (claim 0 0 0 0)
     ∷ cuts 0 (hand_out (block 0 0) (without (block 0 0)))
     ∷ joins 0 1 keep_in
     ∷ []

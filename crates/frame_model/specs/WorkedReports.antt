@@ -40,8 +40,8 @@ four_free = 512 * 0x0001_0001_0001_0001
 
 -- frame 4096, the first of the second tree, is held
 abbrev pub first_of_second_held : List ℕ
-first_of_second_held = replicate 8 0 ++ four_free ∷ four_free ∷ 511 ∷ 4096 ∷ 511 ∷ replicate 79 0
-    ++ 1 ∷ replicate 7 0
+first_of_second_held = replicate 8 0 ++ four_free ∷ four_free ∷ replicate 6 0 ++ 511 ∷ replicate 7 0
+    ++ 4096 ∷ 511 ∷ replicate 79 0 ++ 1 ∷ replicate 7 0
 
 -- the first tree has 4,096 free frames and eight huge ones, the second 511 and none
 abbrev pub TreesDiffer : Type 0

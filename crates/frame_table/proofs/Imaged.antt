@@ -46,6 +46,7 @@ same_image key ws i = let r = i.in_range in record {
     free = r.free;
     huge = r.huge;
     absent = r.absent;
+    behind = r.behind;
     tree_free = r.tree_free;
     reserved = r.reserved;
     locals = r.locals;

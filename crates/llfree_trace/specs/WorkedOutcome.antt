@@ -32,7 +32,7 @@ answered taken given = record { line = 1; core = 0; reply = reply.Taken 0 0 }
 abbrev pub image_with : Geometry → ℕ → Contents
 image_with geometry bits = record {
   geometry = geometry;
-  words = replicate 8 0 ++ 511 ∷ 511 ∷ replicate 23 0 ++ bits ∷ replicate 7 0;
+  words = replicate 8 0 ++ 511 ∷ replicate 7 0 ++ 511 ∷ replicate 23 0 ++ bits ∷ replicate 7 0;
 }
 
 -- an outcome of the two rounds in a memory, with this first bit word

@@ -40,6 +40,7 @@ module _ {them : Company} (key : Key) (words bytes : List ℕ) (v : View)
     free = λ c h. ∥∥₁_elim agrees le_prop (λ a. (range a).free c h);
     huge = λ c h. ∥∥₁_elim agrees le_prop (λ a. (range a).huge c h);
     absent = λ c h l. ∥∥₁_elim agrees (ℕ_set _ _) (λ a. (range a).absent c h l);
+    behind = λ t i h l m. ∥∥₁_elim agrees (ℕ_set _ _) (λ a. (range a).behind t i h l m);
     tree_free = λ t h. ∥∥₁_elim agrees le_prop (λ a. (range a).tree_free t h);
     reserved = λ t h. ∥∥₁_elim agrees le_prop (λ a. (range a).reserved t h);
     locals = λ k h. ∥∥₁_elim agrees (ℕ_set _ _) (λ a. (range a).locals k h);

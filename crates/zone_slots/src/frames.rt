@@ -2,7 +2,7 @@
 
 ghost use Rattle.std.specs.Prelude.{◌≡◌, ◌+◌, ◌-◌, ◌<◌, ◌≤◌, ◌∷◌, ◌++◌, [], drop, length, IfOk, IfErr};
 ghost use Rattle.zone_slots.specs.Calls.{zones_of, SharesOne, CountsNone, RemembersLast};
-ghost use Rattle.zone_slots.specs.Resting.{most_resting, refill_frames, flush_frames, BringsNone, PlansNext};
+ghost use Rattle.zone_slots.specs.Resting.{most_resting, refill_frames, flush_frames, BringsNone};
 ghost use Rattle.zone_slots.specs.FrameCalls.{resting_in, next_batch, IsSingleFor, LendsOneLess, LendsAsManyInEach};
 ghost use Rattle.zone_slots.specs.FrameCalls.{TakesSingle, TakesLastFrame, RestsLast, RefusesOne, RefusesSingle};
 
@@ -56,7 +56,6 @@ impl CoreState {
         ensures none { resting_in self.new ≡ []
             → BringsNone (zones_of self.old) most self.old.core self.new.core }
         ensures few { length (resting_in self.new) ≤ most }
-        ensures next { PlansNext (resting_in self.new) (next_batch self.old) (next_batch self.new) }
         ensures counted { CountsNone self.old self.new }
         ensures last { RemembersLast self.old self.new }
     {

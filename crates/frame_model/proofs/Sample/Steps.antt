@@ -33,7 +33,7 @@ gives_the_huge_frame =
     joins 0 4 hand_in ∷
     makes 0 (give_huge 0 none_left) ∷
     makes 0 (tree_refund 0 512) ∷
-    loads 0 9 ∷
+    loads 0 16 ∷
     makes 0 (tree_pay 0 512 512) ∷
     []
 
@@ -63,8 +63,8 @@ splits_and_releases =
     makes 0 (release 0 0 6 after_release) ∷
     makes 0 (refund 0 64) ∷
     makes 0 (tree_refund 0 64) ∷
-    loads 3 9 ∷
-    loads 0 9 ∷
+    loads 3 16 ∷
+    loads 0 16 ∷
     []
 
 -- the tree is reserved, put back, reserved again and put into the local word
@@ -74,12 +74,12 @@ reserves =
     loses 3 (tree_pay 0 64 1) ∷
     loses_at_will 3 (tree_pay 0 32768 0) ∷
     makes 0 (unreserve 0 64) ∷
-    loads 0 9 ∷
+    loads 0 16 ∷
     makes 0 (reserve 0 64) ∷
     makes 0 (swap_local 0 (Some (0, 64))) ∷
-    loads 0 17 ∷
+    loads 0 24 ∷
     makes 0 (local_pay 0 9223372036854775872 64) ∷
-    loads 0 17 ∷
+    loads 0 24 ∷
     []
 
 -- frames go into the local word and out of it, and single frames and a run of a word are claimed
@@ -87,15 +87,15 @@ abbrev pays_at_the_local_word : List Event
 pays_at_the_local_word =
     makes 0 (local_refund 0 9223372036854775808 32) ∷
     makes 0 (tree_refund 0 32) ∷
-    loads 0 9 ∷
+    loads 0 16 ∷
     makes 0 (collect 0 32800) ∷
-    loads 0 17 ∷
+    loads 0 24 ∷
     makes 0 (local_pay 0 9223372036854775840 32) ∷
     loads 0 8 ∷
     makes 0 (charge 0 64 64) ∷
-    loads 0 25 ∷
+    loads 0 32 ∷
     makes 0 (claim_singles 0 0 5) ∷
-    loads 0 25 ∷
+    loads 0 32 ∷
     makes 0 (claim 0 5 32 5) ∷
     []
 

@@ -1,5 +1,5 @@
 -- The run begins at an opening, and its events are of every form.
-use Rattle.std.proofs.Common.{◌≡◌, ⊎_elim, ℕ, zero, suc, ◌+◌, ◌^◌, ◌<◌, ◌≤◌, List, [], ◌∷◌, length, get_or, None, Bool, true, false, refl}
+use Rattle.std.proofs.Common.{◌≡◌, ⊎_elim, ℕ, zero, suc, ◌+◌, ◌*◌, ◌^◌, ◌<◌, ◌≤◌, List, [], ◌∷◌, length, get_or, None, Bool, true, false, refl}
 use Rattle.std.proofs.Common.{ap, sym, subst, ◌∙◌, arith}
 use Rattle.std.specs.Prelude.{nat_eq, nat_lt, ◌&&◌}
 use Rattle.std.specs.List.{list_all, range_with_len}
@@ -54,10 +54,11 @@ in_range = record {
   count = refl;
   anchor = λ i h. same (λ j. get_or ws j 0) (λ j. 0) 0 8 refl i (omega arith) (omega arith);
   entry_words = λ c h. is_below (get_or ws (entry_place c) 0) (2 ^ 64)
-      (checked (λ d. nat_lt (get_or ws (entry_place d) 0) (2 ^ 64)) 0 4 refl c (omega arith) (omega arith));
+      (checked (λ d. nat_lt (get_or ws (entry_place d) 0) (2 ^ 64)) 0 8 refl c (omega arith) (omega arith));
   free = λ c h. omega (arith, same (free_of ws) (λ d. 0) 0 1 refl c (omega arith) (omega arith));
   huge = λ c h. omega (arith, same (huge_of ws) (λ d. 1) 0 1 refl c (omega arith) (omega arith));
-  absent = λ c l h. same (entry_of ws) (λ d. 0) 1 3 refl c (omega arith) (omega arith);
+  absent = λ c l h. same (entry_of ws) (λ d. 0) 1 7 refl c (omega arith) (omega arith);
+  behind = λ t i h l m. empty t i h l m;
   tree_free = λ t h. omega (arith, same (tree_free_of key ws) (λ u. 0) 0 1 refl t (omega arith) (omega arith));
   reserved = λ t h. omega (arith, same (reserved_of key ws) (λ u. 0) 0 1 refl t (omega arith) (omega arith));
   locals = λ k h. one_core k h;
@@ -75,6 +76,10 @@ in_range = record {
     no_rest : (k : ℕ) → k < 1 → IsRest key (rest_of key ws k)
     no_rest zero h = tt
     no_rest (suc k) h = absurd (omega arith)
+
+    empty : (t i : ℕ) → t < 1 → 1 < i → i < 8 → get_or ws (entry_place (8 * t) + i) 0 ≡ 0
+    empty zero i h l m = same (λ j. get_or ws (entry_place 0 + j) 0) (λ j. 0) 2 6 refl i (omega arith) (omega arith)
+    empty (suc t) i h l m = absurd (omega arith)
 
     alone : (k i : ℕ) → k < 1 → 0 < i → i < 8 → get_or ws (local_place key k + i) 0 ≡ 0
     alone zero i h l m = same (λ j. get_or ws (local_place key 0 + j) 0) (λ j. 0) 1 7 refl i (omega arith) (omega arith)

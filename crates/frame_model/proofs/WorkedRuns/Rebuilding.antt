@@ -47,7 +47,7 @@ one_of_eight P p0 p1 p2 p3 p4 p5 p6 p7 (suc (suc (suc (suc (suc (suc (suc (suc i
 -- a first entry, and a first tree
 first_entry : AreInRange one_child (words_of_one 512 0 0 0 0 0 0 0 0 0 0)
 unfolding entry_place word_count entry_word lane_in lane_put lane_shift with_entry free_in flag_in
-first_entry = (entry_written one_child (replicate 33 0) 0 512 (zeros_in_range one_child) (omega arith) (omega arith)).in_range
+first_entry = (entry_written one_child (replicate 40 0) 0 512 (zeros_in_range one_child) (omega arith) (omega arith)).in_range
     (omega arith) (omega arith)
 
 -- the entry is written where nothing else stands in its word

@@ -59,7 +59,7 @@ nothing_charged = omega arith
 
 -- One frame is charged: 511 are free.
 abbrev one_charged : List Event
-one_charged = loads 0 9 ∷ makes 0 (tree_pay 0 512 1) ∷ loads 0 8 ∷ makes 0 (charge 0 512 1) ∷ []
+one_charged = loads 0 16 ∷ makes 0 (tree_pay 0 512 1) ∷ loads 0 8 ∷ makes 0 (charge 0 512 1) ∷ []
 
 one_charged_allowed : AllAllowed one_child at_first one_charged
 unfolding entry_place tree_place bits_place local_place word_count last_seen free_in flag_in entry_word lane_in
@@ -80,7 +80,7 @@ free_511 = (refl, refl)
 
 -- The tree is reserved: its 512 frames are to come back, and nobody else may reserve it.
 abbrev reserved : List Event
-reserved = cuts 0 (part_share 1) ∷ loads 0 9 ∷ makes 0 (reserve 0 512) ∷ []
+reserved = cuts 0 (part_share 1) ∷ loads 0 16 ∷ makes 0 (reserve 0 512) ∷ []
 
 reserved_allowed : AllAllowed one_child at_first reserved
 unfolding entry_place tree_place bits_place local_place word_count last_seen free_in flag_in entry_word

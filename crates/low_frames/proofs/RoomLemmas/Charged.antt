@@ -68,7 +68,7 @@ module _ (key : Key) (ws us : List ℕ) (child n : ℕ) (r : AreInRange key ws) 
   c_put : get_or us (entry_place child) 0 ≡ lane_put c_seen child c_entry
   unfolding entry_place word_count
   c_put =
-      let p : ℕ = 8 + child / 4 in
+      let p : ℕ = entry_place child in
       let room : p < length ws = omega (arith, r.count, child-has-lane key child inside) in
       ap (λ (l : List ℕ). get_or l p 0) charged.words ∙ get_or-set_same ws p (lane_put c_seen child c_entry) 0 room
 

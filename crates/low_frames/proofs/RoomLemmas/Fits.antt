@@ -82,6 +82,7 @@ module _ (A : Type 0) (key : Key) (ws : List ℕ) (v : View) (fits : FitsAlone A
     free = λ c h. ∥∥₁_elim fits le_prop (λ f. (range f).free c h);
     huge = λ c h. ∥∥₁_elim fits le_prop (λ f. (range f).huge c h);
     absent = λ c h l. ∥∥₁_elim fits (ℕ_set _ _) (λ f. (range f).absent c h l);
+    behind = λ t i h l m. ∥∥₁_elim fits (ℕ_set _ _) (λ f. (range f).behind t i h l m);
     tree_free = λ t h. ∥∥₁_elim fits le_prop (λ f. (range f).tree_free t h);
     reserved = λ t h. ∥∥₁_elim fits le_prop (λ f. (range f).reserved t h);
     locals = λ k h. ∥∥₁_elim fits (ℕ_set _ _) (λ f. (range f).locals k h);
