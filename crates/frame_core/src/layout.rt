@@ -13,8 +13,9 @@ use frame_words::{CHILD_WORDS, Geometry, LANES, TREE_CHILDREN};
 pub const LINE_WORDS: usize = 8;
 
 /// The place of the word that the entry of this child stands in, beside three others. The entries of
-/// a tree stand in two words, a line behind those of the tree before it, so that cores with trees of
-/// their own share no line of entries. The six words between are not used.
+/// a tree stand in two words, eight words behind those of the tree before it: where the first word
+/// begins at a multiple of 16 bytes, no cache line has entries of two trees. The six between are not
+/// used.
 #[inline]
 #[tactic(auto, unfolding(frame_model::specs::Words::entry_place, frame_model::specs::Words::word_count))]
 pub fn entry_place(child: u32) -> usize
