@@ -102,7 +102,21 @@ impl Memory {
         ensures frame { IfSome result (λ b. first_frame_in self.now.zones b ≡ frame) }
         ensures order { IfSome result (λ b. b.block.order ≡ order) }
     {
-        let (zone, local) = self.zone_of(known, hint, frame)?;
+        let Some(local) = known.number_of(frame) else {
+            return self.fetch_beyond(hint, frame, order);
+        };
+        let block = self.fetch_in(0, local, order)?;
+        Some(ZoneBlock { zone: 0, block })
+    }
+
+    // The same where the first zone does not have the frame: that look-up answers two numbers through memory.
+    #[inline(never)]
+    fn fetch_beyond(&self, hint: u32, frame: u32, order: u8) -> Option<ZoneBlock>
+        ensures out { IfSome result (IsOutOfItsZone self.now.zones) }
+        ensures frame { IfSome result (λ b. first_frame_in self.now.zones b ≡ frame) }
+        ensures order { IfSome result (λ b. b.block.order ≡ order) }
+    {
+        let (zone, local) = self.zones.zone_of(hint, u64::from(frame))?;
         let block = self.fetch_in(zone, local, order)?;
         Some(ZoneBlock { zone, block })
     }
