@@ -69,7 +69,7 @@ enum llfree_status LLFREE_STATUS_TYPE {
     LLFREE_NOT_HELD = 3,      /* no such block is held: another order, given before, never taken; or the
                                  struct is empty */
     LLFREE_CLOSED_HANDLE = 4, /* the handle is closed */
-    LLFREE_NO_MEMORY = 5,
+    LLFREE_NO_MEMORY = 5,     /* the heap refused, maybe before all that was passed was read */
     LLFREE_BAD_GEOMETRY = 6,  /* not 1 to 2147483648 frames (for one thread 1 to 2097152), not 1 to 1024 cores,
                                  or not a lawful list of zones */
     LLFREE_OPEN_HANDLE = 7,   /* the handle is open already, or the struct holds a block */
