@@ -10,7 +10,8 @@ pub enum Start {
     /// before it.
     Fixed,
     /// At the tree where such a pass found a block last, unless a tree is nearly free; and where
-    /// nothing rested there is no last pass.
+    /// nothing rested there is no last pass. Behind a pass over partly free trees that found none, 15
+    /// searches for single frames leave it out.
     Last,
 }
 
