@@ -4,6 +4,8 @@
 # the work is stands in bench/reference/allocator/work.rs. Both programs print a line a measurement:
 # work, threads, order, allocator, tenths of a nanosecond for one take and one give of one thread, and
 # the refused takes of all threads. It needs rustc, and a built build/llfree_bench.
+# The pairs of cores with single frames at hand, `cached`, have nothing beside them. They are twenty times as
+# many, or the start of a thread would count.
 # The two run in turn, RUNS times, each time with ROUNDS rounds of PAIRS pairs a thread; each figure is
 # the least of all rounds. `times` is how many times as long as llfree the other one takes.
 # UNDER, which stands before both programs: two_programs.sh
@@ -22,6 +24,7 @@ for run in $(seq "$runs"); do
     shows "run $run of $runs"
     $under "$program" allocator "$pairs" "$rounds" >>"$folder/lines"
     $under "$folder/reference" "$pairs" "$rounds" >>"$folder/lines"
+    $under "$program" cached "$((20 * pairs))" "$rounds" >>"$folder/lines"
 done
 shows
 
@@ -39,6 +42,7 @@ awk -F, '
             c = least[key, "buddy"] / 10; d = least[key, "bitmap"] / 10
             if (a == 0) { print key ": no figure of llfree"; continue }
             note = (key in refused) ? "  some takes were refused" : ""
+            if (b == 0) { printf "%-7s %7d %5s %10.1f%s\n", part[1], part[2], part[3], a, note; continue }
             printf "%-7s %7d %5s %10.1f %12.1f %6.2f %9.1f %7.2f %10.1f %8.2f %10.1f%s\n",
                 part[1], part[2], part[3], a, b, a / b, c, c / a, d, d / a, 1000 * part[2] / a, note
         }

@@ -1,11 +1,14 @@
 //! Measures pairs of a take and a give on a shared table. With the word `allocator` first it measures
-//! takes and gives of a whole memory, with the word `zones` those of many zones. The other words are the
-//! pairs of a thread and the rounds, of which the fastest counts; with no words it prints nothing.
+//! takes and gives of a whole memory, with the word `cached` pairs of cores with single frames at hand,
+//! with the word `zones` those of many zones. The other words are the pairs of a thread and the rounds,
+//! of which the fastest counts; with no words it prints nothing.
 #![tactic(auto)]
 
 ghost use Rattle.std.specs.Prelude.{◌≤◌};
 
 mod allocator_rows;
+mod cached_rows;
+mod cached_works;
 mod hand;
 mod phases;
 mod rows;
@@ -75,12 +78,16 @@ fn main(rt: HostRuntime) -> io::Result<()> {
         return Ok(());
     };
     let is_zones = first.as_str() == "zones";
-    if is_zones || first.as_str() == "allocator" {
+    let is_cached = first.as_str() == "cached";
+    if is_zones || is_cached || first.as_str() == "allocator" {
         let Some(plan) = plan_of(words.next(), words.next()) else {
             return Ok(());
         };
         if is_zones {
             return zone_rows::print_all(&rt, rt.alloc(), plan);
+        }
+        if is_cached {
+            return cached_rows::print_all(&rt, rt.alloc(), plan);
         }
         return print_all(&rt, rt.alloc(), plan);
     }

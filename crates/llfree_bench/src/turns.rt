@@ -5,12 +5,15 @@ ghost use Rattle.llfree_bench.specs.Hands.{IsHandOf};
 use crate::hand::Hand;
 use core_frames::Allocator;
 use frame_words::HUGE_ORDER;
+use std::alloc::Global;
 
 /// What each hand does.
 #[derive(Clone, Copy)]
 pub enum Task {
     /// So many takes of an order, each with its give.
     Pairs { order: u8, count: u32 },
+    /// So many takes of a frame, each with its give, through a cache of the core.
+    Cached { alloc: Global, count: u32 },
     /// So many times: blocks of an order until the list is full, and then their gives.
     Fill { order: u8, times: u64 },
     /// Blocks of random orders, one for each that the list has room for.
@@ -29,6 +32,7 @@ impl Task {
         hand.refused = 0;
         match self {
             Task::Pairs { order, count } => hand.pairs(memory, order, count),
+            Task::Cached { alloc, count } => return hand.cached(alloc, memory, count),
             Task::Fill { order, times } => hand.fill(memory, order, times),
             Task::Gather => hand.gather(memory),
             Task::Turns { count } => hand.turns(memory, count),

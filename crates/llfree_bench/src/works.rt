@@ -29,6 +29,8 @@ const HELD: u32 = 49_152;
 pub enum Work {
     /// A take of the order and a give of that block, so many times a thread.
     Pairs { order: u8, count: u32 },
+    /// The same of a single frame, through a cache of the core.
+    Cached { count: u32 },
     /// All threads together fill memory with blocks of the order, and give them, so many times.
     Fill { order: u8, times: u64 },
     /// Blocks of random orders, about half of memory, of which one after another is given and taken
@@ -52,14 +54,14 @@ pub fn round<R: Threads + Clock + Sync>(
         return Err(no_memory());
     };
     let most = match work {
-        Work::Pairs { .. } => 0,
+        Work::Pairs { .. } | Work::Cached { .. } => 0,
         Work::Fill { order, .. } => share(threads, order),
         Work::Random { .. } => HELD / threads.max(1),
     };
     let Ok(hands) = hands_of(alloc, &memory, cores, most as usize) else {
         return Err(no_memory());
     };
-    let (hands, figure) = measured(rt, &memory, hands, work)?;
+    let (hands, figure) = measured(rt, alloc, &memory, hands, work)?;
     if is_all_free(alloc, memory, hands)? {
         Ok(figure)
     } else {
@@ -76,6 +78,7 @@ fn open(alloc: Global, threads: u32) -> Result<(Allocator, Vec<Core>), Fault>
 // What counts is the phase between those that make and end it.
 fn measured<R: Threads + Clock + Sync>(
     rt: &R,
+    alloc: Global,
     memory: &Allocator,
     hands: Vec<Hand>,
     work: Work,
@@ -85,6 +88,7 @@ fn measured<R: Threads + Clock + Sync>(
 {
     match work {
         Work::Pairs { order, count } => phase(rt, memory, hands, Task::Pairs { order, count }),
+        Work::Cached { count } => phase(rt, memory, hands, Task::Cached { alloc, count }),
         Work::Fill { order, times } => phase(rt, memory, hands, Task::Fill { order, times }),
         Work::Random { count } => {
             let (hands, _) = phase(rt, memory, hands, Task::Gather)?;
