@@ -1,5 +1,5 @@
 -- Two spans make two nodes, on which each block lies.
-use Rattle.std.proofs.Common.{◌≡◌, ◌⊎◌, ℕ, zero, suc, ◌^◌, List, [], ◌∷◌, ap, ◌∙◌, sym, subst, arith, inl, inr}
+use Rattle.std.proofs.Common.{◌≡◌, ◌⊎◌, ℕ, zero, suc, ◌^◌, ◌<◌, List, [], ◌∷◌, length, ap, ◌∙◌, sym, subst, arith, inl, inr}
 use Rattle.std.proofs.Math.Nat.{one-le-pow}
 use Rattle.std.specs.Prelude.{map, Ok, Err, Result, IfOk}
 use Rattle.std.specs.declared.vec.Vec.{Vec}
@@ -15,7 +15,6 @@ use Rattle.frame_zones.specs.declared.block.ZoneBlock.{ZoneBlock}
 use Rattle.frame_zones.specs.declared.spans.Span.{Span}
 use Rattle.frame_zones.specs.declared.zones.Zones.{Zones}
 use Rattle.frame_zones.specs.declared.zones.ZoneCore.{ZoneCore}
-use Rattle.frame_zones.proofs.Rounds.{some_zone}
 use Rattle.llfree_example.specs.Nodes.{second_node, IsNode, AreNodes, IsOnNode, LiesOnNode}
 
 is_node : (p : Place) (first : ℕ) (a : Allocator) → IsAt p first a → (p.first ≡ 0) ⊎ (p.first ≡ second_node)
@@ -48,10 +47,16 @@ nodes_if (Ok o) spans lower upper are lower-first upper-first lower-children upp
     lower-first upper-first lower-children upper-children
 nodes_if (Err e) spans lower upper are lower-first upper-first lower-children upper-children opened = tt
 
+-- an item of a list that has one
+some_item : {A : Type 0} (l : List A) (n : ℕ) → n < length l → A
+some_item [] n within = absurd (omega (arith, within))
+some_item (a ∷ l) n within = a
+
+-- a block of its zone lies on a node, where each zone is one
 pub on_node : (zs : Zones) (b : ZoneBlock) → AreNodes zs → IsOutOfItsZone zs b → LiesInZone zs b
     → LiesOnNode (2 ^ (block_in b.block).order) zs b
 on_node zs b nodes out lies x from to =
-    let a : Allocator = some_zone zs b.zone out.zone in
+    let a : Allocator = some_item zs.zones.items b.zone out.zone in
     let node = nodes b.zone a out.zone in
     elim node.0 as (λ _. IsOnNode x) [
       | inl lower ↦ inl (omega (arith, lower, node.1, lies.to a, to))
