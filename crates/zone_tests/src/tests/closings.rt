@@ -1,13 +1,16 @@
-//! What is held once the zones are closed, one by one.
+//! What is held once the zones are closed, one by one or in one call, which wants each core.
 
 ghost use Rattle.std.specs.Prelude.{IfOk};
 ghost use Rattle.std.specs.List.{All};
 ghost use Rattle.frame_zones.specs.Zones.{HasCoresIn, AreCoresOf};
 
+use super::calls::taken;
+use super::memory::open_for_two;
 use frame_core::Image;
 use frame_words::Fault;
-use frame_zones::{ZoneCore, Zones};
+use frame_zones::{ZoneCore, Zones, ZonesFault};
 use std::alloc::Global;
+use std::test::Fail;
 
 // How many frames are held.
 pub(super) fn held_in(image: &Image) -> u32 {
@@ -54,4 +57,50 @@ pub(super) fn held_once_closed(
         return Err(Fault::BadRange);
     }
     Ok(lower.saturating_add(upper))
+}
+
+// How many frames of each of two zones are held, once all cores are back.
+pub(super) fn held_in_each(
+    alloc: Global,
+    zones: Zones,
+    cores: Vec<ZoneCore>,
+) -> Result<(u32, u32), Fault>
+    requires { All (HasCoresIn zones.zones.items) cores.items }
+{
+    match zones.close(alloc, cores) {
+        Ok(images) if images.len() == 2 => Ok((
+            held_in(&images[0].image),
+            held_in(&images[1].image),
+        )),
+        Ok(_) => Err(Fault::BadRange),
+        Err(e) => Err(e.fault),
+    }
+}
+
+// No zone is closed without the second core, and both are once it is handed in.
+#[test]
+fn closing_wants_each_core(rt: HostRuntime) -> Result<(), Fail> {
+    let (zones, mut first, second) = open_for_two(rt.alloc(), 1)?;
+    assert!(rt; taken(&zones, &mut first, 8) == Ok(256));
+    let mut cores = Vec::with_capacity(rt.alloc(), 1)?;
+    cores.push_reserved(first);
+    let Err(
+        ZonesFault {
+            fault,
+            zones,
+            cores,
+            images,
+        },
+    ) = zones.close(rt.alloc(), cores)
+    else {
+        panic!(rt; "they closed without a core");
+    };
+    let Fault::MissingCores = fault else {
+        panic!(rt; "{fault}");
+    };
+    assert!(rt; (zones.count(), cores.len(), images.len()) == (2, 1, 0));
+    let mut cores = cores;
+    cores.push(second)?;
+    assert!(rt; held_in_each(rt.alloc(), zones, cores)? == (8 + 256, 8));
+    Ok(())
 }

@@ -6,7 +6,7 @@ ghost use Rattle.frame_zones.specs.Pairs.{ArePairOf};
 ghost use Rattle.frame_zones.specs.Zones.{AreCoresOf, IsOutOfItsZone};
 
 use super::calls::taken;
-use super::closings::held_in;
+use super::closings::held_in_each;
 use super::memory::{next_core, open_two};
 use frame_words::{Fault, Geometry, TakeFault};
 use frame_zones::{PairCore, Span, ZoneBlock, ZoneCore, Zones};
@@ -169,14 +169,7 @@ fn held_after(
     let Ok(cores) = zones.unpair(alloc, pairs) else {
         return Err(Fault::NoMemory);
     };
-    match zones.close(alloc, cores) {
-        Ok(images) if images.len() == 2 => Ok((
-            held_in(&images[0].image),
-            held_in(&images[1].image),
-        )),
-        Ok(_) => Err(Fault::BadRange),
-        Err(e) => Err(e.fault),
-    }
+    held_in_each(alloc, zones, cores)
 }
 
 #[test]
