@@ -11,6 +11,7 @@ pub mod Faults
 pub mod Places
 pub mod Laws
 pub mod Splits
+pub mod Joins
 pub mod Openings
 pub mod Parting
 pub mod Closing

@@ -8,6 +8,7 @@ mod free_counts;
 mod gives;
 mod homes;
 mod image;
+mod joins;
 mod kept_blocks;
 mod last_zone;
 mod laws;

@@ -1,12 +1,13 @@
 -- Single frames that rest with a core, and what each zone lends besides.
-use Rattle.std.specs.Prelude.{◌≡◌, ℕ, ℤ, pos, ◌-ℤ◌, ◌+◌, ◌<◌, Bool, ◌&&◌, nat_le, nat_lt, if◌then◌else◌, List, [], Some, length, ◌-◌, slice_get, slice_index_or}
+use Rattle.std.specs.Prelude.{◌≡◌, ℕ, ℤ, pos, ◌-ℤ◌, ◌+◌, ◌<◌, Option, None, IfSome, Bool, ◌&&◌, nat_le, nat_lt, if◌then◌else◌, List, [], Some, length, ◌-◌, slice_get, slice_index_or}
 use Rattle.std.specs.List.{All, sum_by}
 use Rattle.core_frames.specs.Cores.{lent_by}
 use Rattle.core_frames.specs.declared.shared.allocator.Core.{Core}
 use Rattle.frame_table.specs.declared.block.Block.{Block}
 use Rattle.frame_words.specs.Geometry.{child_frames}
 use Rattle.frame_zones.specs.Fills.{TakesMoreIn}
-use Rattle.frame_zones.specs.Zones.{zone_count, core_at, first_frame_of, AreCoresOf}
+use Rattle.frame_zones.specs.Zones.{zone_count, core_at, first_frame_of, first_frame_in, AreCoresOf, IsOutOfItsZone}
+use Rattle.frame_zones.specs.declared.block.ZoneBlock.{ZoneBlock}
 use Rattle.frame_zones.specs.declared.zones.Zones.{Zones}
 use Rattle.frame_zones.specs.declared.zones.ZoneCore.{ZoneCore}
 use Rattle.zone_slots.specs.Layouts.{Stretch, end_of_children}
@@ -77,6 +78,35 @@ pub record LendAsManyBesides (zs : Zones) (c : ZoneCore) (before : List SingleFr
   pub are_cores : AreCoresOf zs d
   pub are_singles : AreSingles zs after
   pub lent : (z : ℕ) (x : Core) → z < zone_count zs → lent_besides zs d after z x ≡ lent_besides zs c before z x
+
+-- 1 for the zone of the block, and 0 for each other
+abbrev pub block_in_zone : Zones → ZoneBlock → ℕ → ℕ
+block_in_zone zs b z = one_in zs z (first_frame_in zs b)
+
+-- how many blocks of a zone are in hand, where one may be
+abbrev pub in_hand : Zones → Option ZoneBlock → ℕ → ℕ
+in_hand zs None z = 0
+in_hand zs (Some b) z = block_in_zone zs b z
+
+-- two blocks went back or were joined: the cores are of these zones, what is in hand then is out, and besides what
+-- is in hand each zone lends as many blocks as before
+pub record GoBackOrJoin (zs : Zones) (c : ZoneCore) (first second : Option ZoneBlock) (d : ZoneCore)
+    (r : Option ZoneBlock) : Type 0 where
+  pub are_cores : AreCoresOf zs d
+  pub out : IfSome r (IsOutOfItsZone zs)
+  pub lent : (z : ℕ) (x : Core) → z < zone_count zs
+      → lent_by (core_at d z x) -ℤ pos (in_hand zs r z)
+      ≡ (lent_by (core_at c z x) -ℤ pos (in_hand zs first z)) -ℤ pos (in_hand zs second z)
+
+-- some frames left the list: they went back, or are in hand as one block; and each zone lends as many blocks besides
+-- as before
+pub record LeaveTheList (zs : Zones) (c : ZoneCore) (before : List SingleFrame) (d : ZoneCore)
+    (after : List SingleFrame) (r : Option ZoneBlock) : Type 0 where
+  pub are_cores : AreCoresOf zs d
+  pub are_singles : AreSingles zs after
+  pub out : IfSome r (IsOutOfItsZone zs)
+  pub lent : (z : ℕ) (x : Core) → z < zone_count zs
+      → lent_besides zs d after z x -ℤ pos (in_hand zs r z) ≡ lent_besides zs c before z x
 
 -- the right to a single frame was taken through the core
 pub record HasTakenSingle (zs : Zones) (c d : ZoneCore) (f : SingleFrame) : Type 0 where

@@ -108,6 +108,22 @@ impl FrameList {
         };
     }
 
+    /// Whether the 8 that came last look like all frames of one block, whatever their order.
+    #[inline(always)]
+    pub(crate) fn ends_in_one_block(&self) -> bool
+        requires { 8 ≤ length self.now.list.items }
+    {
+        let frames = self.list.as_slice();
+        let last = &frames[frames.len() - FLUSH..];
+        let block = last[0].frame / FLUSH as u32;
+        for i in 1..FLUSH {
+            if last[i].frame / FLUSH as u32 != block {
+                return false;
+            }
+        }
+        true
+    }
+
     /// Of a full list the 8 that came first stand last.
     pub(crate) fn turn(&mut self)
         requires { length self.old.list.items ≡ 128 }

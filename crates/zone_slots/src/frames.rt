@@ -7,7 +7,7 @@ ghost use Rattle.zone_slots.specs.FrameCalls.{resting_in, next_batch, IsSingleFo
 ghost use Rattle.zone_slots.specs.FrameCalls.{TakesSingle, TakesLastFrame, RestsLast, RefusesOne, RefusesSingle};
 
 use crate::core_state::CoreState;
-use crate::frame_list::{FLUSH, MOST_RESTING};
+use crate::frame_list::MOST_RESTING;
 use crate::single_frame::SingleFrame;
 use frame_words::TakeFault;
 
@@ -128,7 +128,7 @@ impl CoreState {
         self.rest.push(frame);
     }
 
-    // Gives the 8 frames back that came first.
+    // Gives the 8 frames back that came first, those that make up a block as one.
     fn flush(&mut self)
         requires { length (resting_in self.old) ≡ most_resting }
         ensures shared { SharesOne self.old self.new }
@@ -140,7 +140,7 @@ impl CoreState {
     {
         self.rest.turn();
         self.shared
-            .give_last(self.first, &mut self.core, &mut self.rest, FLUSH);
+            .give_together(self.first, &mut self.core, &mut self.rest);
     }
 
     /// Gives all frames back that rest with the core.

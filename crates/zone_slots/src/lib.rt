@@ -13,6 +13,7 @@ mod frame_list;
 mod frame_numbers;
 mod frames;
 mod free_counts;
+mod gathering;
 mod homes;
 mod image_parts;
 mod laws;

@@ -94,6 +94,29 @@ fn halves(
     both
 }
 
+// The block of both halves, which are no buddies the other way round.
+fn joined(
+    rt: &impl Abort,
+    zones: &Zones,
+    core: &mut ZoneCore,
+    lower: ZoneBlock,
+    upper: ZoneBlock,
+) -> ZoneBlock
+    requires core { AreCoresOf zones.now core.old }
+    requires lower { IsOutOfItsZone zones.now lower }
+    requires upper { IsOutOfItsZone zones.now upper }
+    ensures core { AreCoresOf zones.now core.new }
+    ensures block { IsOutOfItsZone zones.now result }
+{
+    let Err((upper, lower)) = zones.join(core, upper, lower) else {
+        panic!(rt; "the upper half is not the lower one");
+    };
+    let Ok(block) = zones.join(core, lower, upper) else {
+        panic!(rt; "they are buddies");
+    };
+    block
+}
+
 // The block, kept and handed out again.
 fn recalled(zones: &Zones, core: &mut ZoneCore, block: ZoneBlock) -> ZoneBlock
     requires core { AreCoresOf zones.now core.old }
@@ -106,12 +129,15 @@ fn recalled(zones: &Zones, core: &mut ZoneCore, block: ZoneBlock) -> ZoneBlock
 }
 
 #[test]
-fn a_block_is_split_kept_and_given(rt: HostRuntime) -> Result<(), Fail> {
+fn a_block_is_split_joined_kept_and_given(rt: HostRuntime) -> Result<(), Fail> {
     let (zones, _first, mut core) = open_for_two(rt.alloc(), 1)?;
     assert!(rt; zones.count() == 2);
     let Ok(block) = zones.take(&mut core, 8) else {
         return Err(Fail::from("a block"));
     };
+    let (low, high) = halves(&rt, &zones, &mut core, block);
+    let block = joined(&rt, &zones, &mut core, low, high);
+    assert!(rt; (zones.frame_of(&block), block.order()) == (8448, 8));
     let (low, high) = halves(&rt, &zones, &mut core, block);
     blocks_lie_in_zones(&zones, &low, &high);
     assert!(rt; (zones.frame_of(&low), low.order()) == (8448, 7));

@@ -8,29 +8,29 @@ use Rattle.zone_slots.specs.declared.memory.Memory.{Memory}
 use Rattle.zone_slots.proofs.Rested.{newer, turned_all, turned_count}
 use Rattle.zone_slots.proofs.core_state.CoreState.flush.Goals as goal
 
-pub give_last-requires-clause-rest : goal.give_last-requires-clause-rest
-give_last-requires-clause-rest c =
+pub give_together-requires-clause-rest : goal.give_together-requires-clause-rest
+give_together-requires-clause-rest c =
     subst (λ (m : Memory). AreSingles m.zones c.turn.new.self.list.items) (sym c.deref.ensures)
     (turned_all (zones_of c.args.self.now) 8 (resting_in c.args.self.now) c.turn.new.self.list.items c.turn.ensures.turned
     c.args.self.now.rests)
 
-pub give_last-requires-clause-enough : goal.give_last-requires-clause-enough
-give_last-requires-clause-enough c = omega (arith, c.turn.ensures.len, c.requires)
+pub give_together-requires-clause-enough : goal.give_together-requires-clause-enough
+give_together-requires-clause-enough c = omega (arith, c.turn.ensures.len, c.requires)
 
 pub returns-clause-lent : goal.returns-clause-lent
 returns-clause-lent c =
     let s = c.args.self.now in
-    let gives : LendAsManyBesides (zones_of s) s.core c.turn.new.self.list.items c.give_last.new.core c.give_last.new.rest.list.items =
-    subst (λ (m : Memory). LendAsManyBesides m.zones s.core c.turn.new.self.list.items c.give_last.new.core c.give_last.new.rest.list.items)
-    c.deref.ensures c.give_last.ensures.gives in
+    let gives : LendAsManyBesides (zones_of s) s.core c.turn.new.self.list.items c.give_together.new.core c.give_together.new.rest.list.items =
+    subst (λ (m : Memory). LendAsManyBesides m.zones s.core c.turn.new.self.list.items c.give_together.new.core c.give_together.new.rest.list.items)
+    c.deref.ensures c.give_together.ensures.gives in
     λ z x within. gives.lent z x within
     ∙ ap (λ n. lent_by (core_at s.core z x) -ℤ pos n)
     (turned_count (zones_of s) 8 z (resting_in s) c.turn.new.self.list.items c.turn.ensures.turned)
 
 pub returns-clause-rest : goal.returns-clause-rest
 returns-clause-rest c =
-    newer 8 (resting_in c.args.self.now) c.turn.new.self.list.items c.give_last.new.rest.list.items (omega (arith, c.requires))
-    c.turn.ensures.turned c.give_last.ensures.first
+    newer 8 (resting_in c.args.self.now) c.turn.new.self.list.items c.give_together.new.rest.list.items (omega (arith, c.requires))
+    c.turn.ensures.turned c.give_together.ensures.first
 
 pub returns-clause-less : goal.returns-clause-less
 returns-clause-less c =
