@@ -313,10 +313,10 @@ uint32_t llfree_home(llfree_core *handle);
 LLFREE_NODISCARD
 enum llfree_status llfree_set_home(llfree_core *handle, uint32_t zone);
 
-/* The number of free frames, by the counters of the children, four of them in one load. Exact while no other
- * thread is in a call (tested, not proved). Otherwise the children are read at different times, and frames that
- * a core is about to take or give count as held. Never above llfree_frames; 0 if the handle is closed. It
- * allocates nothing and never locks or waits. */
+/* The number of free frames, by the counters of the children, four of them in one load. Frames that rest with a
+ * core count as held (llfree_take_frame). Exact while no other thread is in a call (tested, not proved). Otherwise
+ * the children are read at different times, and frames that a core is about to take or give count as held. Never
+ * above llfree_frames; 0 if the handle is closed. It allocates nothing and never locks or waits. */
 uint32_t llfree_free_frames(llfree_core *handle);
 
 /* The number of free huge frames (children with all frames free), in the same way. A child that is cut off does

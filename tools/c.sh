@@ -109,6 +109,16 @@ sed -n 's/^From C .*; it prints `\(.*\)`:$/\1/p' "$root/README.md" >"$folder/rea
     fails 'README.md: not built'
 runs 'README.md' "$source"
 
+# two threads mail frames to each other; a frame in two hands is seen
+name='resting.c: by mail'
+"$cc" -O2 -Wall -Wextra -Werror -I"$root/include" -o "$folder/program" "$root/tools/c/resting.c" "$library" "$heap" -lpthread ||
+    fails "$name: not built"
+"$folder/program" 10000000 || fails "$name: failed"
+passes "$name: 10,000,000 frames each way"
+! "$folder/program" 1000000 twice 2>"$folder/log" || fails "$name: a frame in two hands: nothing is said"
+grep -q 'stamp_there == from' "$folder/log" || fails "$name: a frame in two hands: something else is said"
+passes "$name: a frame in two hands"
+
 # of programs that write the memory of their frames ThreadSanitizer and valgrind say races where nobody tells them who has
 # which frame, and where a frame is used behind its give
 source=$root/tools/c/told.c

@@ -1,5 +1,10 @@
 /* The library for C with single frames that rest with cores: every status, which frame comes next, what comes to rest
- * and goes back and when, what other cores see of it, closings, and frames that are taken here and given there. */
+ * and goes back and when, what other cores see of it, closings, and frames that are taken here and given there.
+ *
+ *     resting [FRAMES [twice]]
+ *
+ * With a word just two threads run. Each mails so many frames to the other one, in whose memory stands who mailed them;
+ * with `twice` each 64th is also given by its sender, so that it is in two hands, which has to be seen. */
 #include "check.h"
 #include <pthread.h>
 #include <sched.h>
@@ -142,6 +147,42 @@ static void borders(void)
     }
 }
 
+/* The 8 that go back are free, each by itself, and no other frame is: in whatever order they came, within a block of
+ * 8 and over borders of one, of a word and of a child, side by side and apart. */
+static void together(void)
+{
+    static const uint32_t ways[][FLUSH] = {
+        { 0, 1, 2, 3, 4, 5, 6, 7 }, { 7, 6, 5, 4, 3, 2, 1, 0 }, { 1, 0, 3, 2, 5, 4, 7, 6 }, { 4, 5, 6, 7, 0, 1, 2, 3 },
+        { 0, 2, 4, 6, 1, 3, 5, 7 }, { 0, 1, 2, 3, 8, 9, 10, 11 }, { 1, 2, 3, 4, 5, 6, 7, 8 },
+        { 60, 61, 62, 63, 64, 65, 66, 67 }, { 511, 510, 509, 508, 515, 514, 513, 512 },
+        { 0, 64, 128, 192, 256, 320, 384, 448 }, { 16, 17, 40, 41, 42, 43, 90, 600 }
+    };
+    static llfree_block blocks[2 * 512];
+    llfree_core h[2];
+    uint32_t free;
+
+    for (size_t way = 0; way < sizeof ways / sizeof *ways; way++) {
+        open_two(h, FRAMES);
+        for (uint32_t i = 0; i < 2 * 512; i++)
+            CHECK(llfree_take_block_at(&h[0], i, 0, &blocks[i]) == LLFREE_OK);
+        for (int i = 0; i < FLUSH; i++)
+            give(&h[0], &blocks[ways[way][i]]);
+        for (uint32_t i = 2 * 512 - MOST; llfree_resting(&h[0]) < MOST; i++)
+            give(&h[0], &blocks[i]);
+        free = llfree_free_frames(&h[1]);
+        CHECK(free == FRAMES - 2 * 512);
+        give(&h[0], &blocks[2 * 512 - 1]);
+        CHECK(llfree_resting(&h[0]) == MOST - FLUSH + 1 && llfree_free_frames(&h[1]) == free + FLUSH);
+        for (int i = 0; i < FLUSH; i++)
+            CHECK(llfree_take_block_at(&h[0], ways[way][i], 0, &blocks[ways[way][i]]) == LLFREE_OK);
+        CHECK(llfree_free_frames(&h[1]) == free);
+        for (uint32_t i = 0; i < 2 * 512; i++)
+            if (blocks[i].live)
+                give(&h[1], &blocks[i]);
+        close_two(h);
+    }
+}
+
 /* Where none rests up to 16 of the core's own tree come, and where that has none, one alone. They count as held. Of a
  * fresh memory all of a tree are had in order, and before the next one. */
 static void batches(void)
@@ -268,6 +309,78 @@ static void small_batches(void)
         CHECK(llfree_take_frame(&h[0], &(llfree_block) LLFREE_EMPTY) == LLFREE_NO_BLOCK && llfree_resting(&h[0]) == 0);
         close_two(h);
     }
+}
+
+/* Memories that end at a border of a word, a child or a tree, or a frame before or behind it; with each number of frames
+ * that may rest. All are had, each once, and those that rest come back. */
+static void ends(void)
+{
+    static const uint32_t borders[] = { 1, 64, 128, 448, 512, 576, 1024, 4096, FRAMES };
+    static llfree_block blocks[FRAMES + 2];
+    static unsigned char seen[FRAMES + 1];
+
+    for (size_t b = 0; b < sizeof borders / sizeof *borders; b++)
+        for (uint32_t frames = borders[b] > 1 ? borders[b] - 1 : 1; frames <= borders[b] + 1; frames++)
+            for (uint32_t resting = 0; resting <= MOST && resting <= frames; resting++) {
+                llfree_core h[2];
+                open_two(h, frames);
+                memset(seen, 0, sizeof seen);
+                for (uint32_t i = 0; i < frames; i++) {
+                    take(&h[0], &blocks[i]);
+                    CHECK(blocks[i].frame < frames && !seen[blocks[i].frame]++);
+                }
+                CHECK(llfree_resting(&h[0]) == 0 && llfree_free_frames(&h[0]) == 0);
+                for (uint32_t i = 0; i < resting; i++)
+                    give(&h[1], &blocks[i]);
+                CHECK(llfree_resting(&h[1]) == resting && llfree_free_frames(&h[0]) == 0);
+                CHECK(llfree_take_frame(&h[0], &blocks[frames]) == LLFREE_NO_BLOCK);
+                for (uint32_t i = resting; i-- > 0;) {
+                    take(&h[1], &blocks[i]);
+                    CHECK(blocks[i].frame < frames && seen[blocks[i].frame] == 1);
+                }
+                CHECK(llfree_resting(&h[1]) == 0);
+                for (uint32_t i = 0; i < frames; i++)
+                    give(&h[i < resting], &blocks[i]);
+                CHECK(llfree_resting(&h[1]) == resting);
+                llfree_close(&h[1]);
+                llfree_drain(&h[0]);
+                CHECK(llfree_free_frames(&h[0]) == frames && llfree_free_huge(&h[0]) == frames / 512);
+                llfree_close(&h[0]);
+            }
+}
+
+/* Where the free frames lie on both sides of a border of a word, a child or a tree, few to more than a batch, just these
+ * are had, in each tree the lowest first. */
+static void across(void)
+{
+    enum { TREE = 8 * 512, WORD = 64 };
+    static const uint32_t widths[] = { 1, 4, 7, 8, 9, REFILL, REFILL + 1 };
+    static llfree_block blocks[FRAMES];
+    llfree_block one = LLFREE_EMPTY;
+    llfree_core h[2];
+
+    open_two(h, FRAMES);
+    for (uint32_t i = 0; i < FRAMES; i++) {
+        take(&h[0], &one);
+        blocks[one.frame] = one;
+        one = (llfree_block) LLFREE_EMPTY;
+    }
+    for (uint32_t border = WORD; border < FRAMES; border += WORD)
+        for (size_t w = 0; w < sizeof widths / sizeof *widths; w++) {
+            uint32_t from = border - widths[w], to = border + widths[w];
+            uint32_t next[] = { from, from < TREE ? TREE : from };
+            for (uint32_t f = from; f < to; f++)
+                CHECK(llfree_give_block(&h[1], &blocks[f]) == LLFREE_OK);
+            for (uint32_t i = from; i < to; i++) {
+                take(&h[1], &one);
+                CHECK(one.frame < to && one.frame == next[one.frame / TREE]++ && !blocks[one.frame].live);
+                CHECK(llfree_resting(&h[1]) < REFILL);
+                blocks[one.frame] = one;
+                one = (llfree_block) LLFREE_EMPTY;
+            }
+            CHECK(llfree_take_frame(&h[1], &one) == LLFREE_NO_BLOCK && llfree_free_frames(&h[0]) == 0);
+        }
+    close_two(h);
 }
 
 /* A take is refused only where nothing rests; what rests is hidden from larger takes and from others till a drain. */
@@ -595,6 +708,89 @@ static void threads(void)
     llfree_close(&cores[0]);
 }
 
+static uint64_t mailed = ROUNDS;
+static bool is_given_twice;
+static void *memory;
+
+/* Who mailed the frame, as which of its letters; never 0. */
+static uint64_t stamp_of(size_t sender, uint64_t letter)
+{
+    return letter * 2 + sender + 1;
+}
+
+/* The frame's memory bears the one stamp, and then the other one. A word of each page, of many lines of a cache. */
+static void stamp(const llfree_block *block, uint64_t from, uint64_t to)
+{
+    CHECK(block->live && block->order == 0 && block->frame < FRAMES);
+    char *page = llfree_address(memory, block->frame);
+    uint64_t stamp_there = atomic_exchange((_Atomic uint64_t *)(page + block->frame % 64 * 64), to);
+    CHECK(stamp_there == from);
+}
+
+static bool mails(size_t me, uint64_t letter)
+{
+    struct ring *ring = &rings[me];
+    llfree_block block = LLFREE_EMPTY;
+
+    if (atomic_load(&ring->put) - atomic_load(&ring->got) == RING)
+        return false;
+    enum llfree_status status = llfree_take_frame(&cores[me], &block);
+    CHECK(status == LLFREE_OK || status == LLFREE_NO_BLOCK || status == LLFREE_CONTENDED);
+    if (status != LLFREE_OK)
+        return false;
+    stamp(&block, 0, stamp_of(me, letter));
+    llfree_block copy = block;
+    if (is_given_twice && letter % 64 == 63)
+        give(&cores[me], &copy);
+    return puts_block(ring, &block);
+}
+
+static bool opens(size_t me, uint64_t letter)
+{
+    llfree_block block = LLFREE_EMPTY;
+
+    if (!gets_block(&rings[1 - me], &block))
+        return false;
+    stamp(&block, stamp_of(1 - me, letter), 0);
+    give(&cores[me], &block);
+    return true;
+}
+
+/* In bursts, so that what rests runs out, and overflows. */
+static void *work_by_mail(void *handle)
+{
+    size_t me = (size_t)((llfree_core *)handle - cores);
+    uint64_t x = 88172645463325252ull + me * 7919;
+
+    for (uint64_t put = 0, got = 0; put < mailed || got < mailed;) {
+        uint64_t before = put + got;
+        for (uint64_t most = next_random(&x) % RING; most > 0 && put < mailed && mails(me, put); most--)
+            put++;
+        for (uint64_t most = next_random(&x) % RING; most > 0 && got < mailed && opens(me, got); most--)
+            got++;
+        if (put + got == before)
+            sched_yield();
+    }
+    return NULL;
+}
+
+static void threads_by_mail(void)
+{
+    pthread_t ids[2];
+
+    memory = calloc(FRAMES, LLFREE_FRAME_BYTES);
+    CHECK(memory != NULL && llfree_open_unchecked(cores, 2, FRAMES, NULL, 0) == LLFREE_OK);
+    for (int i = 0; i < 2; i++)
+        CHECK(pthread_create(&ids[i], NULL, work_by_mail, &cores[i]) == 0);
+    for (int i = 0; i < 2; i++)
+        CHECK(pthread_join(ids[i], NULL) == 0);
+    llfree_close(&cores[1]);
+    llfree_drain(&cores[0]);
+    CHECK(llfree_free_frames(&cores[0]) == FRAMES && llfree_free_huge(&cores[0]) == FRAMES / 512);
+    llfree_close(&cores[0]);
+    free(memory);
+}
+
 static _Atomic uint32_t crossing[RING];
 
 /* By number: each frame is left for any thread, and what was left there before is given; of the calls a fourth lets
@@ -670,15 +866,24 @@ static void mixed(void)
     close_two(h);
 }
 
-int main(void)
+int main(int count, char **words)
 {
+    if (count > 1) {
+        mailed = strtoull(words[1], NULL, 10);
+        is_given_twice = count > 2;
+        threads_by_mail();
+        return 0;
+    }
     statuses();
     last_first();
     borders();
+    together();
     batches();
     scattered();
     apart();
     small_batches();
+    ends();
+    across();
     refusals();
     closings();
     numbers();
@@ -686,6 +891,7 @@ int main(void)
     zones();
     mixed();
     threads();
+    threads_by_mail();
     threads_by_number();
     puts("all checks passed");
     return 0;
