@@ -17,7 +17,7 @@ use Rattle.plain_moves.specs.Plain.{plain_key}
 use Rattle.plain_moves.specs.PlainState.{key_by, words_by, Loses}
 use Rattle.script_moves.specs.Plays.{PlaysOn, LoadsIt}
 use Rattle.script_moves.specs.ScriptState.{at_by, stop_in, Meets, MeetsFirst, MeetsNext, StrangerMay}
-use Rattle.script_moves.specs.Worked.{worked_script, first_tree, five_less, five_paid, StandsFirst, StandsSecond}
+use Rattle.script_moves.specs.Worked.{worked_script, first_tree_word, five_less, five_paid, StandsFirst, StandsSecond}
 use Rattle.script_moves.proofs.Cues.{one_cue, same_at}
 
 -- the cue at this place of the script was met
@@ -134,11 +134,11 @@ module _ (a b : Stage) (found : ℕ) (stands : StandsFirst a) (plays : PlaysOn f
   unfolding tree_place word_count
   within = omega (arith, a.plain.length, a.plain.geometry.some_children)
 
-  pub first_found : found ≡ five_less (first_tree a.plain)
+  pub first_found : found ≡ five_less (first_tree_word a.plain)
   first_found =
       sym (plays.own.words tt).0
       ∙ (λ i. slice_index (pays.0 i) (tree_place (pays.1 i) 0))
-      ∙ get_or-set_same (words_by a.plain) (tree_place (key_by a.plain) 0) (five_less (first_tree a.plain)) 0 within
+      ∙ get_or-set_same (words_by a.plain) (tree_place (key_by a.plain) 0) (five_less (first_tree_word a.plain)) 0 within
 
   pub first_stop : (image : Contents) × ((stop_in b ≡ Some image) × (image.words ≡ words_by a.plain))
   first_stop =

@@ -22,8 +22,8 @@ worked_script =
     ∷ []
 
 -- the word of tree 0
-abbrev pub first_tree : PlainMoves → ℕ
-first_tree m = slice_index (words_by m) (tree_place (key_by m) 0)
+abbrev pub first_tree_word : PlainMoves → ℕ
+first_tree_word m = slice_index (words_by m) (tree_place (key_by m) 0)
 
 -- it counts five free frames less
 abbrev pub five_less : ℕ → ℕ
@@ -31,14 +31,14 @@ five_less word = entry_word (free_in word - 5) (flag_in word)
 
 -- the words with five free frames of tree 0 less
 abbrev pub five_paid : PlainMoves → List ℕ
-five_paid m = slice_set (words_by m) (tree_place (key_by m) 0) (five_less (first_tree m))
+five_paid m = slice_set (words_by m) (tree_place (key_by m) 0) (five_less (first_tree_word m))
 
 -- the script stands before move 0, tree 0 has five free frames, and stranger 0 has paid none
 pub record StandsFirst (m : Stage) : Type 0 where
   pub script : m.cues.items ≡ worked_script
   pub at : at_by m ≡ 0
   pub skipped : m.skipped ≡ 0
-  pub enough : 5 ≤ free_in (first_tree m.plain)
+  pub enough : 5 ≤ free_in (first_tree_word m.plain)
   pub stranger : Party
   pub is_first : slice_get (parties_by m.plain) 0 ≡ Some stranger
   pub idle : stranger.paid ≡ None

@@ -26,7 +26,7 @@ ghost use Rattle.script_moves.specs.ScriptMoves.{
 ghost use Rattle.script_moves.specs.Worked.{
   StandsFirst,
   StandsSecond,
-  first_tree,
+  first_tree_word,
   five_less,
   five_paid,
 };
@@ -110,7 +110,7 @@ pub fn a_script_is_followed()
         → words_by (plain_by new) ≡ five_paid (plain_by old) }
     ensures found { (old new : ScriptMoves) (found : ℕ) → StandsFirst (stage_by old)
         → Plays false (LoadsIt (Place.Tree 0) found) old new
-        → found ≡ five_less (first_tree (plain_by old)) }
+        → found ≡ five_less (first_tree_word (plain_by old)) }
     ensures stopped { (old new : ScriptMoves) (found : ℕ) → StandsFirst (stage_by old)
         → Plays false (LoadsIt (Place.Tree 0) found) old new
         → (image : Contents) × ((stop_by new ≡ Some image)
