@@ -68,6 +68,10 @@ def main():
                 write_csv(lines)
             else:
                 write_table(lines, given.only, given.measure)
+        sys.stdout.flush()
+    except BrokenPipeError:
+        sys.stdout = None
+        sys.exit('paper: nobody reads the table any more')
     except (OSError, ValueError) as error:
         sys.exit(f'paper: {given.file}: {error}')
 

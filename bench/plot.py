@@ -324,7 +324,11 @@ def main():
             if name not in groups:
                 raise Fault(f'there is no group {name}; there are {" ".join(groups)}')
         groups = {name: groups[name] for name in given.only or groups}
-        print('\n'.join(plot(said, groups, given.slide)))
+        print('\n'.join(plot(said, groups, given.slide)), flush=True)
+    except BrokenPipeError:
+        sys.stdout = None
+        print('plot: nobody reads the plot any more', file=sys.stderr)
+        return 1
     except Fault as fault:
         print(f'plot: {fault}', file=sys.stderr)
         return 1
