@@ -6,9 +6,9 @@
 #     bench/replay.sh [RECORDING.gz|RECORDING.xz]
 # A round is a tenth of a second of the recording, so threads seldom wait for each other. A time is the median of
 # REPEATS repeats, in nanoseconds of one thread for a take or a give; `times` is how many times as long as the library;
-# huge are the huge frames left free at the end, of CHILDREN (64, or as many as the recording needs), in the mean, where frames that rest or lie in lists count
-# as free; refused are the takes refused by the five, in all repeats. UNDER stands before the program, as in
-# 'chrt -f 10'.
+# huge are the huge frames left free at the end, of CHILDREN (64, doubled until the recording fits), in the mean, where
+# frames that rest or lie in lists count as free; refused are the takes refused by the five, in all repeats. UNDER
+# stands before the program, as in 'chrt -f 10'.
 set -eu
 unset CDPATH MAKEFLAGS MFLAGS
 here=$(cd "$(dirname "$0")" && pwd)
@@ -29,7 +29,8 @@ for threads in 1 2 3 4; do
     "$unpack" -dc "$recording" | "$top/tools/kernel_trace.py" --cores "$threads" --slice 100000 \
         >"$folder/trace" 2>"$folder/counts" || { cat "$folder/counts" >&2; exit 1; }
     least=$(grep -om 1 'so [0-9,]* child' "$folder/counts" | tr -dc 0-9)
-    children=${CHILDREN:-$((least > 64 ? least : 64))}
+    children=${CHILDREN:-64}
+    while [ -z "${CHILDREN:-}" ] && [ "$children" -lt "$least" ]; do children=$((2 * children)); done
     ${UNDER:-} "$folder/replay" "$threads" "$children" "$repeats" <"$folder/trace" >>"$folder/lines"
 done
 shows
