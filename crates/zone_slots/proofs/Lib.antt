@@ -12,7 +12,7 @@ pub mod Rights
 pub mod Reopened
 pub mod KeptHomes
 pub mod Rested
-pub mod Gathered
+pub mod Joined
 pub mod Batches
 pub mod Parted
 pub mod FrameNumbers

@@ -1,4 +1,4 @@
-use Rattle.zone_slots.proofs.Gathered.{joined_over}
+use Rattle.zone_slots.proofs.Joined.{joined_over}
 use Rattle.zone_slots.proofs.memory.Memory.join_either.Goals as goal
 
 pub returns-in-Ok : goal.returns-in-Ok

@@ -2,7 +2,7 @@ use Rattle.std.proofs.Common.{None, Option, sym, subst, Some, IfSome}
 use Rattle.frame_zones.specs.Zones.{IsOutOfItsZone}
 use Rattle.frame_zones.specs.declared.block.ZoneBlock.{ZoneBlock}
 use Rattle.zone_slots.specs.Resting.{GoBackOrJoin}
-use Rattle.zone_slots.proofs.Gathered.{first_back, second_back}
+use Rattle.zone_slots.proofs.Joined.{first_back, second_back}
 use Rattle.zone_slots.proofs.memory.Memory.join_or_give.Goals as goal
 
 pub returns-in-Some-None : goal.returns-in-Some-None

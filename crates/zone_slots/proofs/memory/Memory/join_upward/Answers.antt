@@ -1,7 +1,7 @@
 use Rattle.std.proofs.Common.{subst}
 use Rattle.frame_zones.specs.declared.block.ZoneBlock.{ZoneBlock}
 use Rattle.zone_slots.specs.Uses.{GivesInZone}
-use Rattle.zone_slots.proofs.Gathered.{all_stay, both_back, joined_up}
+use Rattle.zone_slots.proofs.Joined.{all_stay, both_back, joined_up}
 use Rattle.zone_slots.proofs.memory.Memory.join_upward.Goals as goal
 
 pub returns-in-Ok : goal.returns-in-Ok

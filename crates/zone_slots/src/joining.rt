@@ -30,14 +30,14 @@ impl Memory {
             self.give_last(known, core, rest, FLUSH);
             return;
         }
-        if let Some(block) = self.gather(known, core, rest, FLUSH_ORDER) {
+        if let Some(block) = self.join_last(known, core, rest, FLUSH_ORDER) {
             let _given = self.give_to(core, block);
         }
     }
 
     // So many of the frames that came last as a block of the order has leave the list. Those that make
     // up one are handed out as such, and the others are given.
-    fn gather(
+    fn join_last(
         &self,
         known: FirstZone,
         core: &mut ZoneCore,
@@ -58,8 +58,8 @@ impl Memory {
             let second = self.lift_one(known, rest);
             return self.join_either(core, first, second);
         }
-        let first = self.gather(known, core, rest, order - 1);
-        let second = self.gather(known, core, rest, order - 1);
+        let first = self.join_last(known, core, rest, order - 1);
+        let second = self.join_last(known, core, rest, order - 1);
         self.join_or_give(core, first, second)
     }
 

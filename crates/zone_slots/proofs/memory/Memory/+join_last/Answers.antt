@@ -1,8 +1,8 @@
 use Rattle.std.proofs.Common.{Some, ◌-◌, ◌^◌, ◌<◌, length, arith, ap, ◌∙◌}
 use Rattle.std.proofs.lemmas.List.{length-take}
 use Rattle.zone_slots.proofs.Rested.{popped_all}
-use Rattle.zone_slots.proofs.Gathered.{one_lifted, left_together, twice, halves}
-use Rattle.zone_slots.proofs.memory.Memory.+gather.Goals as goal
+use Rattle.zone_slots.proofs.Joined.{one_lifted, left_together, twice, halves}
+use Rattle.zone_slots.proofs.memory.Memory.+join_last.Goals as goal
 
 pub lift_one-second-requires-clause-rest : goal.lift_one-second-requires-clause-rest
 lift_one-second-requires-clause-rest t c =
@@ -27,8 +27,8 @@ returns-then-order-eq1-clause-leave t c =
     second.ensures.out)
     c.join_either.ensures
 
-pub gather-first-requires : goal.gather-first-requires
-gather-first-requires t c =
+pub join_last-first-requires : goal.join_last-first-requires
+join_last-first-requires t c =
     let more : 1 < c.args.order = omega (arith, c.if-order-eq1.false, c.requires.some) in
     let some : 0 < c.args.order = omega (arith, more) in
     let twofold = halves c.args.order some in (
@@ -36,28 +36,28 @@ gather-first-requires t c =
       (c.requires.known, (c.requires.core, (c.requires.rest, omega (arith, twofold, c.requires.enough)))),
     )
 
-pub gather-second-requires : goal.gather-second-requires
-gather-second-requires t c =
+pub join_last-second-requires : goal.join_last-second-requires
+join_last-second-requires t c =
     let more : 1 < c.args.order = omega (arith, c.if-order-eq1.false, c.requires.some) in
     let some : 0 < c.args.order = omega (arith, more) in
     let twofold = halves c.args.order some in
-    let left = ap length c.gather-first.ensures.first ∙ length-take _ _ in (
+    let left = ap length c.join_last-first.ensures.first ∙ length-take _ _ in (
       omega (arith, some, c.decreases),
       (
         c.requires.known,
-        (c.gather-first.ensures.leave.are_cores, (c.gather-first.ensures.leave.are_singles, omega (arith, twofold, left, c.requires.enough))),
+        (c.join_last-first.ensures.leave.are_cores, (c.join_last-first.ensures.leave.are_singles, omega (arith, twofold, left, c.requires.enough))),
       ),
     )
 
 pub returns-clause-leave : goal.returns-clause-leave
 returns-clause-leave t c =
-    left_together c.args.self.now.zones c.args.core.now c.gather-first.new.core c.gather-second.new.core c.join_or_give.new.core
-    c.args.rest.now.list.items c.gather-first.new.rest.list.items c.gather-second.new.rest.list.items c.gather-first.result
-    c.gather-second.result c.join_or_give.result c.gather-first.ensures.leave c.gather-second.ensures.leave c.join_or_give.ensures
+    left_together c.args.self.now.zones c.args.core.now c.join_last-first.new.core c.join_last-second.new.core c.join_or_give.new.core
+    c.args.rest.now.list.items c.join_last-first.new.rest.list.items c.join_last-second.new.rest.list.items c.join_last-first.result
+    c.join_last-second.result c.join_or_give.result c.join_last-first.ensures.leave c.join_last-second.ensures.leave c.join_or_give.ensures
 
 pub returns-clause-first : goal.returns-clause-first
 returns-clause-first t c =
     let more : 1 < c.args.order = omega (arith, c.if-order-eq1.false, c.requires.some) in
     let some : 0 < c.args.order = omega (arith, more) in
-    twice (2 ^ (c.args.order - 1)) (2 ^ c.args.order) c.args.rest.now.list.items c.gather-first.new.rest.list.items
-    c.gather-second.new.rest.list.items (halves c.args.order some) c.gather-first.ensures.first c.gather-second.ensures.first
+    twice (2 ^ (c.args.order - 1)) (2 ^ c.args.order) c.args.rest.now.list.items c.join_last-first.new.rest.list.items
+    c.join_last-second.new.rest.list.items (halves c.args.order some) c.join_last-first.ensures.first c.join_last-second.ensures.first
