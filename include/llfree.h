@@ -29,7 +29,7 @@
  *     exception) and calls nothing of this header. Unchecked.
  *
  * A take, a give, a split or a drain allocates nothing (tested, not proved). It needs less than 1 KiB of stack, an
- * opening or a closing with an image less than 6 KiB (measured, not proved). The code is for x86-64 processors
+ * opening or a closing with an image less than 7 KiB (measured, not proved). The code is for x86-64 processors
  * with popcnt, in kernels too.
  */
 #ifndef LLFREE_H
