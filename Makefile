@@ -17,7 +17,7 @@ bench: llfree_bench
 examples: library ; $(MAKE) -C examples/c
 gate: ; .ci/run
 clean: ; rm -rf build .git/proved
-pages: ; tools/definitions.py && tools/contracts.py && man/pages.py <include/llfree.h >man/llfree.3 && tools/readmes.py
+pages: ; tools/definitions.py --strict && tools/contracts.py && man/pages.py <include/llfree.h >man/llfree.3 && tools/readmes.py
 
 # What is installed below PREFIX, as FROM:TO. The archive has a heap over malloc; pkg-config and CMake find it.
 PREFIX ?= /usr/local
