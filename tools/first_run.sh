@@ -41,7 +41,7 @@ rows() {
 fresh() {
     rm -rf "$tree" "$work"/hook.*
     mkdir -p "$tree"/{tools,.git,.ci,docs,man,include,bindings/rust,crates/low/must-fail}
-    (cd "$root" && cp --parents llfree Makefile VERSION HANDLES .ci/run tools/prove.py "$tree")
+    (cd "$root" && cp --parents llfree Makefile VERSION HANDLES .ci/run tools/{prove,mutants}.py "$tree")
     echo 'stand-in logic 1' | tee "$tree/README.md" >"$kit/KIT-ID"
     printf '%s\n' 'low: ' 'mid: low # and no more' 'other: low' 'llfree: mid low' 'llfree_c staticlib: mid low' >"$tree/crates.txt"
     for name in low mid other llfree llfree_c; do
@@ -69,7 +69,7 @@ stopped() {
 gate() {
     fresh
     : | tee "$tree/include/llfree.h" "$tree/crates/low/must-fail/one.edit" >"$work/hook.ci"
-    for name in $(grep -ohE '(tools|man|bindings/rust)/\w+\.(sh|py)' "$tree"/{.ci/run,Makefile} | grep -v prove); do
+    for name in $(grep -ohE '(tools|man|bindings/rust)/\w+\.(sh|py)' "$tree"/{.ci/run,Makefile} | grep -vE '(prove|mutants)\.py'); do
         printf '#!/bin/sh\necho "1 passed, 0 failed"\n' >"$tree/$name" && chmod +x "$tree/$name"
     done
     [ $# = 0 ] || printf '#!/bin/sh\n%s\n' "${2:-}" >"$tree/$1"
@@ -128,17 +128,17 @@ hardly any room|edits low/src/lib.rt room; words=(bash -c 'ulimit -v 2900; exec 
 two at once|words=(sh -c 'make -s library & make -s library && wait $!')|low mid llfree_c
 make NAME|words=(make -s -k other low)|other
 make -n|edits low/src/lib.rt last; words=(sh -c 'make -s -n >build/said; test $(grep -c prove.py build/said) = 4')|
-the gate: all passes|gate|=0, 18 passed, 0 failed, 0 skipped
+the gate: all passes|gate|=0, 19 passed, 0 failed, 0 skipped
 make takes what it proved|words=(make -s library)|llfree_c
-the gate: a source changes|gate; hooks ci 'echo mad >crates/low/src/lib.rt'|=0, 18 passed, 0 failed, 0 skipped
+the gate: a source changes|gate; hooks ci 'echo mad >crates/low/src/lib.rt'|=0, 19 passed, 0 failed, 0 skipped
 make takes nothing then|words=(make -s library)|low mid llfree_c
-the gate: a part is killed|gate tools/steps.sh 'kill -9 $$'|=1, 17 passed, 1 failed, 0 skipped
-the gate: a part is missing|gate; rm "$tree/tools/c.sh"|=1, 17 passed, 1 failed, 0 skipped
-the gate: a part counts what failed, and ends well|gate tools/c.sh 'echo 5 passed, 2 failed'|=1, 22 passed, 2 failed, 0 skipped
-the gate: a part counts nothing, and ends badly|gate tools/c.sh 'echo 1 passed, 0 failed; exit 3'|=1, 18 passed, 1 failed, 0 skipped
-the gate: a mutant that fits no more|gate crates/low/must-fail/two.edit|=1, 18 passed, 1 failed, 0 skipped
-the gate: a tool is missing|gate tools/c.sh 'echo "skipped: this, for want of that (those)"; echo 0 passed, 0 failed'|=0, skipped: this, for want of that (those);17 passed, 0 failed, 1 skipped
-the gate: a page is another|gate tools/definitions.py 'echo new >docs/new'|=1, 17 passed, 1 failed, 0 skipped
+the gate: a part is killed|gate tools/steps.sh 'kill -9 $$'|=1, 18 passed, 1 failed, 0 skipped
+the gate: a part is missing|gate; rm "$tree/tools/c.sh"|=1, 18 passed, 1 failed, 0 skipped
+the gate: a part counts what failed, and ends well|gate tools/c.sh 'echo 5 passed, 2 failed'|=1, 23 passed, 2 failed, 0 skipped
+the gate: a part counts nothing, and ends badly|gate tools/c.sh 'echo 1 passed, 0 failed; exit 3'|=1, 19 passed, 1 failed, 0 skipped
+the gate: a mutant that fits no more|gate crates/low/must-fail/two.edit|=1, 19 passed, 1 failed, 0 skipped
+the gate: a tool is missing|gate tools/c.sh 'echo "skipped: this, for want of that (those)"; echo 0 passed, 0 failed'|=0, skipped: this, for want of that (those);18 passed, 0 failed, 1 skipped
+the gate: a page is another|gate tools/definitions.py 'echo new >docs/new'|=1, 18 passed, 1 failed, 0 skipped
 kernels, with MAKEFLAGS|cp "$root/tools/kernel.sh" "$tree/tools"; rm "$tree/tools/kernel_check.sh"; for it in objdump nm readelf; do ln -sf /bin/true "$kit/bin/$it"; done; words=(env MAKEFLAGS=-n tools/kernel.sh)|=1, 0 passed, 1 failed
 ROWS
 

@@ -1,0 +1,138 @@
+#!/usr/bin/env python3
+"""The kit's rt, but one check tries many mutants of a crate. A check reads all that a crate stands on before it proves
+anything, so a check for each mutant was most of the gate.
+
+    tools/mutants.py ci                 as `rt ci`
+    tools/mutants.py must-fail NAME..   as `rt must-fail NAME..`
+
+Together are mutants of different functions, each of nothing but bodies. The proof of a function sees no other's body,
+so a goal of one is refused whatever stands in the others. A mutant is refused where a goal of its own function is: left
+open, or not met by the answer that stands for it. That its function calls one that is not proved does not count. Each
+mutant that was not refused so is tried alone, by rt, which judges then.
+"""
+import inspect
+import os
+import re
+import shutil
+import sys
+import tempfile
+import types
+
+HEAD = re.compile(r'( *)(?:pub(?:\(.*?\))? )?(?:unsafe )?(?:extern "C" )?fn (\w+)')
+CLAUSE = re.compile(r' *(requires|ensures|ghost)\b')
+GOAL = re.compile(r'note: (?:\./)?(src/\S+?):(\d+):\d+: (?:it is not proved that|`search` found no proof)')
+ANSWER = re.compile(r'(?:\./)?proofs/(\S+)/\w+\.antt:\d+:\d+: error: `[^`]+`: ')
+# what a proof file says that names a thing which the edit took away
+NAMES = re.compile(r'has no field|is not in scope|has no `|was not admitted')
+
+
+def load():
+    """The kit's rt, as a module."""
+    rt = types.ModuleType('rt')
+    rt.__file__ = os.path.realpath(shutil.which('rt') or sys.exit('rt of the Rattle kit is not on the PATH'))
+    with open(rt.__file__, encoding='utf-8') as file:
+        exec(compile(file.read(), rt.__file__, 'exec'), rt.__dict__)  # pylint: disable=exec-used
+    return rt
+
+
+def lines_of(path):
+    with open(path, encoding='utf-8') as file:
+        return file.read().split('\n')
+
+
+def function_at(lines, at):
+    """First line, last line and name of the function in whose body line `at` stands, with what heads the function."""
+    for start in range(at, -1, -1):
+        head = HEAD.match(lines[start])
+        if head:
+            rest, first = range(start, len(lines)), start
+            opens = next((it for it in rest if lines[it] == head[1] + '{'
+                          or lines[it].endswith(' {') and not CLAUSE.match(lines[it])), at)
+            last = next((it for it in rest if lines[it].startswith(head[1] + '}')), 0)
+            while first and re.search('[^{}]$', lines[first - 1]):
+                first -= 1
+            return (first, last, head[2]) if opens < at < last else None
+    return None
+
+
+def functions_of(edit, folder):
+    """The functions of whose bodies a mutant changes a line each; none where it changes anything else."""
+    found, path, lines = set(), '', []
+    for word, _, text in (it.partition(': ') for it in lines_of(edit)):
+        if word == 'file':
+            path, lines = text.strip(), lines_of(f'{folder}/{text.strip()}')
+        elif word == 'old':
+            places = [at for at, it in enumerate(lines) if text in it]
+            function = function_at(lines, places[0]) if len(places) == 1 and path.startswith('src/') else None
+            if not function:
+                return set()
+            found.add((path, *function))
+    return found
+
+
+def refusal(said, functions, folder):
+    """The first line that refuses a goal of these functions, or nothing."""
+    for path, first, last, name in functions:
+        is_one = sum(1 for it in map(HEAD.match, lines_of(f'{folder}/{path}')) if it and it[2] == name) == 1
+        proofs = re.compile(rf'{re.escape(re.sub("^src/|(/mod)?.rt$", "", path))}/(\w+/)?{name}')
+        for line in said:
+            goal, answer = GOAL.match(line), ANSWER.match(line)
+            if goal and goal[1] == path and first < int(goal[2]) <= last + 1:
+                return line
+            if answer and is_one and proofs.fullmatch(answer[1]) and not NAMES.search(line):
+                return line
+    return ''
+
+
+def try_together(rt, crate, edits, flags, kept):
+    """Tries by one check the first of these mutants, and each that goes with those before it. Returns which were tried,
+    and where those were refused that were."""
+    taken, texts, tried = set(), {}, {}
+    with tempfile.TemporaryDirectory(prefix='rt-text-') as room:
+        for part in filter(lambda it: os.path.isdir(f'{crate.folder}/{it}'), ('src', 'specs', 'proofs')):
+            shutil.copytree(f'{crate.folder}/{part}', f'{room}/{part}')
+        for edit, functions in edits.items():
+            changed = rt.read_edit(edit, room)[0] if not functions & taken else None
+            for path, text in (changed or {}).items():
+                with open(f'{room}/{path}', 'w', encoding='utf-8') as file:
+                    file.write(text)
+            if changed:
+                texts.update(changed)
+                taken |= functions
+                tried[edit] = functions
+    ran = rt.checked(crate, texts, flags, kept)
+    said = ran.stdout.rstrip('\n').split('\n')
+    if ran.returncode != 1 or not said[-1].startswith('logic=not-proved') or rt.rtlib.STALE.search(ran.stdout):
+        return tried, {}
+    told = {edit: refusal(said, functions, crate.folder) for edit, functions in tried.items()}
+    return tried, {edit: line for edit, line in told.items() if line and not rt.unread(line, texts)}
+
+
+def must_fail_all(rt, crate, edits, flags):
+    """In place of rt's function of this name. As there each check goes over what those before it proved, in a folder of
+    this run; and all is tried again from nothing where the crate itself is not proved over that folder."""
+    if len(edits) < 2:
+        return [rt.must_fail(crate, it, flags) for it in edits]
+    good = [it for it in edits if not rt.read_edit(it, crate.folder)[1]]
+    left = {it: functions for it in good for functions in [functions_of(it, crate.folder)] if functions}
+    checks, tried = 0, {}
+    with tempfile.TemporaryDirectory(prefix='rt-edits-') as kept:
+        while left:
+            done, refused = try_together(rt, crate, left, flags, kept)
+            for edit, line in refused.items():
+                label = f'must-fail {crate.name}/{os.path.basename(edit)}'
+                tried[edit] = True, f'{label}: refused, as it must be: {line[:160]}'
+            left, checks = {it: left[it] for it in left if it not in done}, checks + 1
+        rt.say(f'{crate.name}: {checks} checks refused {len(tried)} of {len(edits)} mutants; each other is tried alone')
+        tried.update((it, rt.must_fail(crate, it, flags, kept)) for it in edits if it not in tried)
+        is_sound = not rt.checked(crate, {}, flags, kept).returncode
+    return [tried[it] if is_sound and tried[it][0] else rt.must_fail(crate, it, flags) for it in edits]
+
+
+if __name__ == '__main__':
+    kit = load()
+    # another kit's rt, of another form, tries them its own way
+    step = kit.__dict__.get('must_fail_all')
+    if step and [*inspect.signature(step).parameters] == ['crate', 'edits', 'flags']:
+        kit.must_fail_all = lambda *given: must_fail_all(kit, *given)
+    sys.exit(kit.main(sys.argv[1:]))
