@@ -61,6 +61,8 @@ def functions_of(edit, folder):
     for word, _, text in (it.partition(': ') for it in lines_of(edit)):
         if word == 'file':
             path, lines = text.strip(), lines_of(f'{folder}/{text.strip()}')
+        elif word == 'new' and re.search(r'\bfn\b', text):
+            return set()
         elif word == 'old':
             places = [at for at, it in enumerate(lines) if text in it]
             function = function_at(lines, places[0]) if len(places) == 1 and path.startswith('src/') else None
