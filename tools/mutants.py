@@ -18,6 +18,9 @@ import sys
 import tempfile
 import types
 
+# what is called of rt, or stands in its place
+FORMS = {'must_fail_all': 'crate edits flags', 'must_fail': 'crate edit flags kept', 'read_edit': 'edit folder',
+         'checked': 'crate texts flags kept', 'unread': 'line changed'}
 HEAD = re.compile(r'( *)(?:pub(?:\(.*?\))? )?(?:unsafe )?(?:extern "C" )?fn (\w+)')
 CLAUSE = re.compile(r' *(requires|ensures|ghost)\b')
 GOAL = re.compile(r'note: (?:\./)?(src/\S+?):(\d+):\d+: (?:it is not proved that|`search` found no proof)')
@@ -134,7 +137,7 @@ def must_fail_all(rt, crate, edits, flags):
 if __name__ == '__main__':
     kit = load()
     # another kit's rt, of another form, tries them its own way
-    step = kit.__dict__.get('must_fail_all')
-    if step and [*inspect.signature(step).parameters] == ['crate', 'edits', 'flags']:
+    forms = {it: ' '.join(inspect.signature(kit.__dict__.get(it, load)).parameters) for it in FORMS}
+    if forms == FORMS:
         kit.must_fail_all = lambda *given: must_fail_all(kit, *given)
     sys.exit(kit.main(sys.argv[1:]))
