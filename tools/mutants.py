@@ -76,7 +76,8 @@ def functions_of(edit, folder):
 
 
 def refusal(said, functions, folder):
-    """The first line that refuses a goal of these functions, or nothing."""
+    """The first line that tells of a goal of these functions that is left open; else of an answer that does not fit."""
+    answers = []
     for path, first, last, name in functions:
         is_one = sum(1 for it in map(HEAD.match, lines_of(f'{folder}/{path}')) if it and it[2] == name) == 1
         proofs = re.compile(rf'{re.escape(re.sub("^src/|(/mod)?.rt$", "", path))}/(\w+/)?{name}')
@@ -85,8 +86,8 @@ def refusal(said, functions, folder):
             if goal and goal[1] == path and first < int(goal[2]) <= last + 1:
                 return line
             if answer and is_one and proofs.fullmatch(answer[1]) and not NAMES.search(line):
-                return line
-    return ''
+                answers.append(line)
+    return ''.join(answers[:1])
 
 
 def try_together(rt, crate, edits, flags, kept):
@@ -128,7 +129,9 @@ def must_fail_all(rt, crate, edits, flags):
                 label = f'must-fail {crate.name}/{os.path.basename(edit)}'
                 tried[edit] = True, f'{label}: refused, as it must be: {line[:160]}'
             left, checks = {it: left[it] for it in left if it not in done}, checks + 1
-        rt.say(f'{crate.name}: {checks} checks refused {len(tried)} of {len(edits)} mutants; each other is tried alone')
+        count = sum(1 for _, text in tried.values() if ': note: ' in text)
+        rt.say(f'{crate.name}: {checks} checks refused {len(tried)} of {len(edits)} mutants, {count} of them at an open goal; '
+               'each other is tried alone')
         tried.update((it, rt.must_fail(crate, it, flags, kept)) for it in edits if it not in tried)
         is_sound = not rt.checked(crate, {}, flags, kept).returncode
     return [tried[it] if is_sound and tried[it][0] else rt.must_fail(crate, it, flags) for it in edits]

@@ -61,7 +61,7 @@ mutant once '    x * 2' '    x'
 mutant third '    x / 2' '    x / 3'
 mutant survives '2 * double(x)' 'double(x) * 2'
 (cd "$work" && "$here/mutants.py" must-fail) >"$work/said" 2>&1
-says 'doubles: 2 checks refused 3 of 4 mutants; each other is tried alone'
+says 'doubles: 2 checks refused 3 of 4 mutants, 3 of them at an open goal; each other is tried alone'
 for name in thrice once third; do says "must-fail doubles/$name.edit: refused, as it must be: "; done
 says 'must-fail doubles/survives.edit: NOT REFUSED: the crate is still proved with this edit'
 [ "$failed" = 0 ] || cat "$work/said"
