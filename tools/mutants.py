@@ -130,8 +130,8 @@ def must_fail_all(rt, crate, edits, flags):
                 tried[edit] = True, f'{label}: refused, as it must be: {line[:160]}'
             left, checks = {it: left[it] for it in left if it not in done}, checks + 1
         count = sum(1 for _, text in tried.values() if ': note: ' in text)
-        rt.say(f'{crate.name}: {checks} checks refused {len(tried)} of {len(edits)} mutants, {count} of them at an open goal; '
-               'each other is tried alone')
+        rt.say(f'{crate.name}: {checks} checks refused {len(tried)} of {len(edits)} mutants, {count} of them at an open '
+               'goal; each other is tried alone')
         tried.update((it, rt.must_fail(crate, it, flags, kept)) for it in edits if it not in tried)
         is_sound = not rt.checked(crate, {}, flags, kept).returncode
     return [tried[it] if is_sound and tried[it][0] else rt.must_fail(crate, it, flags) for it in edits]
