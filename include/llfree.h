@@ -65,7 +65,8 @@ enum llfree_status LLFREE_STATUS_TYPE {
     LLFREE_OK = 0,
     LLFREE_NO_BLOCK = 1,      /* no block of the order was found, or the one that was named was not free; with
                                  one thread it is so, with several one may be free (see llfree_take) */
-    LLFREE_BAD_ORDER = 2,     /* orders are 0 to 9, and a block of order 0 has no halves */
+    LLFREE_BAD_ORDER = 2,     /* orders are 0 to 9, a block of order 0 has no halves, and a run has 1 to 512
+                                 huge frames */
     LLFREE_NOT_HELD = 3,      /* no such block is held: another order, given before, never taken; or the
                                  struct is empty */
     LLFREE_CLOSED_HANDLE = 4, /* the handle is closed */
@@ -73,8 +74,8 @@ enum llfree_status LLFREE_STATUS_TYPE {
     LLFREE_BAD_GEOMETRY = 6,  /* not 1 to 2147483648 frames (for one thread 1 to 2097152), not 1 to 1024 cores,
                                  or not a lawful list of zones */
     LLFREE_OPEN_HANDLE = 7,   /* the handle is open already, or the struct holds a block */
-    LLFREE_CONTENDED = 8,     /* lost a race with other cores; or (tested: never seen) the library's list
-                                 had no place for the block; retry */
+    LLFREE_CONTENDED = 8,     /* lost a race with other cores: retry; or the library's list had no place for
+                                 the block (tested: never seen, but always of a memory opened unchecked) */
     LLFREE_BAD_RANGE = 9,     /* more than 1024 ranges; or one is empty, begins before the end of the one
                                  before it, or has a frame in a hole or past the end; or no such zone */
     LLFREE_NO_ROOM = 10,      /* the buffer is too small for the image */
@@ -450,7 +451,7 @@ enum llfree_status llfree_give_frames(llfree_core *handle, llfree_block *blocks,
  * list of llfree_take: any core gives it, by llfree_give_number or by llfree_give at order 0. On failure *frame is
  * unchanged and nothing more is held: NO_BLOCK and CONTENDED as llfree_take_frame; CLOSED_HANDLE. CONTENDED also if the
  * list had no place for the frame, which is free again (tested: never seen; with cores of llfree_open_unchecked
- * always). */
+ * always). Frames that came to rest for it still rest then (llfree_resting). */
 LLFREE_NODISCARD
 enum llfree_status llfree_take_number(llfree_core *handle, uint32_t *frame);
 

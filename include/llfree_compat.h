@@ -5,7 +5,8 @@
  * The duties of llfree.h hold: one call at a time for each core, whichever thread makes it.
  *
  * llfree_frames is a call of both libraries: of an llfree_t it is theirs, of an llfree_core ours. In C that is told
- * by a macro with _Generic (C11), in C++ by two functions of one name. */
+ * by a macro with _Generic (C11), in C++ by two functions of one name. In C++ a file includes this header or llfree.hpp,
+ * not both: a struct here has the name of the namespace there. */
 #ifndef LLFREE_COMPAT_H
 #define LLFREE_COMPAT_H
 

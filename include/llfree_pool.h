@@ -16,7 +16,10 @@
  *
  * A program that forks while other threads run takes all desks before it, and leaves them after it on both sides:
  * pthread_atfork with functions that call llfree_sit_at_all and llfree_leave_all. A child that was forked without
- * has the desks as they were: one where a thread sat stays taken for good. */
+ * has the desks as they were: one where a thread sat stays taken for good.
+ *
+ * A signal handler makes no call of a pool: the thread that it interrupts may sit at the desk that it would wait for.
+ * It has a handle of its own. */
 #ifndef LLFREE_POOL_H
 #define LLFREE_POOL_H
 
@@ -274,13 +277,21 @@ static inline enum llfree_status llfree_pool_order_at(llfree_desk *desks, size_t
     return status;
 }
 
+/* Does a run end behind the last number of a frame? */
+static inline bool llfree_desk_is_past_end(uint32_t frame, size_t frames)
+{
+    return (uint64_t)frame + frames > (uint64_t)1 << 32;
+}
+
 /* Gives the frames of a run, and does not count it. */
 static inline enum llfree_status llfree_desk_put_run(llfree_desk *desk, uint32_t frame, size_t frames)
 {
     const uint32_t huge = (uint32_t)(frames / 512);
-    enum llfree_status status = frames == 0 || frames > LLFREE_POOL_LONGEST ? LLFREE_NOT_HELD : LLFREE_OK;
+    enum llfree_status status = LLFREE_OK;
 
-    if (status == LLFREE_OK && huge > 0)
+    if (frames == 0 || frames > LLFREE_POOL_LONGEST || llfree_desk_is_past_end(frame, frames))
+        return LLFREE_NOT_HELD;
+    if (huge > 0)
         status = llfree_give_run(llfree_desk_core(desk, 9), frame, huge);
     frame += 512 * huge;
     for (uint8_t order = 9; status == LLFREE_OK && order-- > 0;)
@@ -302,8 +313,8 @@ static inline enum llfree_status llfree_desk_give_run(llfree_desk *desk, uint32_
     return status;
 }
 
-/* Takes just these frames, 1 to 512 of one child, as a run: blocks of falling orders, one for each bit of their number.
- * The first one is a multiple of the largest. On failure nothing stays held. It is not counted. */
+/* Takes just these frames, 1 to 512, as a run: blocks of falling orders, one for each bit of their number. The first one
+ * is a multiple of the largest. On failure nothing stays held. It is not counted. */
 LLFREE_NODISCARD
 static inline enum llfree_status llfree_desk_take_run_at(llfree_desk *desk, uint32_t frame, size_t frames)
 {
@@ -342,7 +353,9 @@ static inline enum llfree_status llfree_desk_try_small(llfree_desk *desk, size_t
         const size_t taken = (size_t)1 << below;
         status = llfree_take(core, below, frame);
         if (status == LLFREE_OK) {
-            status = llfree_desk_take_run_at(desk, *frame + (uint32_t)taken, frames - taken);
+            status = LLFREE_NO_BLOCK;
+            if (!llfree_desk_is_past_end(*frame, frames))
+                status = llfree_desk_take_run_at(desk, *frame + (uint32_t)taken, frames - taken);
             if (status != LLFREE_OK)
                 llfree_give(core, *frame, below);
         }

@@ -85,7 +85,7 @@ static inline void llfree_tell_give(void *address, const llfree_range *zones, si
         uint32_t behind = frame - zones[z].first;
         if (frame < zones[z].first || behind >= zones[z].frames)
             continue;
-        if ((uint32_t)1 << order <= zones[z].frames - behind)
+        if (frame % ((uint32_t)1 << order) == 0 && (uint32_t)1 << order <= zones[z].frames - behind)
             llfree_tell(address, frame, order, false);
         return;
     }

@@ -13,10 +13,11 @@ int main(void)
         fputs("no memory\n", stderr);
         return 1;
     }
-    if (llfree_plain_take(&memory, 9, &huge) == LLFREE_OK)
-        printf("a huge frame begins at frame %u\n", huge);
-    if (llfree_plain_take(&memory, 0, &frame) == LLFREE_OK)
-        printf("a frame: %u\n", frame);
+    if (llfree_plain_take(&memory, 9, &huge) != LLFREE_OK || llfree_plain_take(&memory, 0, &frame) != LLFREE_OK) {
+        fputs("no block\n", stderr);
+        return 1;
+    }
+    printf("a huge frame begins at frame %u\na frame: %u\n", huge, frame);
 
     /* The huge frame in halves: the upper one is given, the lower one stays held. */
     if (llfree_plain_split(&memory, huge, 9) == LLFREE_OK)

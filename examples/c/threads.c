@@ -68,10 +68,11 @@ int main(void)
         pthread_join(threads[i], NULL);
 
     /* Any core gives what another took. */
-    if (llfree_take(&desks[0].core, 3, &frame) == LLFREE_OK)
+    if (llfree_take(&desks[0].core, 3, &frame) == LLFREE_OK) {
         printf("another core gives it: %u\n", llfree_give(&desks[1].core, frame, 3));
-    if (llfree_give(&desks[2].core, frame, 3) == LLFREE_NOT_HELD)
-        puts("a second give is refused");
+        if (llfree_give(&desks[2].core, frame, 3) == LLFREE_NOT_HELD)
+            puts("a second give is refused");
+    }
 
     while (llfree_take(&desks[3].core, 9, &frame) == LLFREE_OK)
         free++;

@@ -179,6 +179,33 @@ static void places(void)
     }
 }
 
+/* No run goes on behind the last number of a frame, as if frame 0 came next. */
+static void last_number(void)
+{
+    static const llfree_range zones[] = { { 0, 512 }, { 4294966784u, 512 } };
+    static const struct { uint32_t frame; uint8_t order; } blocks[] = {
+        { 255, 0 }, { 511, 0 }, { 4294967039u, 0 },           /* 256 frames are free in the last half alone */
+        { 4294967040u, 8 }, { 0, 5 }, { 32, 3 }, { 40, 2 },   /* as a run of 300 would lie that began there */
+    };
+    llfree_core core = LLFREE_CLOSED;
+    llfree_desk desk = { .is_taken = 0 };
+    uint32_t frame = 77;
+
+    CHECK(llfree_open_zones(&core, 1, zones, 2, NULL, 0) == LLFREE_OK);
+    llfree_seat_all(&desk, &core, 1);
+    for (size_t i = 0; i < sizeof blocks / sizeof *blocks; i++) {
+        if (i == 3) {
+            CHECK(llfree_desk_take_run(&desk, 300, 1, &frame) == LLFREE_NO_BLOCK && frame == 77);
+            CHECK(llfree_free_frames(&desk.core) == 1024 - 3);
+        }
+        CHECK(llfree_desk_take_at(&desk, blocks[i].frame, blocks[i].order) == LLFREE_OK);
+    }
+    CHECK(llfree_desk_give_run(&desk, 4294967040u, 300) == LLFREE_NOT_HELD);
+    CHECK(llfree_free_frames(&desk.core) == 1024 - 303);
+    CHECK(llfree_desk_give_run(&desk, 4294967040u, 256) == LLFREE_OK);
+    llfree_close(&desk.core);
+}
+
 /* Four threads at one desk, by either way to sit down: who sits there sits alone. */
 static void *sits(void *number)
 {
@@ -288,6 +315,7 @@ int main(void)
 {
     longest();
     places();
+    last_number();
     one_at_a_time();
     CHECK(pthread_atfork(sit_at_all, leave_all, leave_all) == 0);
     all(1);

@@ -348,7 +348,8 @@ impl Iterator for Parts {
     fn next(&mut self) -> Option<Block> {
         self.left = self.left.checked_sub(1)?;
         let claim = Claim { frame: self.frame, order: self.order };
-        self.frame += 1 << self.order;
+        // the last part may end at frame 2^32
+        self.frame = self.frame.wrapping_add(1 << self.order);
         Some(Block { right: Checked::right_of(claim), memory: self.memory })
     }
 

@@ -85,6 +85,9 @@ struct rattle_block rattle_realloc(void *old, size_t kept, size_t bytes, size_t 
             top = old_top;
             blocks++;
             in_use = used;
+        } else if (block.at != old) {
+            /* it was the only block, and lies at the start of the span now */
+            memmove(block.at, old, kept < bytes ? kept : bytes);
         }
     } else {
         block = rattle_alloc(bytes, alignment);

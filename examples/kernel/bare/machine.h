@@ -22,6 +22,7 @@ struct span {
 enum { USABLE = 1 };
 
 void *memcpy(void *to, const void *from, size_t bytes);
+void *memmove(void *to, const void *from, size_t bytes);
 
 /* As printf, but knows %s and %u alone, the latter with a width; each number is passed as an uint64_t. */
 void print(const char *format, ...);
