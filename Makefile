@@ -39,13 +39,13 @@ build/$(shared): build/libllfree_c.a build/heap.o examples/c/llfree.map
 		-Wl,-z,defs -Wl,--whole-archive $< -Wl,--no-whole-archive build/heap.o
 install: $(filter build/%,$(subst :, ,$(installed)))
 	for it in $(installed); do install -D -m 644 "$${it%:*}" "$(to)/$${it#*:}" || exit; done
-	chmod 755 $(to)/bin/llfree $(to)/lib/$(shared)
-	for it in '' .$(major); do ln -sf $(shared) $(to)/lib/libllfree.so$$it; done
-	man/pages.py $(to)/share/man/man3 <include/llfree.h
+	chmod 755 '$(to)/bin/llfree' '$(to)/lib/$(shared)'
+	for it in '' .$(major); do ln -sf $(shared) '$(to)/lib/libllfree.so'$$it; done
+	man/pages.py '$(to)/share/man/man3' <include/llfree.h
 uninstall:
-	rm -f $(foreach it,$(installed),$(to)/$(lastword $(subst :, ,$(it)))) $(to)/share/man/man3/llfree_*.3 \
-		$(to)/lib/libllfree.so $(to)/lib/libllfree.so.$(major)
-	! [ -d $(to)/lib/cmake/llfree ] || rmdir --ignore-fail-on-non-empty $(to)/lib/cmake/llfree
+	rm -f $(foreach it,$(installed),'$(to)/$(lastword $(subst :, ,$(it)))') '$(to)/share/man/man3'/llfree_*.3 \
+		'$(to)/lib/libllfree.so' '$(to)/lib/libllfree.so.$(major)'
+	! [ -d '$(to)/lib/cmake/llfree' ] || rmdir --ignore-fail-on-non-empty '$(to)/lib/cmake/llfree'
 deb: ; tools/deb.sh
 .DELETE_ON_ERROR:
 .PHONY: library kernel bench examples gate clean pages install uninstall deb always

@@ -8,7 +8,7 @@
 # of all runs, in nanoseconds for a take and a give of one thread. `own` is the allocator's own pair, and
 # each `ratio` the library's to it; `times` is how many times as long as the library the other one takes.
 # UNDER, which stands before both programs: two_programs.sh
-set -eu
+set -eu -o pipefail
 unset CDPATH MAKEFLAGS MFLAGS
 here=$(cd "$(dirname "$0")" && pwd)
 top=$(dirname "$here")

@@ -4,7 +4,7 @@
 # where it is not there. The program runs RUNS times, each time with PAIRS pairs a thread; each figure is the median of
 # all runs, in nanoseconds for a take and a give of one thread.
 # UNDER, which stands before the program, as `chrt -f 10`
-set -eu
+set -eu -o pipefail
 unset CDPATH MAKEFLAGS MFLAGS
 here=$(cd "$(dirname "$0")" && pwd)
 top=$(dirname "$here")

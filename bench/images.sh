@@ -3,6 +3,7 @@
 # plain Rust program that does the same. It needs rustc and python3, and a built
 # build/llfree. Each figure is the least of RUNS runs, of a whole process.
 set -eu
+shopt -s inherit_errexit
 unset CDPATH MAKEFLAGS MFLAGS
 here=$(cd "$(dirname "$0")" && pwd)
 . "$here/progress.sh"

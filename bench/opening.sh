@@ -3,7 +3,7 @@
 # (bench/opening.c). It needs a C compiler; the library is built where it is not there. Each time is the
 # least of ROUNDS rounds. UNDER stands before the program, as in 'chrt -f 10'.
 #     bench/opening.sh [FRAMES..]
-set -eu
+set -eu -o pipefail
 unset CDPATH MAKEFLAGS MFLAGS
 here=$(cd "$(dirname "$0")" && pwd)
 top=$(dirname "$here")

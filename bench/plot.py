@@ -302,13 +302,15 @@ def measured(name):
 def text_of(given):
     if given.measure:
         return measured(given.measure)
-    if given.file is None:
-        return sys.stdin.read()
+    if given.file is None and sys.stdin is None:
+        raise Fault('standard input is closed')
     try:
-        with open(given.file, encoding='utf-8') as text:
+        with sys.stdin if given.file is None else open(given.file, encoding='utf-8') as text:
             return text.read()
     except OSError as error:
         raise Fault(f'{given.file}: {error.strerror}') from error
+    except UnicodeDecodeError as error:
+        raise Fault(f'{given.file or "standard input"} is no text') from error
 
 
 def main():
@@ -319,6 +321,8 @@ def main():
     parser.add_argument('--only', nargs='+', metavar='GROUP', help="as '0', or 'pairs,0'")
     given = parser.parse_args()
     try:
+        if sys.stdout is None:
+            raise Fault('standard output is closed')
         said, groups = result_of(text_of(given))
         for name in given.only or ():
             if name not in groups:
@@ -328,6 +332,10 @@ def main():
     except BrokenPipeError:
         sys.stdout = None
         print('plot: nobody reads the plot any more', file=sys.stderr)
+        return 1
+    except OSError as error:
+        sys.stdout = None
+        print(f'plot: standard output: {error.strerror}', file=sys.stderr)
         return 1
     except Fault as fault:
         print(f'plot: {fault}', file=sys.stderr)

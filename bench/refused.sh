@@ -3,7 +3,7 @@
 # bare loads (bench/refused.c says which). It needs a C compiler; the library is built where it is not
 # there. The two are measured in turn, ROUNDS times COUNT takes; each figure is the least of all rounds.
 # UNDER stands before the program, as in 'chrt -f 10'.
-set -eu
+set -eu -o pipefail
 unset CDPATH MAKEFLAGS MFLAGS
 here=$(cd "$(dirname "$0")" && pwd)
 top=$(dirname "$here")

@@ -3,6 +3,7 @@
 # It needs rustc and python3, and a built build/llfree. Each figure is the least of RUNS runs. UNDER stands
 # before each program, as in 'chrt -f 10'; OTHER is another build of the program, measured beside it.
 set -eu
+shopt -s inherit_errexit
 unset CDPATH MAKEFLAGS MFLAGS
 here=$(cd "$(dirname "$0")" && pwd)
 . "$here/progress.sh"
@@ -31,12 +32,17 @@ lesser() {
 printf '%-28s %10s %10s %12s %6s\n' 'trace (1,000,000 records)' 'llfree ms' 'other ms' 'reference ms' ratio
 # row NAME CHILDREN TEXT: the program, the other one where there is one, and the reference, in turn
 row() {
-    local text=$folder/$1.csv ours='' others='' theirs=''
+    local text=$folder/$1.csv ours='' others='' theirs='' time
     for turn in $(seq "$runs"); do
         shows "$3: run $turn of $runs"
-        ours=$(lesser "$ours" "$(took "$text" "$folder/$1.ours" "$program" run "$2" 1)")
-        [ -z "$other" ] || others=$(lesser "$others" "$(took "$text" "$folder/$1.others" "$other" run "$2" 1)")
-        theirs=$(lesser "$theirs" "$(took "$text" "$folder/$1.theirs" "$folder/reference" "$2")")
+        time=$(took "$text" "$folder/$1.ours" "$program" run "$2" 1)
+        ours=$(lesser "$ours" "$time")
+        if [ -n "$other" ]; then
+            time=$(took "$text" "$folder/$1.others" "$other" run "$2" 1)
+            others=$(lesser "$others" "$time")
+        fi
+        time=$(took "$text" "$folder/$1.theirs" "$folder/reference" "$2")
+        theirs=$(lesser "$theirs" "$time")
     done
     shows
     cmp -s "$folder/$1.ours" "$folder/$1.theirs" || { echo "$1: the outputs differ" >&2; exit 1; }

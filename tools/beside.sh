@@ -64,6 +64,9 @@ converter() {
     tries 'a recording as a file: the same' cmp examples/replay/parts.csv "$work/made"
     refuses 'a recording that is not there' '' tools/kernel_trace.py "$work/nothing"
     refuses 'a recording that is no text' '' tools/kernel_trace.py "$work/events.gz"
+    sed '1s/^ *[^ ]*/name\xc3/' examples/replay/parts.txt >"$work/cut"
+    tries 'a name that is cut within a letter' tools/kernel_trace.py "$work/cut" -o "$work/made"
+    tries 'a name that is cut: the same' cmp examples/replay/parts.csv "$work/made"
     refuses 'no recording' 'a line\n' tools/kernel_trace.py
     refuses 'a window past the last' "$(head -n 3 examples/replay/parts.txt)\n" tools/kernel_trace.py --window 2
     refuses 'no recording at all' '' bash -c 'exec tools/kernel_trace.py <&-'
@@ -361,6 +364,8 @@ pictures() {
     refuses 'a picture of no file' '' tools/picture.py "$work/nothing"
     refuses 'a picture for nobody' "$(cat "$image")\n" bash -c 'exec tools/picture.py >&-'
     refuses 'columns of no report' 'tree,0\n' tools/buddyinfo.py
+    refuses 'columns of an empty report' '' tools/buddyinfo.py
+    refuses 'a free block of order 1 without two of order 0' 'all,,5,2,1,1,0,0,0,0,0,0,0,0\n' tools/buddyinfo.py
     refuses 'columns of no input' '' bash -c 'exec tools/buddyinfo.py <&-'
 }
 

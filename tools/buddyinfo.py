@@ -14,7 +14,7 @@ import sys
 import files
 
 ORDERS = 10
-ROW = re.compile(r'(?:tree,\d+|all,)(?:,\d+){12}')
+ROW = re.compile(r'(?:tree,\d{1,20}|all,)(?:,\d{1,20}){12}')
 
 
 def alone(blocks):
@@ -40,7 +40,13 @@ def rows_of(data):
         if not ROW.fullmatch(row):
             raise files.Fault(f'record {place} is none of a report, which is tree,T,HELD,FREE,B0,..,B9 or '
                               'all,,HELD,FREE,B0,..,B9')
-    return [named(row) for row in rows]
+    if not rows:
+        raise files.Fault('a report has a row for each tree, and here is none')
+    found = [named(row) for row in rows]
+    for place, (_, counts) in enumerate(found, 1):
+        if min(counts) < 0:
+            raise files.Fault(f'record {place} is none of a report: a free block has two of the order below')
+    return found
 
 
 def main():

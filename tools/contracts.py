@@ -13,7 +13,7 @@ from collections import defaultdict
 
 sys.dont_write_bytecode = True
 
-from spec_files import TOP, Definition, Specs, balanced, crates, leave, scope_of  # noqa: E402
+from spec_files import TOP, Definition, Specs, balanced, crates, expect_words, leave, scope_of  # noqa: E402
 
 CALL = re.compile(r'^( *)(pub )?(?:extern "C" )?(?:const )?(?:unsafe )?fn (\w+)')
 BLOCK = re.compile(r"^(impl\b|(?:pub )?trait\b)(.*)$")
@@ -230,6 +230,7 @@ def with_quotes(specs, pages, text, unknown):
 
 
 def main(words):
+    expect_words(words, {"--check"}, __doc__)
     specs, docs, unknown = Specs(), TOP / "docs", []
     pages, rows = {}, []
     for crate in libraries():

@@ -13,6 +13,7 @@ chmod 755 "$folder"
 
 make -s -C "$root" install PREFIX=/usr DESTDIR="$folder" >&2
 version=$(cat "$root/VERSION")
+mkdir -p "$to"
 libraries=("$folder"/usr/bin/llfree "$folder"/usr/lib/libllfree.so."$version")
 # the oldest C library with all that is asked for
 glibc=$(readelf -V "${libraries[@]}" | grep -oE 'GLIBC_[0-9.]+' | sort -uV | tail -n 1)

@@ -15,7 +15,7 @@ from collections import defaultdict
 
 sys.dont_write_bytecode = True
 
-from spec_files import TOP, Definition, Specs, contract, leave, said_of  # noqa: E402
+from spec_files import TOP, Definition, Specs, contract, expect_words, leave, said_of  # noqa: E402
 
 MOST_FIELDS = 12
 # the page of what more than one page rests on
@@ -259,6 +259,7 @@ def dead_links(docs, texts):
 
 
 def main(words):
+    expect_words(words, {"--check", "--strict"}, __doc__)
     specs, missing = Specs(), []
     docs = TOP / "docs"
     pages = [Page(specs, *page, missing) for page in PAGES]

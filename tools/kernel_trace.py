@@ -50,13 +50,17 @@ class Progress:
             print('\r\033[K', end='', file=sys.stderr, flush=True)
 
 
+def frame_of(text):
+    return int(text, 16 if text.startswith('0x') else 10)
+
+
 def event_of(line):
     """The event of a line, or None where it tells of something else."""
     match = EVENT.search(line) if len(line) <= MOST_LINE else None
     if match is None:
         return None
     cpu, seconds, micros, kind, frame, order = match.groups()
-    return Event(int(cpu), int(seconds) * 1_000_000 + int(micros), kind, int(frame, 0), int(order))
+    return Event(int(cpu), int(seconds) * 1_000_000 + int(micros), kind, frame_of(frame), int(order))
 
 
 class Labels:
@@ -276,11 +280,12 @@ def arguments():
 
 
 def lines_of(name):
-    """The lines of a recording, to be read one by one."""
+    """The lines of a recording, to be read one by one. Linux cuts a name of a process within a letter, too."""
     if not files.is_stream(name):
-        return open(name, encoding='utf-8')
+        return open(name, encoding='utf-8', errors='replace')
     if sys.stdin is None:
         raise Fault('standard input is closed')
+    sys.stdin.reconfigure(encoding='utf-8', errors='replace')
     return contextlib.nullcontext(sys.stdin)
 
 
@@ -299,9 +304,6 @@ def main():
         return 1
     except OSError as error:
         print(f'kernel_trace: {given.recording or "standard input"}: {error.strerror}', file=sys.stderr)
-        return 1
-    except UnicodeDecodeError:
-        print(f'kernel_trace: {given.recording or "standard input"} is no text', file=sys.stderr)
         return 1
     tell(converter, goes_on)
     return 0

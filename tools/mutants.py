@@ -39,8 +39,11 @@ def load():
 
 
 def lines_of(path):
-    with open(path, encoding='utf-8') as file:
-        return file.read().split('\n')
+    try:
+        with open(path, encoding='utf-8', errors='replace') as file:
+            return file.read().split('\n')
+    except OSError:
+        return []
 
 
 def function_at(lines, at):
@@ -108,10 +111,11 @@ def try_together(rt, crate, edits, flags, kept):
                 tried[edit] = functions
     ran = rt.checked(crate, texts, flags, kept)
     said = ran.stdout.rstrip('\n').split('\n')
-    if ran.returncode != 1 or not said[-1].startswith('logic=not-proved') or rt.rtlib.STALE.search(ran.stdout):
+    is_unread = rt.rtlib.STALE.search(ran.stdout) or any(rt.unread(it, texts) for it in said)
+    if ran.returncode != 1 or not said[-1].startswith('logic=not-proved') or is_unread:
         return tried, {}
     told = {edit: refusal(said, functions, crate.folder) for edit, functions in tried.items()}
-    return tried, {edit: line for edit, line in told.items() if line and not rt.unread(line, texts)}
+    return tried, {edit: line for edit, line in told.items() if line}
 
 
 def must_fail_all(rt, crate, edits, flags):
@@ -125,6 +129,8 @@ def must_fail_all(rt, crate, edits, flags):
     with tempfile.TemporaryDirectory(prefix='rt-edits-') as kept:
         while left:
             done, refused = try_together(rt, crate, left, flags, kept)
+            if not done:
+                break
             for edit, line in refused.items():
                 label = f'must-fail {crate.name}/{os.path.basename(edit)}'
                 tried[edit] = True, f'{label}: refused, as it must be: {line[:160]}'
@@ -138,6 +144,9 @@ def must_fail_all(rt, crate, edits, flags):
 
 
 if __name__ == '__main__':
+    unknown = [it for it in sys.argv[2:] if not os.path.isdir(f'crates/{it}')]
+    if not os.path.isfile('crates.txt') or unknown:
+        sys.exit(' '.join(['call this at the top of the repository, with names of crates:', *unknown]))
     kit = load()
     # another kit's rt, of another form, tries them its own way
     forms = {it: ' '.join(inspect.signature(kit.__dict__.get(it, load)).parameters) for it in FORMS}

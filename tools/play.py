@@ -17,6 +17,7 @@ import gzip
 import io
 import json
 import lzma
+import math
 import operator
 import os
 import re
@@ -94,6 +95,8 @@ class Perf:
 
 def opened(name):
     """The lines of a recording, as bytes."""
+    if name == '-' and sys.stdin is None:
+        raise Fault('standard input is closed')
     try:
         source = sys.stdin.buffer if name == '-' else open(name, 'rb')
     except OSError as error:
@@ -136,11 +139,13 @@ def events(source):
             count += len(found)
             shows(f'{count:,} events')
             yield (array.array('Q', [int(a) * 1_000_000 + int(b) for a, b in zip(seconds, micros)]),
-                   array.array('Q', [int(frame, 0) for frame in frames]), array.array('I', map(int, processors)),
+                   array.array('Q', map(kernel_trace.frame_of, frames)), array.array('I', map(int, processors)),
                    array.array('B', [min(255, int(order)) for order in orders]),
                    array.array('B', [kind == 'alloc' for kind in kinds]))
     except (OSError, EOFError, zlib.error, lzma.LZMAError) as error:
         raise Fault(f'the recording cannot be read: {error}') from error
+    except (OverflowError, ValueError) as error:
+        raise Fault('the recording has a number that is too large') from error
 
 
 # The allocators, in C
@@ -446,6 +451,8 @@ def arguments(words=None):
                         help=f'every take and give, also of more than {MOST_STEPS:,}, of which a film is made else')
     parser.add_argument('--title', default='A recording of a Linux kernel')
     given = parser.parse_args(words)
+    if not all(math.isfinite(it) for it in (given.still, given.begin, given.end, given.film) if it is not None):
+        parser.error('a time is a number')
     if not 1 <= given.processors <= MOST_PROCESSORS:
         parser.error(f'--processors is 1 to {MOST_PROCESSORS}')
     if given.mib is not None and not 2 <= given.mib <= MOST_MIB:
@@ -460,6 +467,8 @@ def arguments(words=None):
 def main():
     given = arguments()
     try:
+        if sys.stdout is None:
+            raise Fault('standard output is closed')
         with tempfile.TemporaryDirectory() as folder:
             replay = Replay(opened(given.recording), given, folder)
             made = page(replay, given) if given.still is None else picture(replay, given)
@@ -474,6 +483,10 @@ def main():
     except BrokenPipeError:
         sys.stdout = None
         print('play: nobody reads the page any more', file=sys.stderr)
+        return 1
+    except OSError as error:
+        sys.stdout = None
+        print(f'play: {error.strerror}', file=sys.stderr)
         return 1
     return 0
 

@@ -312,6 +312,12 @@ def said_of(crate, name):
     return "", ""
 
 
+def expect_words(words, known, doc):
+    """Ends a script that was called with a word which it does not know, with what it is for."""
+    if {*words} - known:
+        sys.exit(f"{doc.strip()}\n\nIts words: {' '.join(sorted(known))}")
+
+
 def leave(texts, folder, check, wrong=0):
     """Writes pages, or with `check` compares them with what stands there; pages of the folder that are none of these
     fail too, and so does what the caller found wrong. Says which differ, and last how many do not; the status to
