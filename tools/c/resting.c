@@ -113,6 +113,43 @@ static void last_first(void)
     close_two(h);
 }
 
+/* No other call touches what rests with its core, or keeps a frame. */
+static void left_alone(void)
+{
+    llfree_core core = LLFREE_CLOSED;
+    uint32_t frame, singles[3], resting;
+    uint8_t order;
+
+    CHECK(llfree_open(&core, 1, FRAMES, NULL, 0) == LLFREE_OK);
+    for (int i = 0; i < 3; i++)
+        CHECK(llfree_take_number(&core, &singles[i]) == LLFREE_OK);
+    for (int i = 0; i < 3; i++)
+        CHECK(llfree_give_number(&core, singles[i]) == LLFREE_OK);
+    resting = llfree_resting(&core);
+    CHECK(resting >= 3 && llfree_free_frames(&core) == FRAMES - resting);
+    (void)llfree_free_huge(&core);
+    (void)llfree_free_frames_of(&core, 0);
+    (void)llfree_free_huge_of(&core, 0);
+    CHECK(llfree_is_free(&core, FRAMES - 512, 9) && llfree_resting(&core) == resting);
+    CHECK(llfree_take(&core, 3, &frame) == LLFREE_OK && llfree_resting(&core) == resting);
+    CHECK(llfree_order_at(&core, frame, &order) == LLFREE_OK && order == 3 && llfree_resting(&core) == resting);
+    CHECK(llfree_split(&core, frame, 3) == LLFREE_OK && llfree_resting(&core) == resting);
+    CHECK(llfree_split_to(&core, frame, 2, 0) == LLFREE_OK && llfree_resting(&core) == resting);
+    for (uint32_t i = 0; i < 4; i++)
+        CHECK(llfree_give(&core, frame + i, 0) == LLFREE_OK && llfree_resting(&core) == resting);
+    CHECK(llfree_give(&core, frame + 4, 2) == LLFREE_OK && llfree_resting(&core) == resting);
+    CHECK(llfree_take_at(&core, FRAMES - 512, 9) == LLFREE_OK && llfree_resting(&core) == resting);
+    CHECK(llfree_give(&core, FRAMES - 512, 9) == LLFREE_OK);
+    CHECK(llfree_take_run(&core, 2, &frame) == LLFREE_OK && llfree_resting(&core) == resting);
+    CHECK(llfree_give_run(&core, frame, 2) == LLFREE_OK && llfree_resting(&core) == resting);
+    CHECK(llfree_take_run(&core, FRAMES / 512, &frame) == LLFREE_NO_BLOCK && llfree_resting(&core) == resting);
+    CHECK(llfree_give_run(&core, FRAMES - 1024, 2) == LLFREE_NOT_HELD && llfree_resting(&core) == resting);
+    CHECK(llfree_free_frames(&core) == FRAMES - resting);
+    llfree_drain(&core);
+    CHECK(llfree_resting(&core) == 0 && llfree_free_frames(&core) == FRAMES);
+    llfree_close(&core);
+}
+
 /* From one give on where 128 rest, the 8 that came first go back. */
 static void borders(void)
 {
@@ -876,6 +913,7 @@ int main(int count, char **words)
     }
     statuses();
     last_first();
+    left_alone();
     borders();
     together();
     batches();
