@@ -1,15 +1,17 @@
 -- What is left of a list, and why a take behind a cache is refused.
 use Rattle.std.proofs.Common.{◌≡◌, ◌∙◌, ℕ, refl, sym, ap, subst, rules, arith, ◌+◌, ◌-◌, ◌<◌, ◌≤◌, List, [], ◌∷◌, ◌++◌, drop, take, length}
-use Rattle.std.specs.Prelude.{Result, Err, IfErr}
+use Rattle.std.specs.Prelude.{Result, Err, IfErr, Some}
 use Rattle.std.proofs.lemmas.List.{length-append, length-drop, length-take, take-append-le, take-take, take_all}
 use Rattle.std.proofs.lemmas.Result.{IfErr-at_err, IfErr-weaker}
 use Rattle.frame_words.specs.Geometry.{huge_order}
 use Rattle.frame_words.specs.declared.fault.TakeFault.{TakeFault}
 use Rattle.frame_words.specs.declared.fault.TakeFault.TheVariants.{BadOrder}
 use Rattle.frame_table.specs.declared.block.Block.{Block}
-use Rattle.core_frames.specs.Cores.{number_of, lent_by, IsCoreOf}
+use Rattle.low_frames.specs.Alone.{Turns}
+use Rattle.core_frames.specs.Cores.{number_of, lent_by, known_by, StepsAlone, IsSureOf, IsCoreOf, StaysCoreOf}
 use Rattle.core_frames.specs.Uses.{IsRefusedFor}
 use Rattle.core_frames.specs.declared.shared.allocator.Allocator.{Allocator}
+use Rattle.core_frames.specs.declared.shared.allocator.Core.{Core}
 use Rattle.core_frames.specs.declared.shared.allocator.Core.{Core}
 use Rattle.frame_caches.specs.Caches.{core_in, cached_in, lent_out}
 use Rattle.frame_caches.specs.Uses.{IsRefusedBehind}
@@ -34,17 +36,27 @@ newer n xs turned left le e l =
     let long : length (drop n xs) ≡ length turned - n = omega (all, gone, arith) in
     l ∙ ap (take (length turned - n)) e ∙ front (length turned - n) (drop n xs) (take n xs) long
 
+-- who was sure of the words and turned them knows what they became
+pub sure_after : (a : Allocator) (c d : Core) (R : List ℕ → List ℕ → Type 0) → StaysCoreOf a c d
+    → (StepsAlone a c → Turns R (known_by c) (known_by d)) → IsSureOf a c → IsSureOf a d
+sure_after a c d R stays turns (alone, (words, known)) =
+    let told : Turns R (Some words) (known_by d) = subst (λ o. Turns R o (known_by d)) known (turns alone) in
+    (stays.stays_alone alone, (told.0, told.1.0))
+
 -- a last take by the core as it was in m was refused
 pub refused_behind : (a : Allocator) (n : ℕ) (r : Result Block TakeFault) (c m d : CachedCore) → IsCoreOf a (core_in m)
     → number_of (core_in m) ≡ number_of (core_in c) → lent_out m ≡ lent_out c → cached_in d ≡ cached_in m
     → (n ≤ huge_order → cached_in m ≡ []) → (huge_order < n → cached_in m ≡ cached_in c)
+    → (StepsAlone a (core_in c) → StepsAlone a (core_in m)) → (IsSureOf a (core_in c) → IsSureOf a (core_in m))
     → IfErr r (λ fault. IsRefusedFor a n (core_in m) (core_in d) fault × (lent_by (core_in d) ≡ lent_by (core_in m)))
     → IfErr r (λ fault. IsRefusedBehind a n fault c d)
-refused_behind a n r c m d is number lent rest empty same =
+refused_behind a n r c m d is number lent rest empty same alone sure =
     IfErr-weaker r _ (λ fault. IsRefusedBehind a n fault c d) (λ fault why. record {
       core = core_in m;
       is_core = is;
       same_number = number;
+      alone = alone;
+      sure = sure;
       why = why.0;
       lent = search rules;
       empty = λ le. rest ∙ empty le;
@@ -54,13 +66,15 @@ refused_behind a n r c m d is number lent rest empty same =
 -- the same, seen from where nothing but the list's end was looked at
 pub refused_from : (a : Allocator) (n : ℕ) (r : Result Block TakeFault) (c m d : CachedCore) → n ≡ 0
     → number_of (core_in m) ≡ number_of (core_in c) → lent_out m ≡ lent_out c → cached_in m ≡ cached_in c
-    → IfErr r (λ fault. IsRefusedBehind a 0 fault m d) → IfErr r (λ fault. IsRefusedBehind a n fault c d)
-refused_from a n r c m d zero number lent rest =
+    → core_in m ≡ core_in c → IfErr r (λ fault. IsRefusedBehind a 0 fault m d) → IfErr r (λ fault. IsRefusedBehind a n fault c d)
+refused_from a n r c m d zero number lent rest is =
     subst (λ k. IfErr r (λ fault. IsRefusedBehind a 0 fault m d) → IfErr r (λ fault. IsRefusedBehind a k fault c d)) (sym zero)
     (IfErr-weaker r (λ fault. IsRefusedBehind a 0 fault m d) (λ fault. IsRefusedBehind a 0 fault c d) (λ fault why. record {
       core = why.core;
       is_core = why.is_core;
       same_number = why.same_number ∙ number;
+      alone = λ s. why.alone (subst (λ k. StepsAlone a k) (sym is) s);
+      sure = λ s. why.sure (subst (λ k. IsSureOf a k) (sym is) s);
       why = why.why;
       lent = why.lent ∙ lent;
       empty = why.empty;
@@ -78,6 +92,8 @@ refused_order a n r c d e is rest err =
       core = core_in c;
       is_core = is;
       same_number = refl;
+      alone = λ s. s;
+      sure = λ s. s;
       why = told.0;
       lent = search rules;
       empty = λ le. absurd (omega (told.0.0, le, arith));

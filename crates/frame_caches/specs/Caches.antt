@@ -5,7 +5,7 @@ use Rattle.frame_table.specs.Seats.{block_in}
 use Rattle.frame_table.specs.declared.block.Block.{Block}
 use Rattle.core_frames.specs.declared.shared.allocator.Allocator.{Allocator}
 use Rattle.core_frames.specs.declared.shared.allocator.Core.{Core}
-use Rattle.core_frames.specs.Cores.{number_of, lent_by, IsCoreOf, IsOutOf}
+use Rattle.core_frames.specs.Cores.{number_of, lent_by, StepsAlone, IsCoreOf, IsOutOf}
 use Rattle.frame_caches.specs.declared.cached_core.CachedCore.{CachedCore}
 
 -- the most frames that a list has room for
@@ -49,8 +49,10 @@ pub record IsCacheOf (a : Allocator) (c : CachedCore) : Type 0 where
   pub room : room_in c ≤ vec_capacity c.rest
   pub few : room_in c ≤ most_cached
 
--- it still is, as the same one of the allocator's cores, with room for as many
+-- it still is, as the same one of the allocator's cores, with room for as many; and whose core had all
+-- shares, its core has them
 pub record StaysCacheOf (a : Allocator) (c d : CachedCore) : Type 0 where
   pub is_cache : IsCacheOf a d
   pub same_number : number_of (core_in d) ≡ number_of (core_in c)
   pub same_size : room_in d ≡ room_in c
+  pub stays_alone : StepsAlone a (core_in c) → StepsAlone a (core_in d)

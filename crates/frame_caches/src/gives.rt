@@ -2,7 +2,7 @@
 
 ghost use Rattle.std.specs.Prelude.{◌≡◌, ◌+◌, ◌-◌, ◌*◌, ◌<◌, ◌≤◌, ◌∷◌, ◌++◌, [], pos, length, drop, take, ◌-ℤ◌};
 ghost use Rattle.core_frames.specs.Bounds.{most_in_give};
-ghost use Rattle.core_frames.specs.Cores.{moves_by, kept_by, IsOutOf};
+ghost use Rattle.core_frames.specs.Cores.{moves_by, kept_by, StepsAlone, IsSureOf, IsOutOf};
 ghost use Rattle.frame_table.specs.Seats.{block_in};
 ghost use Rattle.frame_caches.specs.Bounds.{most_in_cached_give};
 ghost use Rattle.frame_caches.specs.Caches.{core_in, cached_in, room_in, half_of, lent_out, most_refilled, IsCacheOf, StaysCacheOf};
@@ -25,6 +25,7 @@ impl CachedCore {
         ensures lent { lent_out self.new ≡ lent_out self.old -ℤ pos 1 }
         ensures moves { moves_by (core_in self.new) ≤ moves_by (core_in self.old)
             + most_in_cached_give }
+        ensures larger { 0 < (block_in block).order → cached_in self.new ≡ cached_in self.old }
         ensures rests { (block_in block).order ≡ 0 → length (cached_in self.old) < room_in self.old
             → (core_in self.new ≡ core_in self.old) × (cached_in self.new ≡ cached_in self.old ++ block ∷ []) }
     {
@@ -109,6 +110,8 @@ impl CachedCore {
         ensures empty { cached_in self.new ≡ [] }
         ensures kept { kept_by (core_in self.new) ≡ kept_by (core_in self.old) }
         ensures lent { lent_out self.new ≡ lent_out self.old }
+        ensures sure { StepsAlone allocator.now (core_in self.old) → 0 < length (cached_in self.old)
+            → IsSureOf allocator.now (core_in self.new) }
         ensures moves { moves_by (core_in self.new) ≤ moves_by (core_in self.old)
             + most_in_give * length (cached_in self.old) }
     {

@@ -2,7 +2,7 @@
 
 ghost use Rattle.std.specs.Prelude.{◌≡◌, ◌+◌, ◌<◌, ◌≤◌, [], IfOk, IfErr, length};
 ghost use Rattle.core_frames.specs.Bounds.{most_in_fill};
-ghost use Rattle.core_frames.specs.Cores.{memory_of, moves_by, kept_by};
+ghost use Rattle.core_frames.specs.Cores.{memory_of, moves_by, kept_by, IsSureOf};
 ghost use Rattle.frame_caches.specs.Bounds.{most_in_cached_take};
 ghost use Rattle.frame_caches.specs.Caches.{core_in, cached_in, lent_out, most_refilled, IsCacheOf, StaysCacheOf};
 ghost use Rattle.frame_caches.specs.Uses.{IsRefusedBehind, TakesBehind, TakesLast};
@@ -64,6 +64,7 @@ impl CachedCore {
         ensures cache { StaysCacheOf allocator.now self.old self.new }
         ensures kept { kept_by (core_in self.new) ≡ kept_by (core_in self.old) }
         ensures lent { lent_out self.new ≡ lent_out self.old }
+        ensures sure { IsSureOf allocator.now (core_in self.old) → IsSureOf allocator.now (core_in self.new) }
         ensures moves { moves_by (core_in self.new) ≤ moves_by (core_in self.old)
             + most_in_fill most_refilled }
     {

@@ -2,10 +2,11 @@
 
 ghost use Rattle.std.specs.Prelude.{◌≡◌, ◌+◌, ◌≤◌};
 ghost use Rattle.frame_model.specs.Report.{free_frames};
+ghost use Rattle.frame_model.specs.Words.{entry_word_count};
 ghost use Rattle.low_frames.specs.Alone.{FindsOf};
 ghost use Rattle.core_frames.specs.Bounds.{most_in_split, most_in_join};
-ghost use Rattle.core_frames.specs.Cores.{memory_of, moves_by, known_by, StepsAlone, IsOutOf};
-ghost use Rattle.core_frames.specs.Uses.{SplitsThrough, JoinsThrough};
+ghost use Rattle.core_frames.specs.Cores.{memory_of, moves_by, view_in, known_by, StepsAlone, IsOutOf};
+ghost use Rattle.core_frames.specs.Uses.{SplitsThrough, JoinsThrough, IsSameAfter};
 ghost use Rattle.frame_caches.specs.Caches.{core_in, cached_in, IsCacheOf, StaysCacheOf};
 
 use crate::cached_core::CachedCore;
@@ -47,6 +48,8 @@ impl CachedCore {
         requires { IsCacheOf allocator.now self.old }
         ensures cache { StaysCacheOf allocator.now self.old self.new }
         ensures rests { cached_in self.new ≡ cached_in self.old }
+        ensures view { IsSameAfter (entry_word_count (memory_of allocator.now)) (view_in (core_in self.old))
+            (view_in (core_in self.new)) }
         ensures few { result ≤ (memory_of allocator.now).frames }
         ensures alone { StepsAlone allocator.now (core_in self.old) → FindsOf
             (λ words. result ≡ free_frames (memory_of allocator.now) words)
