@@ -7,8 +7,8 @@ anything, so a check for each mutant was most of the gate.
 
 Together are mutants of different functions, each of nothing but bodies. The proof of a function sees no other's body,
 so a goal of one is refused whatever stands in the others. A mutant is refused where a goal of its own function is: left
-open, or not met by the answer that stands for it. That its function calls one that is not proved does not count. Each
-mutant that was not refused so is tried alone, by rt, which judges then.
+open, or not met by the answer that stands for it. Where its function calls one that is not proved, the prover does not
+come to it: the next check tries it again. Each mutant that was not refused so is tried alone, by rt, which judges then.
 """
 import inspect
 import os
@@ -25,6 +25,7 @@ HEAD = re.compile(r'( *)(?:pub(?:\(.*?\))? )?(?:unsafe )?(?:extern "C" )?fn (\w+
 CLAUSE = re.compile(r' *(requires|ensures|ghost)\b')
 GOAL = re.compile(r'note: (?:\./)?(src/\S+?):(\d+):\d+: (?:it is not proved that|`search` found no proof)')
 ANSWER = re.compile(r'(?:\./)?proofs/(\S+)/\w+\.antt:\d+:\d+: error: `[^`]+`: ')
+LEFT_OUT = re.compile(r'fn \S*?(\w+): no proof: it calls ')
 # what a proof file says that names a thing which the edit took away
 NAMES = re.compile(r'has no field|is not in scope|has no `|was not admitted')
 
@@ -94,8 +95,8 @@ def refusal(said, functions, folder):
 
 
 def try_together(rt, crate, edits, flags, kept):
-    """Tries by one check the first of these mutants, and each that goes with those before it. Returns which were tried,
-    and where those were refused that were."""
+    """Tries by one check the first of these mutants, and each that goes with those before it. Returns of each that was
+    tried the line that refuses it: none if the prover did not come to it, an empty one if it was not refused."""
     taken, texts, tried = set(), {}, {}
     with tempfile.TemporaryDirectory(prefix='rt-text-') as room:
         for part in filter(lambda it: os.path.isdir(f'{crate.folder}/{it}'), ('src', 'specs', 'proofs')):
@@ -113,9 +114,10 @@ def try_together(rt, crate, edits, flags, kept):
     said = ran.stdout.rstrip('\n').split('\n')
     is_unread = rt.rtlib.STALE.search(ran.stdout) or any(rt.unread(it, texts) for it in said)
     if ran.returncode != 1 or not said[-1].startswith('logic=not-proved') or is_unread:
-        return tried, {}
-    told = {edit: refusal(said, functions, crate.folder) for edit, functions in tried.items()}
-    return tried, {edit: line for edit, line in told.items() if line}
+        return dict.fromkeys(tried, '')
+    left_out = {it[1] for it in map(LEFT_OUT.match, said) if it}
+    return {edit: refusal(said, functions, crate.folder) or (None if left_out & {it[3] for it in functions} else '')
+            for edit, functions in tried.items()}
 
 
 def must_fail_all(rt, crate, edits, flags):
@@ -125,19 +127,21 @@ def must_fail_all(rt, crate, edits, flags):
         return [rt.must_fail(crate, it, flags) for it in edits]
     good = [it for it in edits if not rt.read_edit(it, crate.folder)[1]]
     left = {it: functions for it in good for functions in [functions_of(it, crate.folder)] if functions}
-    checks, tried = 0, {}
+    checks, tried, later = 0, {}, {}
     with tempfile.TemporaryDirectory(prefix='rt-edits-') as kept:
         while left:
-            done, refused = try_together(rt, crate, left, flags, kept)
-            if not done:
-                break
-            for edit, line in refused.items():
-                label = f'must-fail {crate.name}/{os.path.basename(edit)}'
-                tried[edit] = True, f'{label}: refused, as it must be: {line[:160]}'
-            left, checks = {it: left[it] for it in left if it not in done}, checks + 1
+            # those that the last check did not come to go by themselves: nothing else that they call is changed then
+            told, checks = try_together(rt, crate, later or left, flags, kept), checks + 1
+            for edit, line in told.items():
+                if line:
+                    label = f'must-fail {crate.name}/{os.path.basename(edit)}'
+                    tried[edit] = True, f'{label}: refused, as it must be: {line[:160]}'
+            gone = [it for it in told if told[it] is not None or not any(told.values())]
+            left = {it: left[it] for it in left if it not in gone}
+            later = {it: left[it] for it in told if it in left}
         count = sum(1 for _, text in tried.values() if ': note: ' in text)
-        rt.say(f'{crate.name}: {checks} checks refused {len(tried)} of {len(edits)} mutants, {count} of them at an open '
-               'goal; each other is tried alone')
+        rt.say(f'{crate.name}: {checks} checks refused {len(tried)} of {len(edits)} mutants, {count} at an open goal; '
+               'each other is tried alone')
         tried.update((it, rt.must_fail(crate, it, flags, kept)) for it in edits if it not in tried)
         is_sound = not rt.checked(crate, {}, flags, kept).returncode
     return [tried[it] if is_sound and tried[it][0] else rt.must_fail(crate, it, flags) for it in edits]

@@ -1,6 +1,6 @@
 #!/usr/bin/env bash
-# What tools/mutants.py says of four mutants of a small crate. Three are refused by two checks, since two change one
-# function. The fourth is not refused, though its function calls one that the same check refuses. The last line counts.
+# What tools/mutants.py says of five mutants of a small crate. Two change one function, and two another one that calls
+# it, to which no check comes where the first is refused. One of these survives, and is not refused. The last line counts.
 set -u
 . "$(dirname "$0")/holds.sh"
 tools=$(cd "$(dirname "$0")" && pwd)
@@ -46,9 +46,10 @@ END
 mutant thrice '    x * 2' '    x * 3'
 mutant once '    x * 2' '    x'
 mutant third '    x / 2' '    x / 3'
+mutant sixfold '2 * double(x)' '3 * double(x)'
 mutant survives '2 * double(x)' 'double(x) * 2'
 (cd "$folder" && "$tools/mutants.py" must-fail) >"$folder/told" 2>&1
-holds 'two checks' says 'doubles: 2 checks refused 3 of 4 mutants, 3 of them at an open goal; each other is tried alone'
-for name in thrice once third; do holds "$name" says "must-fail doubles/$name.edit: refused, as it must be: "; done
+holds 'four checks' says 'doubles: 4 checks refused 4 of 5 mutants, 4 at an open goal; each other is tried alone'
+for name in thrice once third sixfold; do holds "$name" says "must-fail doubles/$name.edit: refused, as it must be: "; done
 holds 'survives' says 'must-fail doubles/survives.edit: NOT REFUSED: the crate is still proved with this edit'
 ends
