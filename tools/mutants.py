@@ -96,7 +96,8 @@ def refusal(said, functions, folder):
 
 def try_together(rt, crate, edits, flags, kept):
     """Tries by one check the first of these mutants, and each that goes with those before it. Returns of each that was
-    tried the line that refuses it: none if the prover did not come to it, an empty one if it was not refused."""
+    tried the line that refuses it: none if the prover did not come to it, an empty one if it was not refused. And
+    whether the prover came to any."""
     taken, texts, tried = set(), {}, {}
     with tempfile.TemporaryDirectory(prefix='rt-text-') as room:
         for part in filter(lambda it: os.path.isdir(f'{crate.folder}/{it}'), ('src', 'specs', 'proofs')):
@@ -112,12 +113,32 @@ def try_together(rt, crate, edits, flags, kept):
                 tried[edit] = functions
     ran = rt.checked(crate, texts, flags, kept)
     said = ran.stdout.rstrip('\n').split('\n')
-    is_unread = rt.rtlib.STALE.search(ran.stdout) or any(rt.unread(it, texts) for it in said)
-    if ran.returncode != 1 or not said[-1].startswith('logic=not-proved') or is_unread:
-        return dict.fromkeys(tried, '')
+    is_read = not rt.rtlib.STALE.search(ran.stdout) and not any(rt.unread(it, texts) for it in said)
+    if ran.returncode != 1 or not said[-1].startswith('logic=not-proved') or not is_read:
+        return dict.fromkeys(tried, ''), not ran.returncode
     left_out = {it[1] for it in map(LEFT_OUT.match, said) if it}
     return {edit: refusal(said, functions, crate.folder) or (None if left_out & {it[3] for it in functions} else '')
-            for edit, functions in tried.items()}
+            for edit, functions in tried.items()}, True
+
+
+def refused_together(rt, crate, edits, flags, kept):
+    """The lines that refuse those of these mutants that are refused together, and by how many checks."""
+    groups, refused, checks = [edits], {}, 0
+    while any(groups):
+        group = groups.pop()
+        told, is_judged = try_together(rt, crate, group, flags, kept)
+        checks += 1
+        refused.update((it, line) for it, line in told.items() if line)
+        groups.append({it: group[it] for it in group if it not in told})
+        if is_judged:
+            # those that the prover did not come to go by themselves: nothing else that they call is changed then
+            groups.append({it: group[it] for it in told if told[it] is None and any(told.values())})
+        elif len(told) > 1:
+            # two may call each other, which the language refuses before any proof
+            names = [*told]
+            groups += [{it: group[it] for it in half} for half in (names[len(names) // 2:], names[:len(names) // 2])]
+        groups = [it for it in groups if it]
+    return refused, checks
 
 
 def must_fail_all(rt, crate, edits, flags):
@@ -126,20 +147,12 @@ def must_fail_all(rt, crate, edits, flags):
     if len(edits) < 2:
         return [rt.must_fail(crate, it, flags) for it in edits]
     good = [it for it in edits if not rt.read_edit(it, crate.folder)[1]]
-    left = {it: functions for it in good for functions in [functions_of(it, crate.folder)] if functions}
-    checks, tried, later = 0, {}, {}
+    found = {it: functions for it in good for functions in [functions_of(it, crate.folder)] if functions}
     with tempfile.TemporaryDirectory(prefix='rt-edits-') as kept:
-        while left:
-            # those that the last check did not come to go by themselves: nothing else that they call is changed then
-            told, checks = try_together(rt, crate, later or left, flags, kept), checks + 1
-            for edit, line in told.items():
-                if line:
-                    label = f'must-fail {crate.name}/{os.path.basename(edit)}'
-                    tried[edit] = True, f'{label}: refused, as it must be: {line[:160]}'
-            gone = [it for it in told if told[it] is not None or not any(told.values())]
-            left = {it: left[it] for it in left if it not in gone}
-            later = {it: left[it] for it in told if it in left}
-        count = sum(1 for _, text in tried.values() if ': note: ' in text)
+        refused, checks = refused_together(rt, crate, found, flags, kept)
+        tried = {it: (True, f'must-fail {crate.name}/{os.path.basename(it)}: refused, as it must be: {line[:160]}')
+                 for it, line in refused.items()}
+        count = sum(1 for line in refused.values() if line.startswith('note: '))
         rt.say(f'{crate.name}: {checks} checks refused {len(tried)} of {len(edits)} mutants, {count} at an open goal; '
                'each other is tried alone')
         tried.update((it, rt.must_fail(crate, it, flags, kept)) for it in edits if it not in tried)
