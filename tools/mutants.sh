@@ -1,6 +1,6 @@
 #!/usr/bin/env bash
 # What tools/mutants.py says of five mutants of a small crate. Two change one function, and two another one that calls it,
-# so the third check tries the last of them. It survives, and is not refused. The last line counts.
+# so one check cannot try all. One of these survives, and is not refused. The last line counts.
 set -u
 . "$(dirname "$0")/holds.sh"
 tools=$(cd "$(dirname "$0")" && pwd)
@@ -49,7 +49,7 @@ mutant third '    x / 2' '    x / 3'
 mutant sixfold '2 * double(x)' '3 * double(x)'
 mutant survives '2 * double(x)' 'double(x) * 2'
 (cd "$folder" && "$tools/mutants.py" must-fail) >"$folder/told" 2>&1
-holds 'three checks' says 'doubles: 3 checks refused 4 of 5 mutants, 4 at an open goal; each other is tried alone'
+holds 'more than one check' says 'doubles: [2-5] checks refused 4 of 5 mutants, 4 at an open goal; each other is tried'
 for name in thrice once third sixfold; do holds "$name" says "must-fail doubles/$name.edit: refused, as it must be: "; done
 holds survives says 'must-fail doubles/survives.edit: NOT REFUSED: the crate is still proved with this edit'
 ends
