@@ -45,6 +45,19 @@ if nm -u "$library" | awk 'NF == 2 { print $2 }' | grep -vxE 'mem(cpy|move|set|c
 fi
 passes 'what the library asks for'
 
+# takes_itself NAME: the function has locked exchanges of its own. The compiler drops a hint to inline where what it is
+# for would grow large, and says nothing
+takes_itself() {
+    objdump -d --no-show-raw-insn "$library" |
+        awk -v name="$1>:" '/>:$/ { found = index($0, name) } found && /lock cmpxchg/ { n++ } END { exit n < 3 }'
+}
+if command -v objdump >/dev/null; then
+    for name in find_base find_huge; do takes_itself "Allocator::$name" || fails "$name calls one body for all orders"; done
+    passes 'single and huge frames are taken by bodies of their own'
+else
+    skips 'bodies of takes' objdump binutils
+fi
+
 # is_here LANGUAGE: a compiler for it
 is_here() {
     echo 'int main(void) { return 0; }' | "$cc" -x "$1" -o "$folder/empty" - 2>/dev/null

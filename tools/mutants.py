@@ -10,6 +10,7 @@ so a goal of one is refused whatever stands in the others. A mutant is refused w
 open, or not met by the answer that stands for it. Where its function calls one that is not proved, the prover does not
 come to it: the next check tries it again. Each mutant that was not refused so is tried alone, by rt, which judges then.
 """
+import functools
 import inspect
 import os
 import re
@@ -18,9 +19,12 @@ import sys
 import tempfile
 import types
 
-# what is called of rt, or stands in its place
-FORMS = {'must_fail_all': 'crate edits flags', 'must_fail': 'crate edit flags kept', 'read_edit': 'edit folder',
-         'checked': 'crate texts flags kept', 'unread': 'line changed'}
+# what is called of rt, and what stands in place of its own: of the kits' rt one has a function for all mutants of a
+# crate, the other makes a task of each
+FORMS = {'must_fail': 'crate edit flags kept', 'read_edit': 'edit folder', 'checked': 'crate texts flags kept',
+         'unread': 'line changed'}
+ALL, TASKS = ({'must_fail_all': 'crate edits flags'},
+              {'add_edits': 'tasks crate edits first waits is_well kept start in_ci', 'linked': 'folder to'})
 HEAD = re.compile(r'( *)(?:pub(?:\(.*?\))? )?(?:unsafe )?(?:extern "C" )?fn (\w+)')
 CLAUSE = re.compile(r' *(requires|ensures|ghost)\b')
 GOAL = re.compile(r'note: (?:\./)?(src/\S+?):(\d+):\d+: (?:it is not proved that|`search` found no proof)')
@@ -94,7 +98,7 @@ def refusal(said, functions, folder):
     return ''.join(answers[:1])
 
 
-def try_together(rt, crate, edits, flags, kept):
+def try_together(rt, crate, edits, check):
     """Tries by one check the first of these mutants, and each that goes with those before it. Returns of each that was
     tried the line that refuses it: none if the prover did not come to it, an empty one if it was not refused. And
     whether the prover came to any."""
@@ -111,7 +115,7 @@ def try_together(rt, crate, edits, flags, kept):
                 texts.update(changed)
                 taken |= functions
                 tried[edit] = functions
-    ran = rt.checked(crate, texts, flags, kept)
+    ran = check(texts)
     said = ran.stdout.rstrip('\n').split('\n')
     is_read = not rt.rtlib.STALE.search(ran.stdout) and not any(rt.unread(it, texts) for it in said)
     if ran.returncode != 1 or not said[-1].startswith('logic=not-proved') or not is_read:
@@ -121,12 +125,12 @@ def try_together(rt, crate, edits, flags, kept):
             for edit, functions in tried.items()}, True
 
 
-def refused_together(rt, crate, edits, flags, kept):
-    """The lines that refuse those of these mutants that are refused together, and by how many checks."""
+def refused_together(rt, crate, edits, check):
+    """What is said of those of these mutants that are refused together."""
     groups, refused, checks = [edits], {}, 0
     while any(groups):
         group = groups.pop()
-        told, is_judged = try_together(rt, crate, group, flags, kept)
+        told, is_judged = try_together(rt, crate, group, check)
         checks += 1
         refused.update((it, line) for it, line in told.items() if line)
         groups.append({it: group[it] for it in group if it not in told})
@@ -138,7 +142,17 @@ def refused_together(rt, crate, edits, flags, kept):
             names = [*told]
             groups += [{it: group[it] for it in half} for half in (names[len(names) // 2:], names[:len(names) // 2])]
         groups = [it for it in groups if it]
-    return refused, checks
+    count = sum(1 for line in refused.values() if line.startswith('note: '))
+    rt.say(f'{crate.name}: {checks} checks refused {len(refused)} of {len(edits)} mutants, {count} at an open goal; '
+           'each other is tried alone')
+    return {it: f'must-fail {crate.name}/{os.path.basename(it)}: refused, as it must be: {line[:160]}'
+            for it, line in refused.items()}
+
+
+def may_be_together(rt, crate, edits):
+    """Those of these mutants that one check may try beside others, each with its functions."""
+    good = [it for it in edits if not rt.read_edit(it, crate.folder)[1]]
+    return {it: functions for it in good for functions in [functions_of(it, crate.folder)] if functions}
 
 
 def must_fail_all(rt, crate, edits, flags):
@@ -146,18 +160,47 @@ def must_fail_all(rt, crate, edits, flags):
     this run; and all is tried again from nothing where the crate itself is not proved over that folder."""
     if len(edits) < 2:
         return [rt.must_fail(crate, it, flags) for it in edits]
-    good = [it for it in edits if not rt.read_edit(it, crate.folder)[1]]
-    found = {it: functions for it in good for functions in [functions_of(it, crate.folder)] if functions}
     with tempfile.TemporaryDirectory(prefix='rt-edits-') as kept:
-        refused, checks = refused_together(rt, crate, found, flags, kept)
-        tried = {it: (True, f'must-fail {crate.name}/{os.path.basename(it)}: refused, as it must be: {line[:160]}')
-                 for it, line in refused.items()}
-        count = sum(1 for line in refused.values() if line.startswith('note: '))
-        rt.say(f'{crate.name}: {checks} checks refused {len(tried)} of {len(edits)} mutants, {count} at an open goal; '
-               'each other is tried alone')
+        found = may_be_together(rt, crate, edits)
+        refused = refused_together(rt, crate, found, lambda texts: rt.checked(crate, texts, flags, kept))
+        tried = {it: (True, said) for it, said in refused.items()}
         tried.update((it, rt.must_fail(crate, it, flags, kept)) for it in edits if it not in tried)
         is_sound = not rt.checked(crate, {}, flags, kept).returncode
     return [tried[it] if is_sound and tried[it][0] else rt.must_fail(crate, it, flags) for it in edits]
+
+
+def add_edits(rt, own, tasks, crate, edits, first, waits, is_well, kept, *rest, **named):
+    """Around rt's function of this name, whose tasks try each mutant over a copy of what a check of the crate proved.
+    One task more tries many by one check over such a copy, and each of the others takes its answer, if it has one."""
+    given_back = own(tasks, crate, edits, first, waits, is_well, kept, *rest, **named)
+    found, key = may_be_together(rt, crate, edits), (crate.name, 'edits', 'together')
+    if len(found) < 2 or (crate.name, 'seed') not in tasks:
+        return given_back
+
+    def together(given, _jobs):
+        room = given[crate.name, 'seed']
+        left = {it: functions for it, functions in found.items() if edits.index(it) not in given_back[1]()}
+        if not room or not is_well(given, len(left)):
+            return {}
+
+        def check(texts):
+            with tempfile.TemporaryDirectory(prefix='together-', dir=room) as over:
+                rt.linked(f'{room}/seed', f'{over}/seed')
+                return rt.checked(crate, texts, ['--jobs', '1'], f'{over}/seed')
+
+        return {it: (rt.REFUSED, said) for it, said in refused_together(rt, crate, left, check).items()}
+
+    # a task stands behind those that it waits for
+    mine = {it: tasks.pop(it) for it in [*tasks] if it[0] == crate.name and it[1] in ('edits', 'sound', 'again')}
+    tasks[key] = (*mine[crate.name, 'edits', 0][:3], together)
+    for it, (after, lines, memory, call) in mine.items():
+        if it[1] == 'edits':
+            edit = edits[it[2]]
+            tasks[it] = ([*after, key], lines, memory,
+                         lambda given, jobs, edit=edit, call=call: given[key].get(edit) or call(given, jobs))
+        else:
+            tasks[it] = (after, lines, memory, call)
+    return given_back
 
 
 if __name__ == '__main__':
@@ -165,8 +208,14 @@ if __name__ == '__main__':
     if not os.path.isfile('crates.txt') or unknown:
         sys.exit(' '.join(['call this at the top of the repository, with names of crates:', *unknown]))
     kit = load()
+
+    def has(forms):
+        """Whether the kit's rt has functions of these forms."""
+        return all(' '.join(inspect.signature(kit.__dict__.get(it, load)).parameters) == forms[it] for it in forms)
+
     # another kit's rt, of another form, tries them its own way
-    forms = {it: ' '.join(inspect.signature(kit.__dict__.get(it, load)).parameters) for it in FORMS}
-    if forms == FORMS:
-        kit.must_fail_all = lambda *given: must_fail_all(kit, *given)
+    if has({**FORMS, **ALL}):
+        kit.must_fail_all = functools.partial(must_fail_all, kit)
+    elif has({**FORMS, **TASKS}):
+        kit.add_edits = functools.partial(add_edits, kit, kit.add_edits)
     sys.exit(kit.main(sys.argv[1:]))

@@ -24,12 +24,13 @@ pub record IsSlotFor (a : Allocator) (frame order : ℕ) (p : Slot) : Type 0 whe
 abbrev pub laid_down : Receipt → FrameBlock
 laid_down r = block r.frame r.order
 
--- a move was made for each tree of the memory, for an order of blocks, no exchange was lost, and no
--- block more is lent
+-- a move was made for each tree of the memory, for an order of blocks, no exchange was lost, no block more is
+-- lent, and what the core keeps is as before
 pub record FindsNothing (a : Allocator) (order : ℕ) (c d : Core) : Type 0 where
   pub looked : HasMovedForEach a order c d
   pub unlost : losses_by d ≡ losses_by c
   pub lent : lent_by d ≡ lent_by c
+  pub kept : kept_by d ≡ kept_by c
 
 -- the core lends no block and keeps none
 pub record IsUnused (c : Core) : Type 0 where

@@ -1,5 +1,5 @@
 -- Zones are opened, one after another.
-use Rattle.std.proofs.Common.{◌≡◌, ℕ, ◌+◌, ◌<◌, List, [], ◌∷◌, ◌++◌, length, slice_index_or, refl, sym, ◌∙◌, ap, subst, arith, inl, inr, ◌%◌}
+use Rattle.std.proofs.Common.{◌≡◌, ℕ, ◌+◌, ◌<◌, List, [], ◌∷◌, ◌++◌, length, slice_index_or, All, refl, sym, ◌∙◌, ap, subst, arith, inl, inr, ◌%◌}
 use Rattle.frame_model.specs.declared.key.Key.{Key}
 use Rattle.std.proofs.lemmas.Bool.{cases_lt}
 use Rattle.std.proofs.lemmas.List.{get_or_append_left, get_or_push, length_push, get_or_default}
@@ -9,10 +9,12 @@ use Rattle.core_frames.specs.Cores.{memory_of, IsNewCore, IsOpened}
 use Rattle.frame_zones.specs.Sizes.{AreLaidOut, AreSized, HaveCores}
 use Rattle.frame_zones.specs.Spans.{Place, MayComeAfter, MayBeZones, HoldsLawful}
 use Rattle.frame_zones.specs.declared.spans.Span.{Span}
+use Rattle.frame_zones.specs.Homes.{StaysNowhere}
 use Rattle.frame_zones.specs.Openings.{AreNewCoresIn, HaveHomes, IsLonger, IsAt, AreAt, AreDealt, AreOpened}
 use Rattle.frame_zones.specs.Zones.{zone_count}
 use Rattle.frame_zones.specs.declared.zones.Zones.{Zones}
 use Rattle.frame_zones.specs.declared.zones.ZoneCore.{ZoneCore}
+use Rattle.frame_zones.specs.declared.zones.Stay.{Stay}
 use Rattle.frame_zones.proofs.Lying.{one_at, ascending}
 
 some_of : {X : Type 0} (xs : List X) → 0 < length xs → X
@@ -27,6 +29,7 @@ pub record IsOpening (total cores : ℕ) (places : List Place) (zones : List All
   pub as_many : length all ≡ cores
   pub homes : (k : ℕ) (c : ZoneCore) → k < length all → (slice_index_or all k c).home < total
   pub even : HaveHomes cores total all
+  pub nowhere : All StaysNowhere all
   pub each : (k : ℕ) (c : ZoneCore) → k < length all → AreNewCoresIn zones (slice_index_or all k c)
 
 -- an item of a list with one more at its end
@@ -78,6 +81,10 @@ opening_one total cores places zones firsts all new p a parts was opened is fewe
   even = λ k c within.
       let here = subst (λ n. k < n) dealt.count within in
       (dealt.each k c (some_of parts (omega (arith, here, same))) here).home ∙ was.even k c here;
+  nowhere = λ k c within.
+      let here = subst (λ n. k < n) dealt.count within in
+      subst (λ (l : List Stay). All (λ s. s.left ≡ 0) l)
+      (sym (dealt.each k c (some_of parts (omega (arith, here, same))) here).same_stays) (was.nowhere k c here);
   each = λ k c within.
       let here = subst (λ n. k < n) dealt.count within in
       let old : ZoneCore = slice_index_or all k c in
@@ -149,6 +156,7 @@ opening_all zs total cores places all may was whole count many = record {
           home = subst (λ n. (slice_index_or all k c).home < n) (sym whole) (was.homes k c within);
         };
         each = λ z a x z-within. new.each z a x z-within;
+        nowhere = was.nowhere k c within;
       };
 }
 

@@ -51,7 +51,7 @@ all_stay zs cores are = record {
     firsts = λ z within. refl;
     as_many = refl;
     count = refl;
-    each = λ k c within. record { home = refl; parts = λ z x z-within. refl };
+    each = λ k c within. record { home = refl; same_stays = refl; parts = λ z x z-within. refl };
     are_cores = are;
   };
 }
@@ -75,6 +75,7 @@ all_back zs rest cores left back parts zones firsts many dealt again count are =
         let two : IsLonger (slice_index_or left k c) (slice_index_or parts k x) (slice_index_or back k c) = again.each k c x here in
         record {
           home = two.home ∙ sym one.home;
+          same_stays = two.same_stays ∙ sym one.same_stays;
           parts = λ z y z-within. ap (λ (l : List Core). slice_index_or l z y) (two.items ∙ sym one.items);
         };
     are_cores = λ k c within.
@@ -117,6 +118,7 @@ closed_last zs rest a cores left parts i off firsts-is many closed =
             let has : HasCoresIn rest.zones.items (slice_index_or left k c) = off.left_in k c here in
             record {
               home = sym longer.home;
+              same_stays = sym longer.same_stays;
               parts = λ z y z-within. sym (ap (λ (l : List Core). slice_index_or l z y) longer.items
                   ∙ get_or_append_left (slice_index_or left k c).cores.items (slice_index_or parts k x ∷ []) y z
                   (subst (λ m. z < m) (sym has.count) z-within));
@@ -160,6 +162,7 @@ left_then zs now next cores mid left one two fewer = record {
       two.each k c (subst (λ n. k < n) (sym one.count) within) in
       record {
         home = second.home ∙ first.home;
+        same_stays = second.same_stays ∙ first.same_stays;
         parts = λ z x z-within. second.parts z x z-within ∙ first.parts z x (omega (arith, z-within, fewer));
       };
   are_cores = two.are_cores;

@@ -23,12 +23,13 @@ use Rattle.frame_zones.proofs.Placing.{at_any_zone, at_that_zone}
 use Rattle.frame_zones.proofs.Sums.{just_more}
 use Rattle.frame_zones.proofs.Rounds.{stay_on, one_step, some_zone, some_core}
 
--- the zones below one were looked over, the others were left alone, and so much was counted
+-- the zones below one were looked over, the others, and where takes begin, were left alone, and so much was counted
 pub record Counted (count : Allocator → Core → ℕ) (zs : Zones) (z n : ℕ) (c d : ZoneCore) : Type 0 where
   pub stay : StayCoresOf zs c d
   pub seen : (k : ℕ) (a : Allocator) (x : Core) → k < z → k < zone_count zs
       → HasReadEntries (zone_at zs k a) (core_at c k x) (core_at d k x)
   pub unseen : (k : ℕ) (x : Core) → k < zone_count zs → z ≤ k → core_at d k x ≡ core_at c k x
+  pub same_stays : d.stays ≡ c.stays
   pub sum : (a : Allocator) (x : Core)
       → n ≡ sum_by (λ k. count (zone_at zs k a) (core_at d k x)) (range_with_len 0 z)
   pub small : n ≤ 2 ^ 32 * z
@@ -79,6 +80,7 @@ one_counted count zs z n m c d e within was stays step is few =
           (λ other. was.seen k a x (omega (arith, below, other)) k-within);
       unseen = λ k x k-within above.
           step.others k x k-within (λ same. omega (arith, same, above)) ∙ was.unseen k x k-within (omega (arith, above));
+      same_stays = step.same_stays ∙ was.same_stays;
       sum = λ a x.
           let before : ℕ → ℕ = λ k. count (zone_at zs k a) (core_at d k x) in
           let after : ℕ → ℕ = λ k. count (zone_at zs k a) (core_at e k x) in

@@ -132,26 +132,27 @@ record IsLeft (z k : ℕ) (s : Stay) : Type 0 where
   zone : s.zone ≡ z
   left : s.left + k ≡ 1024
 
-left_after : (zs : Zones) (n z : ℕ) (answers : ℕ → Result ZoneBlock TakeFault) (cores : ℕ → ZoneCore)
-    → n ≤ 9 → z < zone_count zs → IsWholeStay z (stay_of n (cores 0))
-    → ((k : ℕ) → k < 1024 → BeginsAndStays zs n (answers k) (cores k) (cores (k + 1))
-    × IfOk (answers k) (λ b. b.zone ≡ z))
-    → (k : ℕ) → k ≤ 1024 → IsLeft z k (stay_of n (cores k))
-left_after zs n z answers cores few within whole takes zero most =
+left_after : (zs : Zones) (n z : ℕ) (answers : ℕ → Result ZoneBlock TakeFault) (before after : ℕ → ZoneCore)
+    → n ≤ 9 → z < zone_count zs → IsWholeStay z (stay_of n (before 0))
+    → ((k : ℕ) → k < 1024 → BeginsAndStays zs n (answers k) (before k) (after k)
+    × IfOk (answers k) (λ b. b.zone ≡ z) × (stay_of n (before (k + 1)) ≡ stay_of n (after k)))
+    → (k : ℕ) → k ≤ 1024 → IsLeft z k (stay_of n (before k))
+left_after zs n z answers before after few within whole takes zero most =
     record { zone = whole.zone; left = omega (arith, whole.left) }
-left_after zs n z answers cores few within whole takes (suc k) most =
-    let was = left_after zs n z answers cores few within whole takes k (omega (arith, most)) in
+left_after zs n z answers before after few within whole takes (suc k) most =
+    let was = left_after zs n z answers before after few within whole takes k (omega (arith, most)) in
     let below : k < 1024 = omega (arith, most) in
     let step = takes k below in
-    let one = used_there zs n z (answers k) (cores k) (cores (k + 1)) few
+    let one = used_there zs n z (answers k) (before k) (after k) few
     (omega (arith, was.left, below), subst (λ m. m < zone_count zs) (sym was.zone) within) was.zone step.0 step.1 in
-    subst (λ m. IsLeft z (suc k) (stay_of n (cores m))) (add-one k)
-    (record { zone = one.zone ∙ was.zone; left = omega (arith, one.left, was.left, below) })
+    subst (λ m. IsLeft z (suc k) (stay_of n (before m))) (add-one k)
+    (subst (λ (s : Stay). IsLeft z (suc k) s) (sym step.2)
+    (record { zone = one.zone ∙ was.zone; left = omega (arith, one.left, was.left, below) }))
 
 pub comes_home : StayInNumbers
-comes_home zs n z answers cores few within whole takes = (
+comes_home zs n z answers before after few within whole takes = (
   λ k below.
-      let was = left_after zs n z answers cores few within whole takes k (omega (arith, below)) in
+      let was = left_after zs n z answers before after few within whole takes k (omega (arith, below)) in
       record {
         in_stay = λ _. sym was.zone;
         at_home = λ not. absurd (not (
@@ -159,7 +160,7 @@ comes_home zs n z answers cores few within whole takes = (
           subst (λ m. m < zone_count zs) (sym was.zone) within,
         ));
       },
-  let was = left_after zs n z answers cores few within whole takes 1024 (omega arith) in
+  let was = left_after zs n z answers before after few within whole takes 1024 (omega arith) in
       record {
         in_stay = λ lasts. absurd (omega (arith, lasts.0, was.left));
         at_home = λ _. refl;

@@ -28,9 +28,10 @@ pub record AreClosedFrom (from : ℕ) (zs : Zones) (cores : List ZoneCore) (imag
   pub each : (k : ℕ) (d : ZoneImage) → k < length images
       → IsZoneClosed zs cores (from + k) (slice_index_or images k d)
 
--- the core has its home and, in so many zones, its parts as before
+-- where takes begin through the core and, in so many zones, its parts are as before
 pub record HasSameParts (zones : ℕ) (c d : ZoneCore) : Type 0 where
   pub home : d.home ≡ c.home
+  pub same_stays : d.stays ≡ c.stays
   pub parts : (z : ℕ) (x : Core) → z < zones → core_at d z x ≡ core_at c z x
 
 -- the first ones of the zones are left, at their first frames, and the cores have their parts there

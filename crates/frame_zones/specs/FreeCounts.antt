@@ -34,10 +34,11 @@ entry_words_in a = entry_word_count (memory_of a)
 abbrev pub HasReadEntries : Allocator → Core → Core → Type 0
 HasReadEntries a x y = IsSameAfter (entry_words_in a) (view_in x) (view_in y)
 
--- it was so in this zone, and in the others all is as before
+-- it was so in this zone; in the others, and where takes begin, all is as before
 pub record ReadsIn (zs : Zones) (z : ℕ) (c d : ZoneCore) : Type 0 where
   pub here : (a : Allocator) (x : Core) → HasReadEntries (zone_at zs z a) (core_at c z x) (core_at d z x)
   pub others : OthersStay zs z c d
+  pub same_stays : d.stays ≡ c.stays
 
 -- so many are counted in this zone
 abbrev pub IsCountIn : (Allocator → Core → ℕ) → Zones → ℕ → ZoneCore → ℕ → Type 0

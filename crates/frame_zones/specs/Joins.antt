@@ -26,11 +26,12 @@ pub record HasJoinedIn (zs : Zones) (lower upper b : ZoneBlock) (c d : ZoneCore)
       (core_at c lower.zone x) (core_at d lower.zone x)
 
 -- a join of two blocks: the block of both is out; or they are no buddies of one zone, and were handed back with no
--- move
+-- move; where takes begin is as before
 pub record JoinsIn (zs : Zones) (lower upper : ZoneBlock) (answer : Result ZoneBlock (ZoneBlock × ZoneBlock))
     (c d : ZoneCore) : Type 0 where
   pub kept : (x : Core) → kept_by (core_at d lower.zone x) ≡ kept_by (core_at c lower.zone x)
   pub others : OthersStay zs lower.zone c d
+  pub same_stays : d.stays ≡ c.stays
   pub ok : IfOk answer (λ b. HasJoinedIn zs lower upper b c d)
   pub err : IfErr answer (λ same. (same.0 ≡ lower) × (same.1 ≡ upper) × (¬ AreBuddiesIn lower upper)
       × ((x : Core) → core_at d lower.zone x ≡ core_at c lower.zone x))

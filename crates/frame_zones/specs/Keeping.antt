@@ -15,15 +15,17 @@ use Rattle.frame_zones.specs.declared.zones.ZoneCore.{ZoneCore}
 abbrev pub IsKeptIn : ℕ → FrameBlock → ZoneCore → Type 0
 IsKeptIn z b c = (x : Core) → Contains (kept_by (core_at c z x)) b
 
--- by one move the core keeps the block in this zone, and in the others all is as before
+-- by one move the core keeps the block in this zone; in the others, and where takes begin, all is as before
 pub record KeepsInZone (zs : Zones) (z : ℕ) (b : FrameBlock) (c d : ZoneCore) : Type 0 where
   pub here : (x : Core) → HasKept b (view_in (core_at c z x)) (view_in (core_at d z x))
   pub others : OthersStay zs z c d
+  pub same_stays : d.stays ≡ c.stays
 
--- by one move it keeps this block of the zone once less, and in the others all is as before
+-- by one move it keeps this block of the zone once less; in the others, and where takes begin, all is as before
 pub record RecallsIn (zs : Zones) (z : ℕ) (b : FrameBlock) (c d : ZoneCore) : Type 0 where
   pub here : (x : Core) → HasRecalled b (view_in (core_at c z x)) (view_in (core_at d z x))
   pub others : OthersStay zs z c d
+  pub same_stays : d.stays ≡ c.stays
 
 -- it is this block of the zone, and was handed out there
 pub record IsThisOut (zs : Zones) (z : ℕ) (b : FrameBlock) (taken : ZoneBlock) : Type 0 where

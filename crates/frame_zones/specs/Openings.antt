@@ -7,6 +7,7 @@ use Rattle.frame_model.specs.Key.{IsKey}
 use Rattle.core_frames.specs.declared.shared.allocator.Allocator.{Allocator}
 use Rattle.core_frames.specs.declared.shared.allocator.Core.{Core}
 use Rattle.core_frames.specs.Cores.{memory_of, IsNewCore}
+use Rattle.frame_zones.specs.Homes.{StaysNowhere}
 use Rattle.frame_zones.specs.Spans.{Place, place_of_span, place_at, MayBeZones, HoldsLawful}
 use Rattle.frame_zones.specs.Zones.{zone_count, AreCoresOf, InEach}
 use Rattle.frame_zones.specs.declared.image.ZoneImage.{ZoneImage}
@@ -20,10 +21,11 @@ pub record AreNewCoresIn (zones : List Allocator) (c : ZoneCore) : Type 0 where
   pub each : (z : ℕ) (a : Allocator) (x : Core) → z < length zones
       → IsNewCore (slice_index_or zones z a) (slice_index_or c.cores.items z x)
 
--- the core got one part more
+-- the core got one part more, and where takes begin is as before
 pub record IsLonger (c : ZoneCore) (part : Core) (d : ZoneCore) : Type 0 where
   pub items : d.cores.items ≡ c.cores.items ++ part ∷ []
   pub home : d.home ≡ c.home
+  pub same_stays : d.stays ≡ c.stays
 
 -- each core got its part
 pub record AreDealt (old : List ZoneCore) (parts : List Core) (new : List ZoneCore) : Type 0 where
@@ -31,9 +33,9 @@ pub record AreDealt (old : List ZoneCore) (parts : List Core) (new : List ZoneCo
   pub each : (k : ℕ) (c : ZoneCore) (x : Core) → k < length old
       → IsLonger (slice_index_or old k c) (slice_index_or parts k x) (slice_index_or new k c)
 
--- no part yet, and a home among so many zones
+-- no part yet, a home among so many zones, and no order stays in another one
 abbrev pub IsBegun : ℕ → ZoneCore → Type 0
-IsBegun zones c = (c.cores.items ≡ []) × (c.home < zones)
+IsBegun zones c = (c.cores.items ≡ []) × (c.home < zones) × StaysNowhere c
 
 -- the home of a core by its number, of so many: they lie as evenly among the zones as they can
 abbrev pub home_for : (number cores zones : ℕ) → ℕ
@@ -55,10 +57,12 @@ abbrev pub AreAt : List Place → List ℕ → List Allocator → Type 0
 AreAt places firsts zones = (z : ℕ) (p : Place) (a : Allocator) → z < length zones
     → IsAt (slice_index_or places z p) (slice_index_or firsts z 0) (slice_index_or zones z a)
 
--- a core of all zones as an opening gives it: with nothing lent and nothing kept in any of them
+-- a core of all zones as an opening gives it: with nothing lent and nothing kept in any of them, and takes of each
+-- order begin at home
 pub record IsNewIn (zs : Zones) (c : ZoneCore) : Type 0 where
   pub are_cores : AreCoresOf zs c
   pub each : InEach zs (λ a x _. IsNewCore a x) c c
+  pub nowhere : StaysNowhere c
 
 -- the zones lie at these places, and these are their cores
 pub record AreOpened (cores : ℕ) (places : List Place) (zs : Zones) (cs : List ZoneCore) : Type 0 where

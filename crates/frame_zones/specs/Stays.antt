@@ -76,11 +76,12 @@ pub record CountsAsTakes (zs : Zones) (z k : ℕ) (c d : ZoneCore) : Type 0 wher
   pub others : (n : ℕ) → ¬ (n ≡ 0) → stay_of n d ≡ stay_of n c
 
 -- behind a take that another zone served the next 1,024 of the order begin there, unless one of them is served
--- elsewhere, and the one behind these begins at home
+-- elsewhere, and the one behind these begins at home; between two of them may come whatever leaves the order's stay
+-- as it is, as gives and takes of other orders do
 abbrev pub StayInNumbers : Type 0
-StayInNumbers = (zs : Zones) (n z : ℕ) (answers : ℕ → Result ZoneBlock TakeFault) (cores : ℕ → ZoneCore)
-    → n ≤ 9 → z < zone_count zs → IsWholeStay z (stay_of n (cores 0))
-    → ((k : ℕ) → k < 1024 → BeginsAndStays zs n (answers k) (cores k) (cores (k + 1))
-    × IfOk (answers k) (λ b. b.zone ≡ z))
-    → ((k : ℕ) → k < 1024 → TakesBeginIn (zone_count zs) (cores k).home (stay_of n (cores k)) z)
-    × TakesBeginIn (zone_count zs) (cores 1024).home (stay_of n (cores 1024)) (cores 1024).home
+StayInNumbers = (zs : Zones) (n z : ℕ) (answers : ℕ → Result ZoneBlock TakeFault) (before after : ℕ → ZoneCore)
+    → n ≤ 9 → z < zone_count zs → IsWholeStay z (stay_of n (before 0))
+    → ((k : ℕ) → k < 1024 → BeginsAndStays zs n (answers k) (before k) (after k)
+    × IfOk (answers k) (λ b. b.zone ≡ z) × (stay_of n (before (k + 1)) ≡ stay_of n (after k)))
+    → ((k : ℕ) → k < 1024 → TakesBeginIn (zone_count zs) (before k).home (stay_of n (before k)) z)
+    × TakesBeginIn (zone_count zs) (before 1024).home (stay_of n (before 1024)) (before 1024).home

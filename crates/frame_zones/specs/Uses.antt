@@ -20,10 +20,11 @@ abbrev pub OthersStay : Zones → ℕ → ZoneCore → ZoneCore → Type 0
 OthersStay zs z c d = (k : ℕ) (x : Core) → k < zone_count zs → ¬ (k ≡ z)
     → core_at d k x ≡ core_at c k x
 
--- a block of the zone was given
+-- a block of the zone was given; in the others, and where takes begin, all is as before
 pub record GivesIn (zs : Zones) (z : ℕ) (c d : ZoneCore) : Type 0 where
   pub here : (x : Core) → HasGiven (core_at c z x) (core_at d z x)
   pub others : OthersStay zs z c d
+  pub same_stays : d.stays ≡ c.stays
 
 -- where nobody else steps in the zone of the block, its frames, held before, are free; every other of
 -- the zone is as before

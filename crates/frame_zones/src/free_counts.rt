@@ -18,6 +18,7 @@ impl Zones {
         requires { AreCoresOf self.now core.old }
         ensures core { StayCoresOf self.now core.old core.new }
         ensures reads { InEach self.now HasReadEntries core.old core.new }
+        ensures stays { core.new.stays ≡ core.old.stays }
         ensures sum { IsCountAmong free_frames_in self.now core.new result }
         ensures few { result ≤ frames_among self.now }
         ensures all_moves { moves_through core.new
@@ -35,6 +36,7 @@ impl Zones {
         requires { AreCoresOf self.now core.old }
         ensures core { StayCoresOf self.now core.old core.new }
         ensures reads { InEach self.now HasReadEntries core.old core.new }
+        ensures stays { core.new.stays ≡ core.old.stays }
         ensures sum { IsCountAmong free_huge_in self.now core.new result }
         ensures few { child_frames * result ≤ frames_among self.now }
         ensures all_moves { moves_through core.new

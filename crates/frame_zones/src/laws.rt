@@ -33,7 +33,8 @@ pub fn bounds_in_zones_are_these()
     ensures at_most { ZoneMovesTooMuch }
 {}
 
-/// In a zone that served one the next 1,024 takes of an order begin, and the one behind them at home.
+/// In a zone that served one the next 1,024 takes of an order begin, and the one behind them at home, whatever is
+/// given, split, kept or counted between them.
 pub fn takes_come_home()
     ensures { StayInNumbers }
 {}

@@ -120,6 +120,7 @@ impl PairCore {
         requires { ArePairOf zones.now self.old }
         ensures pair { StayPairFor zones.now 0 self.old self.new }
         ensures reads { InEach zones.now HasReadEntries self.old.small self.new.small }
+        ensures stays { self.new.small.stays ≡ self.old.small.stays }
         ensures sum { IsCountAmong free_frames_in zones.now self.new.small result }
         ensures few { result ≤ frames_among zones.now }
         ensures all_moves { moves_through self.new.small
@@ -133,6 +134,7 @@ impl PairCore {
         requires { ArePairOf zones.now self.old }
         ensures pair { StayPairFor zones.now 0 self.old self.new }
         ensures reads { InEach zones.now HasReadEntries self.old.small self.new.small }
+        ensures stays { self.new.small.stays ≡ self.old.small.stays }
         ensures sum { IsCountAmong free_huge_in zones.now self.new.small result }
         ensures few { child_frames * result ≤ frames_among zones.now }
         ensures all_moves { moves_through self.new.small

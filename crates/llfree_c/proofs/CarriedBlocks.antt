@@ -64,10 +64,14 @@ out_still s t h same out = record {
 -- what a take that found no block leaves in each zone
 pub found_nothing : (zs : Zones) (order : ℕ) (c d : ZoneCore) → IsRefusedBlock zs order c d NoBlock
     → FindsNothingAnywhere zs order c d
-found_nothing zs order c d refused z a x less = record {
-  looked = refused.0.0 z a x less;
-  unlost = refused.0.1 z a x less;
-  lent = refused.1 z a x less;
+found_nothing zs order c d refused = record {
+  in_each = λ z a x less. record {
+    looked = refused.0.0 z a x less;
+    unlost = refused.0.1 z a x less;
+    lent = refused.1 z a x less;
+    kept = refused.2 z a x less;
+  };
+  moves = refused.3;
 }
 
 -- the seat of a single frame is the right to one

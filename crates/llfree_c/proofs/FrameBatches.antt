@@ -12,17 +12,18 @@ use Rattle.core_frames.specs.declared.shared.allocator.Core.{Core}
 use Rattle.frame_zones.proofs.Rounds.{some_zone}
 use Rattle.frame_zones.specs.Zones.{zone_count, core_at}
 use Rattle.frame_zones.specs.declared.zones.Zones.{Zones}
-use Rattle.zone_slots.specs.Calls.{zones_of, SharesOne}
+use Rattle.zone_slots.specs.Calls.{zones_of, SharesOne, KeepsAllInEach}
 use Rattle.zone_slots.specs.FrameCalls.{resting_in, next_batch, KeepsRest, lent_out_in}
 use Rattle.zone_slots.specs.Resting.{most_resting, refill_frames, flush_frames, one_in, singles_in}
 use Rattle.zone_slots.specs.Uses.{EachLendsSame}
 use Rattle.zone_slots.specs.declared.core_state.CoreState.{CoreState}
 use Rattle.zone_slots.specs.declared.single_frame.SingleFrame.{SingleFrame}
-use Rattle.llfree_c.specs.Batches.{CarriesNothing, CarriesSingle, CarriesSingleOf, carried_in, LendsThese, LendsTheseNoMore, RestFewer, RestMore, FillsFirst, TakesFrames, GivesFrames}
+use Rattle.llfree_c.specs.Batches.{CarriesNothing, CarriesSingle, CarriesSingleOf, carried_in, LendsTheseNoMore, RestFewer, RestMore, FillsFirst, TakesFrames, GivesFrames}
 use Rattle.llfree_c.specs.Blocks.{IsEmptyOrOut}
 use Rattle.llfree_c.specs.Frames.{TakesFrame, GivesFrame, FindsNoFrame, LosesFrame, RefusesFrameAs, KeepsFrameAs}
 use Rattle.llfree_c.specs.Status.{ok, no_block, bad_order, not_held, contended}
 use Rattle.llfree_c.specs.declared.block_handle.BlockHandle.{BlockHandle}
+use Rattle.zone_slots.proofs.Rested.{then_keeps}
 use Rattle.llfree_c.proofs.CarriedBlocks.{out_still}
 
 -- of frames that are carried one more lies in the zone of its number
@@ -52,7 +53,7 @@ none_filled hs s =
         within = omega arith;
         each = All-nil (CarriesSingleOf s);
         others = refl;
-        lent = λ z x within. left (lent_out_in s z x);
+        lent = record { lent = λ z x within. left (lent_out_in s z x); kept = λ z a x within. refl };
       };
       same = λ zero. refl;
       enough = λ few. record { fewer = omega arith; core = refl };
@@ -91,13 +92,16 @@ one_filled n before items h s t u inside long so shared took =
             (All-push (CarriesSingleOf s) first h so.taken.each
             (record { single = (took.live, took.order); out = out_still s t h so.shared took.out }));
         others = drop-set-lt (n + 1) items n h (omega arith) ∙ behind_one n items before so.taken.others;
-        lent = λ z x within.
-            up (lent_out_in s z x) (lent_out_in t z x) (lent_out_in u z x) (carried_in (zones_of s) first z) (one_in (zones_of s) z h.frame)
-            (carried_in (zones_of s) (take (n + 1) (set items n h)) z)
-            (so.taken.lent z x within)
-            (took.lent z x (subst (λ (zs : Zones). z < zone_count zs) (sym zones) within)
-            ∙ ap (λ (zs : Zones). lent_out_in t z x +ℤ pos (one_in zs z h.frame)) zones)
-            (carried_more (zones_of s) first (take (n + 1) (set items n h)) h z next);
+        lent = record {
+          lent = λ z x within.
+              up (lent_out_in s z x) (lent_out_in t z x) (lent_out_in u z x) (carried_in (zones_of s) first z)
+              (one_in (zones_of s) z h.frame) (carried_in (zones_of s) (take (n + 1) (set items n h)) z)
+              (so.taken.lent.lent z x within)
+              (took.lent.lent z x (subst (λ (zs : Zones). z < zone_count zs) (sym zones) within)
+              ∙ ap (λ (zs : Zones). lent_out_in t z x +ℤ pos (one_in zs z h.frame)) zones)
+              (carried_more (zones_of s) first (take (n + 1) (set items n h)) h z next);
+          kept = then_keeps s t u so.shared so.taken.lent.kept took.lent.kept;
+        };
       };
       same = λ zero. absurd (omega (arith, zero));
       enough = λ few.
@@ -137,18 +141,22 @@ lends_same t u shared rest same z x within =
     ap₂ (λ (zs : Zones) (fs : List SingleFrame). lent_by (core_at u.core z x) -ℤ pos (singles_in zs fs z)) zones rest
     ∙ ap (λ (l : ℤ). l -ℤ pos (singles_in (zones_of t) (resting_in t) z)) (same z (some_zone (zones_of t) z within) x within)
 
--- none was found behind them
+-- none was found behind them: nothing is lent or kept for it
+record FindsNone (t u : CoreState) : Type 0 where
+  none : resting_in t ≡ []
+  why : FindsNoFrame t u ⊎ LosesFrame t u
+  lent : EachLendsSame (zones_of t) t.core u.core
+  kept : KeepsAllInEach t u
+
 found_none : (h : BlockHandle) (status : ℕ) (t u : CoreState) → CarriesNothing h → RefusesFrameAs h status t u
-    → (resting_in t ≡ []) × (FindsNoFrame t u ⊎ LosesFrame t u) × EachLendsSame (zones_of t) t.core u.core
-found_none h status t u nothing refused = elim refused.1 as
-    (λ _. (resting_in t ≡ []) × (FindsNoFrame t u ⊎ LosesFrame t u) × EachLendsSame (zones_of t) t.core u.core) [
-      | inl live ↦ absurd (let f : false ≡ true = sym nothing ∙ live.1 in cc)
-      | inr other ↦ elim other as
-          (λ _. (resting_in t ≡ []) × (FindsNoFrame t u ⊎ LosesFrame t u) × EachLendsSame (zones_of t) t.core u.core) [
-            | inl none ↦ (none.1, inl none.2, none.2.lent)
-            | inr lost ↦ (lost.1, inr lost.2, lost.2.lent)
-          ]
-    ]
+    → FindsNone t u
+found_none h status t u nothing refused = elim refused.1 as (λ _. FindsNone t u) [
+  | inl live ↦ absurd (let f : false ≡ true = sym nothing ∙ live.1 in cc)
+  | inr other ↦ elim other as (λ _. FindsNone t u) [
+    | inl none ↦ record { none = none.1; why = inl none.2; lent = none.2.lent; kept = none.2.kept }
+    | inr lost ↦ record { none = lost.1; why = inr lost.2; lent = lost.2.lent; kept = lost.2.kept }
+  ]
+]
 
 -- the first n got theirs, and for the next one there was none
 pub stopped_short : (n : ℕ) (before items : List BlockHandle) (h : BlockHandle) (status : ℕ) (s t u : CoreState)
@@ -157,15 +165,19 @@ pub stopped_short : (n : ℕ) (before items : List BlockHandle) (h : BlockHandle
 stopped_short n before items h status s t u less nothing so shared refused =
     let zones : zones_of t ≡ zones_of s = λ i. (arc_value (so.shared i)).zones in
     let why = found_none h status t u nothing refused in
-    let empty : length (resting_in t) ≡ 0 = ap length why.0 in
+    let empty : length (resting_in t) ≡ 0 = ap length why.none in
     record {
       taken = record {
         within = so.taken.within;
         each = so.taken.each;
         others = so.taken.others;
-        lent = λ z x within.
-            lends_same t u shared refused.0 why.2 z x (subst (λ (zs : Zones). z < zone_count zs) (sym zones) within)
-            ∙ so.taken.lent z x within;
+        lent = record {
+          lent = λ z x within.
+              lends_same t u shared refused.0 why.lent z x
+              (subst (λ (zs : Zones). z < zone_count zs) (sym zones) within)
+              ∙ so.taken.lent.lent z x within;
+          kept = then_keeps s t u so.shared so.taken.lent.kept why.kept;
+        };
       };
       enough = λ few. absurd (omega (arith, few, less, empty, (so.enough (omega (arith, few, less))).fewer));
       rests = λ _. omega (arith, empty, ap length refused.0);
@@ -173,9 +185,9 @@ stopped_short n before items h status s t u less nothing so shared refused =
         core = t;
         shared = so.shared;
         lent = so.taken.lent;
-        none = why.0;
-        none_then = refused.0 ∙ why.0;
-        why = why.1;
+        none = why.none;
+        none_then = refused.0 ∙ why.none;
+        why = why.why;
       };
     }
 
@@ -236,7 +248,7 @@ none_given hs s =
       shared = refl;
       empty = All-nil CarriesNothing;
       others = refl;
-      lent = λ z x within. left (lent_out_in s z x);
+      lent = record { lent = λ z x within. left (lent_out_in s z x); kept = λ z a x within. refl };
       room = λ few. record { more = omega arith; core = refl };
       full = λ many. absurd (omega (arith, many, s.rest.few));
     }
@@ -288,13 +300,16 @@ one_given n before items h empty d s t u inside long at nothing so shared gave =
       empty = All-same CarriesNothing (take (n + 1) (set items n empty)) (take n items ++ empty ∷ []) next
           (All-push CarriesNothing (take n items) empty so.empty nothing);
       others = drop-set-lt (n + 1) items n empty (omega arith) ∙ behind_one n items before so.others;
-      lent = λ z x within.
-          down (lent_out_in s z x) (lent_out_in t z x) (lent_out_in u z x) (carried_in (zones_of s) (take n before) z)
-          (one_in (zones_of s) z h.frame) (carried_in (zones_of s) (take (n + 1) before) z)
-          (so.lent z x within)
-          (gave.lent z x (subst (λ (zs : Zones). z < zone_count zs) (sym zones) within)
-          ∙ ap (λ (zs : Zones). lent_out_in t z x -ℤ pos (one_in zs z h.frame)) zones)
-          (carried_more (zones_of s) (take n before) (take (n + 1) before) h z more);
+      lent = record {
+        lent = λ z x within.
+            down (lent_out_in s z x) (lent_out_in t z x) (lent_out_in u z x) (carried_in (zones_of s) (take n before) z)
+            (one_in (zones_of s) z h.frame) (carried_in (zones_of s) (take (n + 1) before) z)
+            (so.lent.lent z x within)
+            (gave.lent.lent z x (subst (λ (zs : Zones). z < zone_count zs) (sym zones) within)
+            ∙ ap (λ (zs : Zones). lent_out_in t z x -ℤ pos (one_in zs z h.frame)) zones)
+            (carried_more (zones_of s) (take n before) (take (n + 1) before) h z more);
+        kept = then_keeps s t u so.shared so.lent.kept gave.lent.kept;
+      };
       room = λ few.
           let was = so.room (omega (arith, few)) in
           let rests = gave.rests (omega (arith, few, was.more)) in

@@ -27,6 +27,7 @@ number_not_found s t (inl why) = inl (
     batch = why.0.batch;
     in_each = found_nothing (zones_of s) 0 why.0.core t.core why.0.why;
     lent = why.0.lent;
+    kept = why.0.kept;
   },
   why.1,
 )
@@ -43,8 +44,15 @@ number_lost s t (inl why) = inr (inl (
   record {
     core = why.0.core;
     batch = why.0.batch;
-    lost = record { looked = why.0.why.0.0; lost = why.0.why.0.1; lent = why.0.why.1 };
+    lost = record {
+      looked = why.0.why.0.0;
+      lost = why.0.why.0.1;
+      lent = why.0.why.1;
+      kept = why.0.why.2;
+      moves = why.0.why.3;
+    };
     lent = why.0.lent;
+    kept = why.0.kept;
   },
   why.1,
 ))

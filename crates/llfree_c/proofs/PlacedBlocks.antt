@@ -32,4 +32,5 @@ placed_held order place s t b h same placed carried =
       };
       begins = number ∙ placed.begins;
       others = placed.others;
+      moves = placed.moves;
     }

@@ -24,6 +24,7 @@ none_found h s t refused = (
       batch = refused.batch;
       in_each = found_nothing (zones_of s) 0 refused.core t.core refused.why;
       lent = refused.lent;
+      kept = refused.kept;
     },
   )),
 )
@@ -38,8 +39,15 @@ one_lost h s t refused = (
     record {
       core = refused.core;
       batch = refused.batch;
-      lost = record { looked = refused.why.0.0; lost = refused.why.0.1; lent = refused.why.1 };
+      lost = record {
+        looked = refused.why.0.0;
+        lost = refused.why.0.1;
+        lent = refused.why.1;
+        kept = refused.why.2;
+        moves = refused.why.3;
+      };
       lent = refused.lent;
+      kept = refused.kept;
     },
   )),
 )

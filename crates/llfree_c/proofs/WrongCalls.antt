@@ -50,7 +50,7 @@ count_is_too_high n s (Some t) = (
 )
 
 pub split_is_refused_for_nothing : SplitIsRefusedForNothing
-split_is_refused_for_nothing order s t = (
+split_is_refused_for_nothing order frame s t = (
   inl (refl, refl, refl, refl),
   λ some why. ⊎_elim (λ is. absurd (omega (arith, some, is.1)))
       (λ rest. ⊎_elim (λ other. absurd (omega (arith, other.0))) (λ other. absurd (omega (arith, other.0))) rest) why,

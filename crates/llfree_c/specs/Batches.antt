@@ -4,7 +4,7 @@ use Rattle.std.specs.List.{All, sum_by}
 use Rattle.core_frames.specs.declared.shared.allocator.Core.{Core}
 use Rattle.frame_zones.specs.Zones.{zone_count}
 use Rattle.frame_zones.specs.declared.zones.Zones.{Zones}
-use Rattle.zone_slots.specs.Calls.{zones_of, SharesOne, KeepsCore}
+use Rattle.zone_slots.specs.Calls.{zones_of, SharesOne, KeepsCore, KeepsAllInEach}
 use Rattle.zone_slots.specs.FrameCalls.{resting_in, KeepsRest, lent_out_in}
 use Rattle.zone_slots.specs.Resting.{most_resting, refill_frames, flush_frames, one_in}
 use Rattle.zone_slots.specs.declared.core_state.CoreState.{CoreState}
@@ -42,15 +42,19 @@ AreOfTheAllocator o hs = All (IsOfTheAllocator o) hs
 abbrev pub carried_in : Zones → List BlockHandle → ℕ → ℕ
 carried_in zs hs z = sum_by (λ h. one_in zs z h.frame) hs
 
--- in each zone as many blocks more are lent out as frames of these structs lie there
-abbrev pub LendsThese : List BlockHandle → CoreState → CoreState → Type 0
-LendsThese hs s t = (z : ℕ) (x : Core) → z < zone_count (zones_of s)
-    → lent_out_in t z x ≡ lent_out_in s z x +ℤ pos (carried_in (zones_of s) hs z)
+-- in each zone as many blocks more are lent out as frames of these structs lie there, and what the core keeps is as
+-- before
+pub record LendsThese (hs : List BlockHandle) (s t : CoreState) : Type 0 where
+  pub lent : (z : ℕ) (x : Core) → z < zone_count (zones_of s)
+      → lent_out_in t z x ≡ lent_out_in s z x +ℤ pos (carried_in (zones_of s) hs z)
+  pub kept : KeepsAllInEach s t
 
--- in each zone as many blocks fewer are lent out as frames of these structs lie there
-abbrev pub LendsTheseNoMore : List BlockHandle → CoreState → CoreState → Type 0
-LendsTheseNoMore hs s t = (z : ℕ) (x : Core) → z < zone_count (zones_of s)
-    → lent_out_in t z x ≡ lent_out_in s z x -ℤ pos (carried_in (zones_of s) hs z)
+-- in each zone as many blocks fewer are lent out as frames of these structs lie there, and what the core keeps is as
+-- before
+pub record LendsTheseNoMore (hs : List BlockHandle) (s t : CoreState) : Type 0 where
+  pub lent : (z : ℕ) (x : Core) → z < zone_count (zones_of s)
+      → lent_out_in t z x ≡ lent_out_in s z x -ℤ pos (carried_in (zones_of s) hs z)
+  pub kept : KeepsAllInEach s t
 
 -- n frames fewer rest, and the core is as it was in each zone
 pub record RestFewer (n : ℕ) (s t : CoreState) : Type 0 where

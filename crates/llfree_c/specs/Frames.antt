@@ -1,7 +1,7 @@
 -- What takes and gives of single frames leave that a struct carries or that rest with a core.
 use Rattle.std.specs.Prelude.{◌≡◌, ◌⊎◌, ℕ, ◌+◌, ◌<◌, [], true, false, length, Option, Some, None}
 use Rattle.frame_zones.specs.declared.zones.ZoneCore.{ZoneCore}
-use Rattle.zone_slots.specs.Calls.{zones_of, SharesOne, KeepsCore}
+use Rattle.zone_slots.specs.Calls.{zones_of, SharesOne, KeepsCore, KeepsAllInEach}
 use Rattle.zone_slots.specs.FrameCalls.{resting_in, next_batch, KeepsRest, LendsOneMore, LendsOneLess, LendsAsManyInEach}
 use Rattle.zone_slots.specs.Resting.{most_resting, flush_frames, BringsNone}
 use Rattle.zone_slots.specs.Uses.{EachLendsSame, FindsNothingAnywhere, LoseSome}
@@ -11,7 +11,7 @@ use Rattle.llfree_c.specs.Status.{no_block, bad_order, not_held, not_closed, con
 use Rattle.llfree_c.specs.declared.block_handle.BlockHandle.{BlockHandle}
 
 -- one frame that rested left, and the core is as it was in each zone
-pub record LeavesRest (s t : CoreState) : Type 0 where
+pub record NoLongerRests (s t : CoreState) : Type 0 where
   pub one : length (resting_in t) + 1 ≡ length (resting_in s)
   pub core : KeepsCore s t
 
@@ -27,7 +27,7 @@ pub record TakesFrame (h : BlockHandle) (s t : CoreState) : Type 0 where
   pub order : h.order ≡ 0
   pub out : IsOutOfOne s h
   pub lent : LendsOneMore h.frame s t
-  pub rested : 0 < length (resting_in s) → LeavesRest s t
+  pub rested : 0 < length (resting_in s) → NoLongerRests s t
   pub few : resting_in s ≡ [] → length (resting_in t) < next_batch s
 
 -- the single frame of this number was given through the core; where there was room for it to rest, no step was
@@ -37,19 +37,23 @@ pub record GivesFrame (frame : ℕ) (s t : CoreState) : Type 0 where
   pub rests : length (resting_in s) < most_resting → ComesToRest s t
   pub full : length (resting_in s) ≡ most_resting → length (resting_in t) + flush_frames ≡ most_resting + 1
 
--- behind a batch that brought none the core found no single frame in any zone, and lost no exchange
+-- behind a batch that brought none the core found no single frame in any zone, and lost no exchange; each zone lends
+-- as many as before, and what the core keeps there is as before
 pub record FindsNoFrame (s t : CoreState) : Type 0 where
   pub core : ZoneCore
   pub batch : BringsNone (zones_of s) (next_batch s) s.core core
   pub in_each : FindsNothingAnywhere (zones_of s) 0 core t.core
   pub lent : EachLendsSame (zones_of s) s.core t.core
+  pub kept : KeepsAllInEach s t
 
--- behind a batch that brought none the core found no single frame in any zone, and lost an exchange
+-- behind a batch that brought none the core found no single frame in any zone, and lost an exchange; each zone lends
+-- as many as before, and what the core keeps there is as before
 pub record LosesFrame (s t : CoreState) : Type 0 where
   pub core : ZoneCore
   pub batch : BringsNone (zones_of s) (next_batch s) s.core core
   pub lost : LoseSome (zones_of s) 0 core t.core
   pub lent : EachLendsSame (zones_of s) s.core t.core
+  pub kept : KeepsAllInEach s t
 
 -- why no single frame was taken into the struct: that carries a block; or none rested, and none was found and no
 -- exchange was lost, or one was
@@ -64,7 +68,8 @@ abbrev pub KeepsFrameAs : (held : BlockHandle) → (status : ℕ) → CoreState 
 KeepsFrameAs held status s t = KeepsRest s t × KeepsCore s t
     × (((status ≡ not_held) × (held.live ≡ false)) ⊎ ((status ≡ bad_order) × (0 < held.order)))
 
--- all that rested went back: in each zone as many blocks are lent besides as before
+-- all that rested went back: in each zone as many blocks are lent besides as before, and what the core keeps is as
+-- before
 pub record Drains (s t : CoreState) : Type 0 where
   pub shared : SharesOne s t
   pub none : resting_in t ≡ []

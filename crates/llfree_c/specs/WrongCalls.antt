@@ -40,12 +40,12 @@ CountIsTooHigh = (n : ℕ) (s : CoreState) (later : Option CoreState)
 -- a split of a single frame by numbers is refused as a bad order, and no other one is; none is refused as not held
 -- or as a bad order after a move, and none as contended with no block counted that found no slot
 abbrev pub SplitIsRefusedForNothing : Type 0
-SplitIsRefusedForNothing = (order : ℕ) (s t : CoreState)
-    → RefusesSplitAs 0 bad_order s s
-    × (0 < order → ¬ RefusesSplitAs order bad_order s t)
-    × (¬ RefusesSplitAs 0 not_held s t) × (¬ RefusesSplitAs 0 contended s t)
-    × (¬ KeepsCore s t → (¬ RefusesSplitAs order bad_order s t) × (¬ RefusesSplitAs order not_held s t))
-    × (¬ CountsOne s t → ¬ RefusesSplitAs order contended s t)
+SplitIsRefusedForNothing = (order frame : ℕ) (s t : CoreState)
+    → RefusesSplitAs 0 frame bad_order s s
+    × (0 < order → ¬ RefusesSplitAs order frame bad_order s t)
+    × (¬ RefusesSplitAs 0 frame not_held s t) × (¬ RefusesSplitAs 0 frame contended s t)
+    × (¬ KeepsCore s t → (¬ RefusesSplitAs order frame bad_order s t) × (¬ RefusesSplitAs order frame not_held s t))
+    × (¬ CountsOne s t → ¬ RefusesSplitAs order frame contended s t)
 
 -- what a struct carries is refused a split as a bad order just where it is a single frame, as not held only where
 -- none is carried, and for the other struct only where that carries one; and none is after a move

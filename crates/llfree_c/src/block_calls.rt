@@ -1,7 +1,8 @@
 //! What C calls of an allocator for several threads by blocks that it carries itself.
 
 ghost use Rattle.std.specs.Prelude.{◌≡◌, ◌≢◌, ◌⊎◌, ◌≤◌, true, false};
-ghost use Rattle.zone_slots.specs.Calls.{SharesOne, GivesFor, KeepsCore};
+ghost use Rattle.zone_slots.specs.Calls.{GivesFor, KeepsCore};
+ghost use Rattle.zone_slots.specs.FrameCalls.{LeavesRest};
 ghost use Rattle.llfree_c.specs.Blocks.{IsOfTheAllocator, TakesHeld, SplitsHeld};
 ghost use Rattle.llfree_c.specs.RefusedCalls.{RefusesBlockAs, RefusesHalvesAs};
 ghost use Rattle.llfree_c.specs.Status.{ok, bad_order, not_held, closed, not_closed, contended};
@@ -24,8 +25,8 @@ pub extern "C" fn llfree_take_block(
         × OnCores (TakesHeld order held.new) handle.old.state.value handle.new.state.value }
     ensures refused { result ≢ ok → result ≢ closed → OnCores
         (RefusesBlockAs order held.old result) handle.old.state.value handle.new.state.value }
-    ensures shared { result ≢ closed
-        → OnCores SharesOne handle.old.state.value handle.new.state.value }
+    ensures rest { result ≢ closed
+        → OnCores LeavesRest handle.old.state.value handle.new.state.value }
     ensures closed { result ≡ closed → (handle.old.live ≡ false) × (handle.new ≡ handle.old) }
     ensures stays { result ≢ ok → held.new ≡ held.old }
     ensures known { (result ≤ bad_order) ⊎ (result ≡ closed) ⊎ (result ≡ not_closed)
@@ -48,8 +49,8 @@ pub extern "C" fn llfree_give_block(handle: &mut CoreHandle, held: &mut BlockHan
         handle.old.state.value handle.new.state.value }
     ensures same { result ≡ not_held → (held.old.live ≡ false)
         × OnCores KeepsCore handle.old.state.value handle.new.state.value }
-    ensures shared { result ≢ closed
-        → OnCores SharesOne handle.old.state.value handle.new.state.value }
+    ensures rest { result ≢ closed
+        → OnCores LeavesRest handle.old.state.value handle.new.state.value }
     ensures closed { result ≡ closed → (handle.old.live ≡ false) × (handle.new ≡ handle.old) }
     ensures stays { result ≢ ok → held.new ≡ held.old }
     ensures known { (result ≡ ok) ⊎ (result ≡ not_held) ⊎ (result ≡ closed) }
@@ -74,8 +75,8 @@ pub extern "C" fn llfree_split_block(
         handle.old.state.value handle.new.state.value }
     ensures refused { result ≢ ok → result ≢ closed → OnCores
         (RefusesHalvesAs held.old upper.old result) handle.old.state.value handle.new.state.value }
-    ensures shared { result ≢ closed
-        → OnCores SharesOne handle.old.state.value handle.new.state.value }
+    ensures rest { result ≢ closed
+        → OnCores LeavesRest handle.old.state.value handle.new.state.value }
     ensures closed { result ≡ closed → (handle.old.live ≡ false) × (handle.new ≡ handle.old) }
     ensures stay { result ≢ ok → (held.new ≡ held.old) × (upper.new ≡ upper.old) }
     ensures known { (result ≡ ok) ⊎ (result ≡ bad_order) ⊎ (result ≡ not_held) ⊎ (result ≡ closed)

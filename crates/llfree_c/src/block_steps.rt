@@ -5,7 +5,8 @@ ghost use Rattle.llfree_c.specs.RefusedCalls.{RefusesBlockAs, RefusesHalvesAs};
 ghost use Rattle.llfree_c.specs.Status.{ok, bad_order, not_held, not_closed, contended};
 ghost use Rattle.llfree_c.specs.Blocks.{IsEmptyOrOut, IsCarriedFor, TakesHeld, SplitsHeld};
 ghost use Rattle.zone_slots.specs.Blocks.{IsOutFor};
-ghost use Rattle.zone_slots.specs.Calls.{SharesOne, GivesFor, KeepsCore};
+ghost use Rattle.zone_slots.specs.Calls.{GivesFor, KeepsCore};
+ghost use Rattle.zone_slots.specs.FrameCalls.{LeavesRest};
 
 use crate::block_handle::BlockHandle;
 use crate::statuses::{BAD_ORDER, CONTENDED, NO_BLOCK, NOT_CLOSED, NOT_HELD, OK};
@@ -14,7 +15,7 @@ use frame_zones::ZoneBlock;
 use zone_slots::CoreState;
 
 pub(crate) fn take_block(state: &mut CoreState, order: u8, held: &mut BlockHandle) -> u32
-    ensures shared { SharesOne state.old state.new }
+    ensures rest { LeavesRest state.old state.new }
     ensures taken { result ≡ ok → (held.old.live ≡ false)
         × TakesHeld order held.new state.old state.new }
     ensures refused { result ≢ ok → RefusesBlockAs order held.old result state.old state.new }
@@ -37,7 +38,7 @@ pub(crate) fn take_block(state: &mut CoreState, order: u8, held: &mut BlockHandl
 
 pub(crate) fn give_block(state: &mut CoreState, held: &mut BlockHandle) -> u32
     requires { IsEmptyOrOut state.old held.old }
-    ensures shared { SharesOne state.old state.new }
+    ensures rest { LeavesRest state.old state.new }
     ensures given { result ≡ ok → (held.old.live ≡ true)
         × GivesFor held.old.order held.old.frame state.old state.new }
     ensures empty { held.new.live ≡ false }
@@ -59,7 +60,7 @@ pub(crate) fn split_block(
     upper: &mut BlockHandle,
 ) -> u32
     requires { IsEmptyOrOut state.old held.old }
-    ensures shared { SharesOne state.old state.new }
+    ensures rest { LeavesRest state.old state.new }
     ensures split { result ≡ ok → (held.old.live ≡ true) × (upper.old.live ≡ false)
         × SplitsHeld held.old held.new upper.new state.old state.new }
     ensures refused { result ≢ ok

@@ -2,7 +2,8 @@
 
 ghost use Rattle.std.specs.Prelude.{◌≡◌, ◌≢◌, ◌⊎◌, ◌≤◌, true, false, length};
 ghost use Rattle.std.specs.List.{All};
-ghost use Rattle.zone_slots.specs.Calls.{SharesOne, TakesFor, GivesFor, SplitsFor, KeepsCore};
+ghost use Rattle.zone_slots.specs.Calls.{TakesFor, GivesFor, SplitsFor, KeepsCore};
+ghost use Rattle.zone_slots.specs.FrameCalls.{LeavesRest};
 ghost use Rattle.llfree_c.specs.CoreImages.{image_numbers_behind, LeavesCoreImage, LeavesNoCoreImage};
 ghost use Rattle.llfree_c.specs.Images.{StaysBehind};
 ghost use Rattle.llfree_c.specs.RefusedCalls.{RefusesTakeAs, RefusesSplitAs};
@@ -43,8 +44,8 @@ pub extern "C" fn llfree_take(handle: &mut CoreHandle, order: u8, frame: &mut u3
         → OnCores (TakesFor order frame.new) handle.old.state.value handle.new.state.value }
     ensures refused { result ≢ ok → result ≢ closed
         → OnCores (RefusesTakeAs order result) handle.old.state.value handle.new.state.value }
-    ensures shared { result ≢ closed
-        → OnCores SharesOne handle.old.state.value handle.new.state.value }
+    ensures rest { result ≢ closed
+        → OnCores LeavesRest handle.old.state.value handle.new.state.value }
     ensures closed { result ≡ closed → (handle.old.live ≡ false) × (handle.new ≡ handle.old) }
     ensures stays { result ≢ ok → frame.new ≡ frame.old }
     ensures known { (result ≤ bad_order) ⊎ (result ≡ closed) ⊎ (result ≡ contended) }
@@ -62,8 +63,8 @@ pub extern "C" fn llfree_give(handle: &mut CoreHandle, frame: u32, order: u8) ->
         → OnCores (GivesFor order frame) handle.old.state.value handle.new.state.value }
     ensures same { result ≡ not_held
         → OnCores KeepsCore handle.old.state.value handle.new.state.value }
-    ensures shared { result ≢ closed
-        → OnCores SharesOne handle.old.state.value handle.new.state.value }
+    ensures rest { result ≢ closed
+        → OnCores LeavesRest handle.old.state.value handle.new.state.value }
     ensures closed { result ≡ closed → (handle.old.live ≡ false) × (handle.new ≡ handle.old) }
     ensures known { (result ≡ ok) ⊎ (result ≡ not_held) ⊎ (result ≡ closed) }
 {
@@ -79,9 +80,9 @@ pub extern "C" fn llfree_split(handle: &mut CoreHandle, frame: u32, order: u8) -
     ensures split { result ≡ ok
         → OnCores (SplitsFor order frame) handle.old.state.value handle.new.state.value }
     ensures refused { result ≢ ok → result ≢ closed
-        → OnCores (RefusesSplitAs order result) handle.old.state.value handle.new.state.value }
-    ensures shared { result ≢ closed
-        → OnCores SharesOne handle.old.state.value handle.new.state.value }
+        → OnCores (RefusesSplitAs order frame result) handle.old.state.value handle.new.state.value }
+    ensures rest { result ≢ closed
+        → OnCores LeavesRest handle.old.state.value handle.new.state.value }
     ensures closed { result ≡ closed → (handle.old.live ≡ false) × (handle.new ≡ handle.old) }
     ensures known { (result ≡ ok) ⊎ (result ≡ bad_order) ⊎ (result ≡ not_held)
         ⊎ (result ≡ closed) ⊎ (result ≡ contended) }

@@ -1,7 +1,8 @@
 //! What C calls of blocks where they lie.
 
 ghost use Rattle.std.specs.Prelude.{◌≡◌, ◌≢◌, ◌⊎◌, ◌≤◌, false};
-ghost use Rattle.zone_slots.specs.Calls.{SharesOne, SplitsToFor, SeesFor, KeepsCore};
+ghost use Rattle.zone_slots.specs.Calls.{SplitsToFor, SeesFor, KeepsCore};
+ghost use Rattle.zone_slots.specs.FrameCalls.{LeavesRest};
 ghost use Rattle.zone_slots.specs.Places.{TakesPlaceFor};
 ghost use Rattle.llfree_c.specs.Places.{TakesHeldAt, RefusesTakeAtAs, RefusesBlockAtAs};
 ghost use Rattle.llfree_c.specs.RefusedCalls.{RefusesSplitToAs};
@@ -22,8 +23,8 @@ pub extern "C" fn llfree_take_at(handle: &mut CoreHandle, frame: u32, order: u8)
         → OnCores (TakesPlaceFor order frame) handle.old.state.value handle.new.state.value }
     ensures refused { result ≢ ok → result ≢ closed
         → OnCores (RefusesTakeAtAs order frame result) handle.old.state.value handle.new.state.value }
-    ensures shared { result ≢ closed
-        → OnCores SharesOne handle.old.state.value handle.new.state.value }
+    ensures rest { result ≢ closed
+        → OnCores LeavesRest handle.old.state.value handle.new.state.value }
     ensures closed { result ≡ closed → (handle.old.live ≡ false) × (handle.new ≡ handle.old) }
     ensures known { (result ≤ bad_order) ⊎ (result ≡ closed) ⊎ (result ≡ contended) }
 {
@@ -45,8 +46,8 @@ pub extern "C" fn llfree_take_block_at(
         (TakesHeldAt order frame held.new) handle.old.state.value handle.new.state.value }
     ensures refused { result ≢ ok → result ≢ closed → OnCores
         (RefusesBlockAtAs order frame held.old result) handle.old.state.value handle.new.state.value }
-    ensures shared { result ≢ closed
-        → OnCores SharesOne handle.old.state.value handle.new.state.value }
+    ensures rest { result ≢ closed
+        → OnCores LeavesRest handle.old.state.value handle.new.state.value }
     ensures closed { result ≡ closed → (handle.old.live ≡ false) × (handle.new ≡ handle.old) }
     ensures stays { result ≢ ok → held.new ≡ held.old }
     ensures known { (result ≤ bad_order) ⊎ (result ≡ closed) ⊎ (result ≡ not_closed)
@@ -67,9 +68,9 @@ pub extern "C" fn llfree_split_to(handle: &mut CoreHandle, frame: u32, order: u8
     ensures split { result ≡ ok
         → OnCores (SplitsToFor order to frame) handle.old.state.value handle.new.state.value }
     ensures refused { result ≢ ok → result ≢ closed
-        → OnCores (RefusesSplitToAs order to result) handle.old.state.value handle.new.state.value }
-    ensures shared { result ≢ closed
-        → OnCores SharesOne handle.old.state.value handle.new.state.value }
+        → OnCores (RefusesSplitToAs order to frame result) handle.old.state.value handle.new.state.value }
+    ensures rest { result ≢ closed
+        → OnCores LeavesRest handle.old.state.value handle.new.state.value }
     ensures closed { result ≡ closed → (handle.old.live ≡ false) × (handle.new ≡ handle.old) }
     ensures known { (result ≡ ok) ⊎ (result ≡ bad_order) ⊎ (result ≡ not_held)
         ⊎ (result ≡ closed) ⊎ (result ≡ contended) }
@@ -88,8 +89,8 @@ pub extern "C" fn llfree_order_at(handle: &mut CoreHandle, frame: u32, order: &m
         → OnCores (SeesFor order.new frame) handle.old.state.value handle.new.state.value }
     ensures same { result ≢ closed
         → OnCores KeepsCore handle.old.state.value handle.new.state.value }
-    ensures shared { result ≢ closed
-        → OnCores SharesOne handle.old.state.value handle.new.state.value }
+    ensures rest { result ≢ closed
+        → OnCores LeavesRest handle.old.state.value handle.new.state.value }
     ensures closed { result ≡ closed → (handle.old.live ≡ false) × (handle.new ≡ handle.old) }
     ensures stays { result ≢ ok → order.new ≡ order.old }
     ensures known { (result ≡ ok) ⊎ (result ≡ not_held) ⊎ (result ≡ closed) }

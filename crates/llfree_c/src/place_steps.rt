@@ -3,7 +3,7 @@
 ghost use Rattle.std.specs.Prelude.{◌≡◌, ◌≢◌, ◌⊎◌, ◌≤◌, false};
 ghost use Rattle.llfree_c.specs.Places.{TakesHeldAt, RefusesTakeAtAs, RefusesBlockAtAs};
 ghost use Rattle.llfree_c.specs.Status.{ok, bad_order, not_closed, contended};
-ghost use Rattle.zone_slots.specs.Calls.{SharesOne};
+ghost use Rattle.zone_slots.specs.FrameCalls.{LeavesRest};
 ghost use Rattle.zone_slots.specs.Places.{TakesPlaceFor};
 
 use crate::block_handle::BlockHandle;
@@ -13,7 +13,7 @@ use frame_words::TakeFault;
 use zone_slots::CoreState;
 
 pub(crate) fn take_at(state: &mut CoreState, frame: u32, order: u8) -> u32
-    ensures shared { SharesOne state.old state.new }
+    ensures rest { LeavesRest state.old state.new }
     ensures taken { result ≡ ok → TakesPlaceFor order frame state.old state.new }
     ensures refused { result ≢ ok → RefusesTakeAtAs order frame result state.old state.new }
     ensures known { (result ≤ bad_order) ⊎ (result ≡ contended) }
@@ -32,7 +32,7 @@ pub(crate) fn take_block_at(
     order: u8,
     held: &mut BlockHandle,
 ) -> u32
-    ensures shared { SharesOne state.old state.new }
+    ensures rest { LeavesRest state.old state.new }
     ensures empty { result ≡ ok → held.old.live ≡ false }
     ensures taken { result ≡ ok → TakesHeldAt order frame held.new state.old state.new }
     ensures refused { result ≢ ok

@@ -1,7 +1,7 @@
 //! What C calls of runs: huge frames that lie side by side; and looks at blocks.
 
 ghost use Rattle.std.specs.Prelude.{◌≡◌, ◌≢◌, ◌⊎◌, ◌≤◌, true, false};
-ghost use Rattle.zone_slots.specs.Calls.{SharesOne};
+ghost use Rattle.zone_slots.specs.FrameCalls.{LeavesRest};
 ghost use Rattle.zone_slots.specs.Runs.{LooksFor, TakesRunFor, GivesRunFor};
 ghost use Rattle.llfree_c.specs.Runs.{RefusesRunAs, RefusesGiveRunAs};
 ghost use Rattle.llfree_c.specs.SeenCores.{OnCores};
@@ -16,8 +16,8 @@ use crate::statuses::CLOSED;
 pub extern "C" fn llfree_is_free(handle: &mut CoreHandle, frame: u32, order: u8) -> bool
     ensures looks { handle.old.live ≡ true
         → OnCores (LooksFor order frame result) handle.old.state.value handle.new.state.value }
-    ensures shared { handle.old.live ≡ true
-        → OnCores SharesOne handle.old.state.value handle.new.state.value }
+    ensures rest { handle.old.live ≡ true
+        → OnCores LeavesRest handle.old.state.value handle.new.state.value }
     ensures closed { handle.old.live ≡ false → (result ≡ false) × (handle.new ≡ handle.old) }
 {
     if !handle.live {
@@ -33,8 +33,8 @@ pub extern "C" fn llfree_take_run(handle: &mut CoreHandle, count: u32, frame: &m
         → OnCores (TakesRunFor count frame.new) handle.old.state.value handle.new.state.value }
     ensures refused { result ≢ ok → result ≢ closed
         → OnCores (RefusesRunAs count result) handle.old.state.value handle.new.state.value }
-    ensures shared { result ≢ closed
-        → OnCores SharesOne handle.old.state.value handle.new.state.value }
+    ensures rest { result ≢ closed
+        → OnCores LeavesRest handle.old.state.value handle.new.state.value }
     ensures closed { result ≡ closed → (handle.old.live ≡ false) × (handle.new ≡ handle.old) }
     ensures stays { result ≢ ok → frame.new ≡ frame.old }
     ensures known { (result ≤ bad_order) ⊎ (result ≡ closed) ⊎ (result ≡ contended) }
@@ -52,8 +52,8 @@ pub extern "C" fn llfree_give_run(handle: &mut CoreHandle, frame: u32, count: u3
         → OnCores (GivesRunFor count frame) handle.old.state.value handle.new.state.value }
     ensures refused { result ≢ ok → result ≢ closed
         → OnCores (RefusesGiveRunAs count frame result) handle.old.state.value handle.new.state.value }
-    ensures shared { result ≢ closed
-        → OnCores SharesOne handle.old.state.value handle.new.state.value }
+    ensures rest { result ≢ closed
+        → OnCores LeavesRest handle.old.state.value handle.new.state.value }
     ensures closed { result ≡ closed → (handle.old.live ≡ false) × (handle.new ≡ handle.old) }
     ensures known { (result ≡ ok) ⊎ (result ≡ bad_order) ⊎ (result ≡ not_held) ⊎ (result ≡ closed) }
 {

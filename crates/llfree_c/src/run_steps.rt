@@ -3,7 +3,7 @@
 ghost use Rattle.std.specs.Prelude.{◌≡◌, ◌≢◌, ◌⊎◌, ◌≤◌};
 ghost use Rattle.llfree_c.specs.Runs.{RefusesRunAs, RefusesGiveRunAs};
 ghost use Rattle.llfree_c.specs.Status.{ok, bad_order, not_held, contended};
-ghost use Rattle.zone_slots.specs.Calls.{SharesOne};
+ghost use Rattle.zone_slots.specs.FrameCalls.{LeavesRest};
 ghost use Rattle.zone_slots.specs.Runs.{TakesRunFor, GivesRunFor};
 
 use crate::statuses::{BAD_ORDER, CONTENDED, NO_BLOCK, NOT_HELD, OK};
@@ -11,7 +11,7 @@ use frame_words::TakeFault;
 use zone_slots::{CoreState, Refusal};
 
 pub(crate) fn take_run(state: &mut CoreState, count: u32, frame: &mut u32) -> u32
-    ensures shared { SharesOne state.old state.new }
+    ensures rest { LeavesRest state.old state.new }
     ensures taken { result ≡ ok → TakesRunFor count frame.new state.old state.new }
     ensures refused { result ≢ ok → RefusesRunAs count result state.old state.new }
     ensures stays { result ≢ ok → frame.new ≡ frame.old }
@@ -29,7 +29,7 @@ pub(crate) fn take_run(state: &mut CoreState, count: u32, frame: &mut u32) -> u3
 }
 
 pub(crate) fn give_run(state: &mut CoreState, frame: u32, count: u32) -> u32
-    ensures shared { SharesOne state.old state.new }
+    ensures rest { LeavesRest state.old state.new }
     ensures given { result ≡ ok → GivesRunFor count frame state.old state.new }
     ensures refused { result ≢ ok → RefusesGiveRunAs count frame result state.old state.new }
     ensures known { (result ≡ ok) ⊎ (result ≡ bad_order) ⊎ (result ≡ not_held) }

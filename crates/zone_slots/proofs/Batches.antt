@@ -14,7 +14,8 @@ use Rattle.frame_table.specs.declared.block.Block.{Block}
 use Rattle.frame_words.specs.declared.fault.TakeFault.{TakeFault}
 use Rattle.frame_zones.proofs.Rounds.{some_zone, some_core}
 use Rattle.frame_zones.specs.Fills.{TakesMoreIn}
-use Rattle.frame_zones.specs.Zones.{zone_count, zone_at, core_at, first_frame_of, AreCoresOf}
+use Rattle.frame_zones.specs.Uses.{KeepsAll}
+use Rattle.frame_zones.specs.Zones.{zone_count, zone_at, core_at, first_frame_of, InEach, AreCoresOf}
 use Rattle.frame_zones.specs.declared.zones.Zones.{Zones}
 use Rattle.frame_zones.specs.declared.zones.ZoneCore.{ZoneCore}
 use Rattle.zone_slots.specs.Calls.{zones_of, SharesOne}
@@ -24,7 +25,8 @@ use Rattle.zone_slots.specs.Rights.{IsRightIn}
 use Rattle.zone_slots.specs.Uses.{EachLendsSame, IsRefusedBlock}
 use Rattle.zone_slots.specs.declared.core_state.CoreState.{CoreState}
 use Rattle.zone_slots.specs.declared.single_frame.SingleFrame.{SingleFrame}
-use Rattle.zone_slots.proofs.Rested.{count_more, none_elsewhere, one_here, pushed_all}
+use Rattle.zone_slots.proofs.Lifted.{kept_twice}
+use Rattle.zone_slots.proofs.Rested.{count_more, none_elsewhere, one_here, pushed_all, then_keeps}
 
 -- all that a batch laid down
 batch : (zs : Zones) (z k n : ℕ) (blocks : List Block) (c d : ZoneCore) (a : Allocator) (x : Core)
@@ -85,6 +87,15 @@ one_came zs z n m b f start before after within out single number is next came =
       );
     }
 
+-- a batch leaves what the core keeps in each zone
+batch_keeps : (zs : Zones) (z k n : ℕ) (blocks : List Block) (c d : ZoneCore) → TakesMoreIn zs z k n [] blocks c d
+    → InEach zs KeepsAll c d
+batch_keeps zs z k n blocks c d takes i a x within =
+    elim (cases_eq i z) as (λ _. kept_by (core_at d i x) ≡ kept_by (core_at c i x)) [
+      | inl same ↦ subst (λ j. kept_by (core_at d j x) ≡ kept_by (core_at c j x)) (sym same) (takes.here a x).kept
+      | inr other ↦ ap kept_by (takes.others i x within other)
+    ]
+
 -- a batch came to rest: each zone lends as many besides as before
 pub batch_rests : (zs : Zones) (z k n : ℕ) (blocks : List Block) (c d : ZoneCore) (before after : List SingleFrame)
     → AreCoresOf zs c → AreCoresOf zs d → TakesMoreIn zs z k n [] blocks c d
@@ -101,6 +112,7 @@ batch_rests zs z k n blocks c d before after were are takes came =
             | inr other ↦
                 ap₂ (λ (y : Core) m. lent_by y -ℤ pos m) (takes.others i x within other) (came.others i within other)
           ];
+      kept = batch_keeps zs z k n blocks c d takes;
     }
   where
     up : (l : ℤ) (k a b : ℕ) → b ≡ a + k → (l +ℤ pos k) -ℤ pos b ≡ l -ℤ pos a
@@ -137,9 +149,12 @@ pub then_taken : (r : Result SingleFrame TakeFault) (s m t : CoreState) → Shar
 then_taken (Ok f) s m t same as_many taken =
     let zones : zones_of m ≡ zones_of s = λ i. (arc_value (same i)).zones in record {
       is_single = subst (λ (zs : Zones). IsRightIn zs f.frame 0 f.seat.table_id f.seat.me) zones taken.is_single;
-      lent = λ z x within.
-          taken.lent z x (subst (λ (zs : Zones). z < zone_count zs) (sym zones) within)
-          ∙ ap₂ (λ l (zs : Zones). l +ℤ pos (one_in zs z f.frame)) (as_many z x within) zones;
+      lent = record {
+        lent = λ z x within.
+            taken.lent.lent z x (subst (λ (zs : Zones). z < zone_count zs) (sym zones) within)
+            ∙ ap₂ (λ l (zs : Zones). l +ℤ pos (one_in zs z f.frame)) (as_many.lent z x within) zones;
+        kept = then_keeps s m t same as_many.kept taken.lent.kept;
+      };
     }
 then_taken (Err e) s m t same as_many taken = tt
 
@@ -157,6 +172,8 @@ then_refused (Err e) s m t same none brings refused =
       batch = brought;
       why = why;
       lent = λ z a x within. why.1 z a x within ∙ lends_none (zones_of s) (next_batch s) s.core m.core brought z a x within;
+      kept = kept_twice (zones_of s) s.core m.core t.core
+          (batch_keeps (zones_of s) brought.zone 0 (next_batch s) [] s.core m.core brought.none) why.2;
       none = none;
       none_then = refused.none_then;
     }
@@ -174,6 +191,8 @@ refused_from (Err e) s m t same core next none refused =
       why = subst (λ (zs : Zones). IsRefusedBlock zs 0 refused.core t.core e) zones refused.why;
       lent = subst (λ (c : ZoneCore). EachLendsSame (zones_of s) c t.core) core
           (subst (λ (zs : Zones). EachLendsSame zs m.core t.core) zones refused.lent);
+      kept = subst (λ (c : ZoneCore). InEach (zones_of s) KeepsAll c t.core) core
+          (subst (λ (zs : Zones). InEach zs KeepsAll m.core t.core) zones refused.kept);
       none = none;
       none_then = refused.none_then;
     }

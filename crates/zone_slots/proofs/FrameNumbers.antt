@@ -1,17 +1,18 @@
 -- Single frames that are taken and given by number.
-use Rattle.std.proofs.Common.{◌≡◌, ℕ, ℤ, pos, ◌+◌, ◌<◌, List, [], ◌∷◌, ◌++◌, drop, length, inr, sym, ◌∙◌, ap, ap₂, subst, arith, ◌-ℤ◌, Option, Some, None, IfSome, IfNone, Result, Ok, Err, IfOk, IfErr}
+use Rattle.std.proofs.Common.{◌≡◌, ℕ, ℤ, pos, ◌+◌, ◌<◌, ◌≤◌, List, [], ◌∷◌, ◌++◌, drop, length, inr, sym, ◌∙◌, ap, ap₂, subst, arith, ◌-ℤ◌, Option, Some, None, IfSome, IfNone, Result, Ok, Err, IfOk, IfErr}
 use Rattle.std.proofs.Math.IntN.{+ℤ-neg_ℤ_cancel}
 use Rattle.std.proofs.lemmas.Int.{ints}
 use Rattle.std.specs.Arc.{arc_value}
 use Rattle.atomic_table.specs.Seated.{TableId}
 use Rattle.atomic_table.specs.Table.{Me}
-use Rattle.core_frames.specs.Cores.{lent_by}
+use Rattle.core_frames.specs.Bounds.{most_in_give}
+use Rattle.core_frames.specs.Cores.{kept_by, lent_by}
 use Rattle.core_frames.specs.declared.shared.allocator.Core.{Core}
 use Rattle.frame_model.specs.Block.{block}
 use Rattle.frame_table.specs.declared.rule.Watch.{Watch}
 use Rattle.frame_words.specs.declared.fault.TakeFault.{TakeFault}
 use Rattle.frame_words.specs.declared.fault.TakeFault.TheVariants.{Contended}
-use Rattle.frame_zones.specs.Uses.{GivesIn}
+use Rattle.frame_zones.specs.Uses.{GivesIn, moves_through}
 use Rattle.frame_zones.specs.Zones.{zone_count, core_at, first_frame_of, first_frame_in, IsOutOfItsZone}
 use Rattle.frame_zones.specs.declared.block.ZoneBlock.{ZoneBlock}
 use Rattle.frame_zones.specs.declared.zones.Zones.{Zones}
@@ -28,7 +29,7 @@ use Rattle.zone_slots.specs.declared.core_state.CoreState.{CoreState}
 use Rattle.zone_slots.specs.declared.single_frame.SingleFrame.{SingleFrame}
 use Rattle.zone_slots.specs.declared.zone_receipt.ZoneReceipt.{ZoneReceipt}
 use Rattle.zone_slots.proofs.Lifted.{given_in}
-use Rattle.zone_slots.proofs.Rested.{gives_one}
+use Rattle.zone_slots.proofs.Rested.{gives_one, then_keeps}
 
 -- the memory has the frame to which there is a right
 has_frame : (zs : Zones) (frame : ℕ) (id : TableId) (me : Me (Unit {0}) Watch) → IsRightIn zs frame 0 id me
@@ -52,15 +53,16 @@ single_laid zs b frame None number single is = tt
 
 -- or it went back
 pub single_back : (zs : Zones) (b : ZoneBlock) (frame : ℕ) (answer : Option ZoneReceipt) (c d : ZoneCore)
-    → IsOutOfItsZone zs b → first_frame_in zs b ≡ frame → b.block.order ≡ 0 → IfNone answer (GivesIn zs b.zone c d)
+    → IsOutOfItsZone zs b → first_frame_in zs b ≡ frame → b.block.order ≡ 0
+    → moves_through d ≤ moves_through c + most_in_give → IfNone answer (GivesIn zs b.zone c d)
     → IfNone answer (GivesByNumber zs 0 frame c d)
-single_back zs b frame (Some r) c d out number single gives = tt
-single_back zs b frame None c d out number single gives = record {
+single_back zs b frame (Some r) c d out number single moves gives = tt
+single_back zs b frame None c d out number single moves gives = record {
   zone = b.zone;
   local = b.block.frame;
   within = out.zone;
   number = sym number;
-  holds = subst (λ n. GivesInZone zs n c d b.zone b.block.frame) single (given_in zs b c d out gives);
+  holds = subst (λ n. GivesInZone zs n c d b.zone b.block.frame) single (given_in zs b c d out moves gives);
 }
 
 -- a frame was given, whatever rests
@@ -112,7 +114,10 @@ taken_number (Ok n) f s m t behind taken hits few is lays =
     let takes : TakesNumber f.frame s t = record {
       is_frame = has_frame (zones_of s) f.frame f.seat.table_id f.seat.me taken.is_single;
       laid = lays.laid;
-      lent = λ z x within. as_many m t behind lays.core lays.rest z x ∙ taken.lent z x within;
+      lent = record {
+        lent = λ z x within. as_many m t behind lays.core lays.rest z x ∙ taken.lent.lent z x within;
+        kept = λ z a x within. ap (λ (c : ZoneCore). kept_by (core_at c z x)) lays.core ∙ taken.lent.kept z a x within;
+      };
       rested = λ some. let hit = hits some in (left_last f s m t hit lays.rest, lays.core ∙ hit.core);
       few = λ none. subst (λ (fs : List SingleFrame). length fs < next_batch s) (sym lays.rest) (few none);
     } in
@@ -131,10 +136,13 @@ refused_number (Err e) f s m t same taken counted hits few is back =
       is,
       record {
         counted = back.counted ∙ ap (λ count. one_more count) counted;
-        lent = λ z x within.
-            back.lent z x (subst (λ (zs : Zones). z < zone_count zs) (sym zones) within)
-            ∙ ap₂ (λ l (zs : Zones). l -ℤ pos (one_in zs z f.frame)) (taken.lent z x within) zones
-            ∙ +ℤ-neg_ℤ_cancel (lent_out_in s z x) (pos (one_in (zones_of s) z f.frame));
+        lent = record {
+          lent = λ z x within.
+              back.lent.lent z x (subst (λ (zs : Zones). z < zone_count zs) (sym zones) within)
+              ∙ ap₂ (λ l (zs : Zones). l -ℤ pos (one_in zs z f.frame)) (taken.lent.lent z x within) zones
+              ∙ +ℤ-neg_ℤ_cancel (lent_out_in s z x) (pos (one_in (zones_of s) z f.frame));
+          kept = then_keeps s m t same taken.lent.kept back.lent.kept;
+        };
         rested = λ some. (f.frame, left_last f s m t (hits some) back.rest);
         few = λ none. subst (λ (fs : List SingleFrame). length fs < next_batch s) (sym back.rest) (few none);
       },

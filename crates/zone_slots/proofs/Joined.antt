@@ -5,7 +5,7 @@ use Rattle.std.proofs.lemmas.Bool.{cases_eq}
 use Rattle.std.proofs.lemmas.Int.{ints}
 use Rattle.std.proofs.lemmas.List.{length-take, take-take}
 use Rattle.std.proofs.lemmas.Nat.{pow_pos}
-use Rattle.core_frames.specs.Cores.{memory_of, lent_by}
+use Rattle.core_frames.specs.Cores.{memory_of, kept_by, lent_by}
 use Rattle.core_frames.specs.declared.shared.allocator.Allocator.{Allocator}
 use Rattle.core_frames.specs.declared.shared.allocator.Core.{Core}
 use Rattle.frame_zones.proofs.Rounds.{some_zone}
@@ -18,7 +18,8 @@ use Rattle.frame_zones.specs.declared.zones.ZoneCore.{ZoneCore}
 use Rattle.zone_slots.specs.Resting.{AreSingles, one_in, singles_in, lent_besides, LendAsManyBesides, block_in_zone, in_hand, GoBackOrJoin, LeaveTheList}
 use Rattle.zone_slots.specs.Uses.{GivesInZone}
 use Rattle.zone_slots.specs.declared.single_frame.SingleFrame.{SingleFrame}
-use Rattle.zone_slots.proofs.Rested.{one_here, none_elsewhere, popped_all, left_rest}
+use Rattle.zone_slots.proofs.Lifted.{kept_all, kept_twice}
+use Rattle.zone_slots.proofs.Rested.{one_here, none_elsewhere, gives_keep, popped_all, left_rest}
 
 -- a block that is out begins in a child of its zone
 begins_inside : (zs : Zones) (b : ZoneBlock) (a : Allocator) → IsOutOfItsZone zs b
@@ -102,20 +103,24 @@ swap_less l p q = omega (arith, ints)
 
 -- joined the other way round
 pub joined_over : (zs : Zones) (l u b : ZoneBlock) (c d : ZoneCore) → IsOutOfItsZone zs l → IsOutOfItsZone zs u
-    → AreCoresOf zs d → HasJoinedIn zs l u b c d → OthersStay zs l.zone c d → GoBackOrJoin zs c (Some u) (Some l) d (Some b)
-joined_over zs l u b c d lower upper are join others = record {
+    → AreCoresOf zs d → ((x : Core) → kept_by (core_at d l.zone x) ≡ kept_by (core_at c l.zone x))
+    → HasJoinedIn zs l u b c d → OthersStay zs l.zone c d → GoBackOrJoin zs c (Some u) (Some l) d (Some b)
+joined_over zs l u b c d lower upper are kept join others = record {
   are_cores = are;
   out = join.is_out;
   lent = λ z x within. joined zs l u b c d lower upper join others z x within
       ∙ swap_less (lent_by (core_at c z x)) (block_in_zone zs l z) (block_in_zone zs u z);
+  kept = kept_all zs l.zone c d kept others;
 }
 
 pub joined_up : (zs : Zones) (l u b : ZoneBlock) (c d : ZoneCore) → IsOutOfItsZone zs l → IsOutOfItsZone zs u
-    → AreCoresOf zs d → HasJoinedIn zs l u b c d → OthersStay zs l.zone c d → GoBackOrJoin zs c (Some l) (Some u) d (Some b)
-joined_up zs l u b c d lower upper are join others = record {
+    → AreCoresOf zs d → ((x : Core) → kept_by (core_at d l.zone x) ≡ kept_by (core_at c l.zone x))
+    → HasJoinedIn zs l u b c d → OthersStay zs l.zone c d → GoBackOrJoin zs c (Some l) (Some u) d (Some b)
+joined_up zs l u b c d lower upper are kept join others = record {
   are_cores = are;
   out = join.is_out;
   lent = λ z x within. joined zs l u b c d lower upper join others z x within;
+  kept = kept_all zs l.zone c d kept others;
 }
 
 none_left : (l : ℤ) → l -ℤ pos 0 ≡ l
@@ -132,6 +137,10 @@ both_back zs l u b c d e lower upper are same first second = record {
   lent = λ z x within. none_left (lent_by (core_at e z x)) ∙ went_back zs u d e upper second z x within
       ∙ ap (λ n. n -ℤ pos (block_in_zone zs u z)) (went_back zs l c d lower first z x within)
       ∙ ap (λ y. (lent_by y -ℤ pos (block_in_zone zs l z)) -ℤ pos (block_in_zone zs u z)) (same z x within);
+  kept = λ z a x within.
+      gives_keep zs u.zone u.block.frame u.block.order d e upper.zone second z a x within
+      ∙ gives_keep zs l.zone l.block.frame l.block.order c d lower.zone first z a x within
+      ∙ ap kept_by (same z x within);
 }
 
 -- the same where the cores were as they had been
@@ -143,6 +152,7 @@ go_on zs b c d first second r same go = record {
   out = go.out;
   lent = λ z x within. go.lent z x within
       ∙ ap (λ y. (lent_by y -ℤ pos (in_hand zs first z)) -ℤ pos (in_hand zs second z)) (same z x within);
+  kept = λ z a x within. go.kept z a x within ∙ ap kept_by (same z x within);
 }
 
 -- one went back, and there was no other
@@ -152,6 +162,7 @@ first_back zs b c d out are given = record {
   are_cores = are;
   out = tt;
   lent = λ z x within. ap (λ n. n -ℤ pos 0) (went_back zs b c d out given z x within);
+  kept = gives_keep zs b.zone b.block.frame b.block.order c d out.zone given;
 }
 
 pub second_back : (zs : Zones) (b : ZoneBlock) (c d : ZoneCore) → IsOutOfItsZone zs b → AreCoresOf zs d
@@ -161,6 +172,7 @@ second_back zs b c d out are given = record {
   out = tt;
   lent = λ z x within. ap (λ n. n -ℤ pos 0) (went_back zs b c d out given z x within)
       ∙ swap_less (lent_by (core_at c z x)) (block_in_zone zs b z) 0;
+  kept = gives_keep zs b.zone b.block.frame b.block.order c d out.zone given;
 }
 
 pub none_back : (zs : Zones) (c : ZoneCore) → AreCoresOf zs c → GoBackOrJoin zs c None None c None
@@ -168,6 +180,7 @@ none_back zs c are = record {
   are_cores = are;
   out = tt;
   lent = λ z x within. sym (none_left (lent_by (core_at c z x) -ℤ pos 0));
+  kept = λ z a x within. refl;
 }
 
 one_off : (l m : ℤ) (n : ℕ) → m ≡ l +ℤ pos n → m -ℤ pos n ≡ l
@@ -184,6 +197,7 @@ one_lifted zs c before after f b are all is number out = record {
   lent = λ z x within.
       ap (λ n. lent_besides zs c after z x -ℤ pos n) (ap (λ k. one_in zs z k) number)
       ∙ one_off (lent_besides zs c before z x) (lent_besides zs c after z x) (one_in zs z f.frame) (left_rest zs c before after f is z x);
+  kept = λ z a x within. refl;
 }
 
 through : (lc lc1 lc2 lc3 : ℤ) (s s1 s2 h h1 h2 : ℕ) → (lc1 -ℤ pos s1) -ℤ pos h1 ≡ lc -ℤ pos s
@@ -203,6 +217,7 @@ left_together zs c d e f before between after first second r one two both = reco
       through (lent_by (core_at c z x)) (lent_by (core_at d z x)) (lent_by (core_at e z x)) (lent_by (core_at f z x))
       (singles_in zs before z) (singles_in zs between z) (singles_in zs after z) (in_hand zs r z) (in_hand zs first z)
       (in_hand zs second z) (one.lent z x within) (two.lent z x within) (both.lent z x within);
+  kept = kept_twice zs c e f (kept_twice zs c d e one.kept two.kept) both.kept;
 }
 
 back_at_last : (l m k : ℤ) (s h : ℕ) → (m -ℤ pos s) -ℤ pos h ≡ k → l ≡ m -ℤ pos h → l -ℤ pos s ≡ k
@@ -218,6 +233,7 @@ all_back zs c d e before after b are left given = record {
   lent = λ z x within.
       back_at_last (lent_by (core_at e z x)) (lent_by (core_at d z x)) (lent_besides zs c before z x) (singles_in zs after z)
       (block_in_zone zs b z) (left.lent z x within) (went_back zs b d e left.out given z x within);
+  kept = kept_twice zs c d e left.kept (gives_keep zs b.zone b.block.frame b.block.order d e left.out.zone given);
 }
 
 -- or nothing was
@@ -227,6 +243,7 @@ none_in_hand zs c d before after left = record {
   are_cores = left.are_cores;
   are_singles = left.are_singles;
   lent = λ z x within. sym (none_left (lent_besides zs d after z x)) ∙ left.lent z x within;
+  kept = left.kept;
 }
 
 -- a block has as many frames as both of its halves

@@ -19,3 +19,5 @@ pub mod FrameNumbers
 pub mod Placed
 pub mod WrongPlaces
 pub mod Running
+pub mod GoingBack
+pub mod RunsKept

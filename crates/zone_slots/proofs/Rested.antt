@@ -5,10 +5,10 @@ use Rattle.std.specs.List.{sum_by}
 use Rattle.std.proofs.lemmas.Bool.{cases_eq, cases_order, lt-leb}
 use Rattle.std.proofs.lemmas.Int.{ints}
 use Rattle.std.proofs.lemmas.List.Elements.{All-append, All-drop, All-pop, All-push, All-same, All-take}
-use Rattle.std.proofs.lemmas.List.{append_assoc, drop_at, length-append, length-take, take-append-drop, take-append-le, take_all}
+use Rattle.std.proofs.lemmas.List.{append_assoc, drop_at, length-append, length-take, take-append-drop, take-append-le, take-take, take_all}
 use Rattle.std.proofs.lemmas.List.Sums.{sum_by-append, sum_by-take-drop, sum_by_push}
 use Rattle.atomic_table.specs.declared.shared.Seat.{Seat}
-use Rattle.core_frames.specs.Cores.{memory_of, lent_by}
+use Rattle.core_frames.specs.Cores.{memory_of, kept_by, lent_by}
 use Rattle.core_frames.specs.declared.shared.allocator.Allocator.{Allocator}
 use Rattle.core_frames.specs.declared.shared.allocator.Core.{Core}
 use Rattle.frame_model.specs.Block.{block, IsBlock}
@@ -19,17 +19,18 @@ use Rattle.frame_words.specs.declared.fault.TakeFault.{TakeFault}
 use Rattle.frame_zones.proofs.Rounds.{some_zone}
 use Rattle.frame_zones.specs.Stops.{AreStopped}
 use Rattle.frame_zones.specs.declared.image.ZoneImage.{ZoneImage}
-use Rattle.frame_zones.specs.Zones.{zone_count, zone_at, core_at, first_frame_of, first_frame_in, AreCoresOf, IsOutOfItsZone}
+use Rattle.frame_zones.specs.Uses.{KeepsAll}
+use Rattle.frame_zones.specs.Zones.{zone_count, zone_at, core_at, first_frame_of, first_frame_in, InEach, AreCoresOf, IsOutOfItsZone}
 use Rattle.frame_zones.specs.declared.block.ZoneBlock.{ZoneBlock}
 use Rattle.frame_zones.specs.declared.zones.Zones.{Zones}
 use Rattle.frame_zones.specs.declared.zones.ZoneCore.{ZoneCore}
 use Rattle.std.specs.Arc.{arc_value}
-use Rattle.zone_slots.specs.Calls.{zones_of, SharesOne}
+use Rattle.zone_slots.specs.Calls.{zones_of, SharesOne, KeepsAllInEach}
 use Rattle.zone_slots.specs.FrameCalls.{resting_in, LendsOneLess, LendsAsManyInEach, TakesSingle, RefusesOne, StopsWithout}
 use Rattle.zone_slots.specs.Layouts.{end_of_children}
 use Rattle.zone_slots.specs.Resting.{IsSingleIn, AreSingles, stretch_of, one_in, singles_in, lent_besides, LendAsManyBesides, HasTakenSingle}
 use Rattle.zone_slots.specs.Rights.{IsRightFrom}
-use Rattle.zone_slots.specs.Uses.{TakesByNumber, GivesByNumber, IsRefusedBlock}
+use Rattle.zone_slots.specs.Uses.{GivesInZone, TakesByNumber, GivesByNumber, IsRefusedBlock}
 use Rattle.zone_slots.specs.declared.core_state.CoreState.{CoreState}
 use Rattle.zone_slots.specs.declared.memory.Memory.{Memory}
 use Rattle.zone_slots.specs.declared.single_frame.SingleFrame.{SingleFrame}
@@ -109,6 +110,19 @@ gives_one zs n c d given k x before =
           ∙ ap (λ m. lent_by (core_at c k x) -ℤ pos m) (sym none)
     ]
 
+-- what the core keeps in each zone is as before
+pub gives_keep : (zs : Zones) (z local order : ℕ) (c d : ZoneCore) → z < zone_count zs
+    → GivesInZone zs order c d z local → InEach zs KeepsAll c d
+gives_keep zs z local order c d within given k a x before =
+    elim (cases_eq k z) as (λ _. kept_by (core_at d k x) ≡ kept_by (core_at c k x)) [
+      | inl same ↦ subst (λ i. kept_by (core_at d i x) ≡ kept_by (core_at c i x)) (sym same)
+          (given.here (some_zone zs z within) x).kept
+      | inr other ↦ ap kept_by (given.others k x before other)
+    ]
+
+pub gives_keep_all : (zs : Zones) (n : ℕ) (c d : ZoneCore) → GivesByNumber zs 0 n c d → InEach zs KeepsAll c d
+gives_keep_all zs n c d given = gives_keep zs given.zone given.local 0 c d given.within given.holds
+
 -- one was taken: its zone lends one block more
 pub takes_one : (zs : Zones) (n : ℕ) (c d : ZoneCore) → TakesByNumber zs 0 n c d → (k : ℕ) (x : Core) → k < zone_count zs
     → lent_by (core_at d k x) ≡ lent_by (core_at c k x) +ℤ pos (one_in zs k n)
@@ -170,10 +184,30 @@ gives_last zs c d before after f are all is given = record {
       ap (λ l. l -ℤ pos (singles_in zs after z)) (gives_one zs f.frame c d given z x within)
       ∙ down (lent_by (core_at c z x)) (singles_in zs before z) (singles_in zs after z) (one_in zs z f.frame)
       (count_more zs after before f z is);
+  kept = gives_keep_all zs f.frame c d given;
 }
   where
     down : (l : ℤ) (a b n : ℕ) → a ≡ b + n → (l -ℤ pos n) -ℤ pos b ≡ l -ℤ pos a
     down l a b n is = omega (arith, ints, is)
+
+-- some went back, then others
+pub besides_twice : (zs : Zones) (c d e : ZoneCore) (xs ys ws : List SingleFrame) → LendAsManyBesides zs c xs d ys
+    → LendAsManyBesides zs d ys e ws → LendAsManyBesides zs c xs e ws
+besides_twice zs c d e xs ys ws one two = record {
+  are_cores = two.are_cores;
+  are_singles = two.are_singles;
+  lent = λ z x within. two.lent z x within ∙ one.lent z x within;
+  kept = λ z a x within. two.kept z a x within ∙ one.kept z a x within;
+}
+
+-- one more left the end of a list
+pub one_shorter : {X : Type 0} (n : ℕ) (xs ys ws : List X) → ys ≡ take (length xs - n) xs → ws ≡ take (length ys - 1) ys
+    → ws ≡ take (length xs - (n + 1)) xs
+one_shorter n xs ys ws first second =
+    let long : length ys ≡ length xs - n = omega (arith, ap length first, length-take (length xs - n) xs) in
+    let less : length ys - 1 ≡ length xs - (n + 1) = omega (arith, long) in
+    second ∙ ap (λ k. take k ys) less ∙ ap (take (length xs - (n + 1))) first
+    ∙ take-take (length xs - (n + 1)) (length xs - n) xs (omega arith)
 
 -- the ones that came first stand last, and still all are rights
 pub turned_all : (zs : Zones) (n : ℕ) (xs ys : List SingleFrame) → ys ≡ drop n xs ++ take n xs → AreSingles zs xs
@@ -247,12 +281,21 @@ all_given zs c d before after none gives z x within =
     let left : (l : ℤ) → l ≡ l -ℤ pos 0 = λ l. omega (arith, ints) in
     left (lent_by (core_at d z x)) ∙ ap (λ (fs : List SingleFrame). lent_besides zs d fs z x) (sym none) ∙ gives.lent z x within
 
+-- what is kept stays so, before and behind
+pub then_keeps : (s m t : CoreState) → SharesOne s m → KeepsAllInEach s m → KeepsAllInEach m t → KeepsAllInEach s t
+then_keeps s m t same one two z a x within =
+    let zones : zones_of m ≡ zones_of s = λ i. (arc_value (same i)).zones in
+    two z a x (subst (λ (zs : Zones). z < zone_count zs) (sym zones) within) ∙ one z a x within
+
 -- one less is lent out than before, where as many were in between
 pub then_one_less : (s m t : CoreState) (n : ℕ) → SharesOne s m → LendsAsManyInEach s m → LendsOneLess n m t → LendsOneLess n s t
-then_one_less s m t n same as_many less z x within =
-    let zones : zones_of m ≡ zones_of s = λ i. (arc_value (same i)).zones in
-    less z x (subst (λ (zs : Zones). z < zone_count zs) (sym zones) within)
-    ∙ ap₂ (λ l (zs : Zones). l -ℤ pos (one_in zs z n)) (as_many z x within) zones
+then_one_less s m t n same as_many less =
+    let zones : zones_of m ≡ zones_of s = λ i. (arc_value (same i)).zones in record {
+      lent = λ z x within.
+          less.lent z x (subst (λ (zs : Zones). z < zone_count zs) (sym zones) within)
+          ∙ ap₂ (λ l (zs : Zones). l -ℤ pos (one_in zs z n)) (as_many.lent z x within) zones;
+      kept = then_keeps s m t same as_many.kept less.kept;
+    }
 
 -- a single frame was taken where none rested
 pub taken_single : (r : Result SingleFrame TakeFault) (s t : CoreState) → resting_in s ≡ [] → resting_in t ≡ []
@@ -260,9 +303,12 @@ pub taken_single : (r : Result SingleFrame TakeFault) (s t : CoreState) → rest
 taken_single (Ok f) s t none none_then same taken =
     let zones : zones_of t ≡ zones_of s = λ i. (arc_value (same i)).zones in record {
       is_single = right_in (zones_of s) f.frame 0 f.seat.table_id f.seat.me taken.is_single;
-      lent = λ z x within.
-          ap₂ (λ (zs : Zones) (fs : List SingleFrame). lent_besides zs t.core fs z x) zones (none_then ∙ sym none)
-          ∙ taken_besides (zones_of s) s.core t.core (resting_in s) f.frame taken.taken z x within;
+      lent = record {
+        lent = λ z x within.
+            ap₂ (λ (zs : Zones) (fs : List SingleFrame). lent_besides zs t.core fs z x) zones (none_then ∙ sym none)
+            ∙ taken_besides (zones_of s) s.core t.core (resting_in s) f.frame taken.taken z x within;
+        kept = taken.taken.holds.kept;
+      };
     }
 taken_single (Err e) s t none none_then same taken = tt
 
@@ -289,6 +335,7 @@ stopped_without s m d after images is none back stopped =
       rest = record {
         are_cores = gives.are_cores;
         lent = λ z x within. all_given (zones_of s) s.core d (resting_in s) after none gives z x within;
+        kept = gives.kept;
       };
       stopped = subst (λ (k : Memory). AreStopped k.zones d images) is stopped;
     }

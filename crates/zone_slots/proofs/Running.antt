@@ -1,20 +1,20 @@
 -- Runs: huge frames that are taken and given side by side.
 use Rattle.std.proofs.Common.{◌≡◌, ℕ, ℤ, pos, ◌+◌, ◌-◌, ◌*◌, ◌^◌, ◌+ℤ◌, ◌-ℤ◌, ◌<◌, ◌≤◌, inl, inr, refl, sym, ◌∙◌, ap, subst, arith}
-use Rattle.std.specs.Prelude.{Bool, true, false, MatchBool}
+use Rattle.std.specs.Prelude.{Bool, true, false, MatchBool, Option}
 use Rattle.std.proofs.lemmas.Bool.{cases_eq}
 use Rattle.std.proofs.lemmas.Int.{ints}
-use Rattle.core_frames.specs.Cores.{memory_of, lent_by}
+use Rattle.core_frames.specs.Cores.{lent_by}
 use Rattle.core_frames.specs.declared.shared.allocator.Allocator.{Allocator}
 use Rattle.core_frames.specs.declared.shared.allocator.Core.{Core}
 use Rattle.frame_model.specs.declared.view.View.{View}
 use Rattle.frame_table.specs.Ties.{table_sizes}
 use Rattle.frame_words.specs.declared.fault.TakeFault.{TakeFault}
-use Rattle.frame_words.specs.declared.fault.TakeFault.TheVariants.{BadOrder, NoBlock, Contended}
+use Rattle.frame_words.specs.declared.fault.TakeFault.TheVariants.{NoBlock, Contended}
 use Rattle.frame_zones.proofs.Rounds.{some_zone, some_core}
 use Rattle.frame_zones.specs.Frames.{IsFrameIn}
 use Rattle.frame_zones.specs.Looks.{HasLookedAtChildren}
 use Rattle.frame_zones.specs.Places.{HasTakenPlace}
-use Rattle.frame_zones.specs.Uses.{OthersStay, GivesIn}
+use Rattle.frame_zones.specs.Uses.{KeepsAll, GivesIn}
 use Rattle.frame_zones.specs.Zones.{zone_count, zone_at, core_at, first_frame_of, InEach, AreCoresOf}
 use Rattle.frame_zones.specs.declared.block.ZoneBlock.{ZoneBlock}
 use Rattle.frame_zones.specs.declared.zones.ZoneCore.{ZoneCore}
@@ -22,9 +22,10 @@ use Rattle.frame_zones.specs.declared.zones.Zones.{Zones}
 use Rattle.zone_slots.specs.Layouts.{most_numbers}
 use Rattle.zone_slots.specs.Memories.{HaveNumbers}
 use Rattle.zone_slots.specs.Parts.{IsNextPart}
-use Rattle.zone_slots.specs.Runs.{frame_in_run, IsRunCount, IsTakeable, OfEach, TakesRunInZone, HasTakenRun, LendsAtMost, LendsFewer}
+use Rattle.zone_slots.specs.Runs.{frame_in_run, IsRunCount, IsTakeable, OfEach, TakesRunInZone, HasTakenRun, LendsFewer}
 use Rattle.zone_slots.specs.Runs.{MissesSlot, FindsNoRunFor, IsRefusedRun, GivesRunInZone}
-use Rattle.zone_slots.specs.Uses.{HasBlock, TakesInZone, GivesInZone, EachLendsSame, IsReceiptOf}
+use Rattle.zone_slots.specs.Uses.{HasBlock, MovesForTake, TakesInZone, GivesInZone, EachLendsSame, IsReceiptOf}
+use Rattle.zone_slots.specs.declared.given_back.GivenBack.{GivenBack}
 use Rattle.zone_slots.specs.declared.parts.Parts.{Parts}
 use Rattle.zone_slots.specs.declared.zone_receipt.ZoneReceipt.{ZoneReceipt}
 use Rattle.zone_slots.proofs.Lifted.{taken_in, taken_order, lent_again}
@@ -179,13 +180,15 @@ next_part zs x b r p c d are taken receipt zone is order few =
     }
 
 -- and was taken there
-pub next_taken : (zs : Zones) (x : ℕ) (b : ZoneBlock) (p : Parts) (c d e : ZoneCore) → HasTakenPlace zs x 9 b c d
-    → b.zone ≡ p.zone → x ≡ first_frame_of zs p.zone + frame_in_run p.frame p.count → e ≡ d
+pub next_taken : (zs : Zones) (x : ℕ) (b : ZoneBlock) (p : Parts) (c d e : ZoneCore) → InEach zs KeepsAll c d
+    → MovesForTake zs c d → HasTakenPlace zs x 9 b c d → b.zone ≡ p.zone
+    → x ≡ first_frame_of zs p.zone + frame_in_run p.frame p.count → e ≡ d
     → TakesInZone zs 9 c e p.zone (frame_in_run p.frame p.count)
-next_taken zs x b p c d e taken zone is same =
+next_taken zs x b p c d e kept moves taken zone is same =
     subst (λ (y : ZoneCore). TakesInZone zs 9 c y p.zone (frame_in_run p.frame p.count)) (sym same)
     (subst (λ f. TakesInZone zs 9 c d p.zone f) (next_frame zs x b p c d taken zone is)
-    (subst (λ z. TakesInZone zs 9 c d z b.block.frame) zone (taken_in zs 9 b c d (place_taken zs x 9 b c d taken))))
+    (subst (λ z. TakesInZone zs 9 c d z b.block.frame) zone
+    (taken_in zs 9 b c d kept moves (place_taken zs x 9 b c d taken))))
 
 -- it was given again
 pub given_again : (zs : Zones) (x : ℕ) (b : ZoneBlock) (c d e : ZoneCore) → HasTakenPlace zs x 9 b c d
@@ -225,19 +228,7 @@ more_fewer zs n m z c d e one two = record {
   others = λ k x within other. two.others k x within other ∙ one.others k x within other;
 }
 
--- what was taken and still rested was given again
-pub at_most : (zs : Zones) (count n o z f : ℕ) (c d e : ZoneCore) → z < zone_count zs → n ≤ count → o ≤ n
-    → TakesRunInZone zs n c d z f → LendsFewer zs o d e z → LendsAtMost zs count c e
-at_most zs count n o z f c d e within few fewer run gives = record {
-  zone = z;
-  within = within;
-  more = n - o;
-  few = omega (arith, few);
-  here = λ x. add_and_take (lent_by (core_at c z x)) (lent_by (core_at d z x)) (lent_by (core_at e z x)) n o fewer
-      (run.here (some_zone zs z within) x).lent (gives.here x);
-  others = λ k x k-within other. ap lent_by (gives.others k x k-within other) ∙ run.others k x k-within other;
-}
-
+-- all that was taken was given again
 pub all_given : (zs : Zones) (n o z f : ℕ) (c d e : ZoneCore) → z < zone_count zs → n ≡ o
     → TakesRunInZone zs n c d z f → LendsFewer zs o d e z → EachLendsSame zs c e
 all_given zs n o z f c d e within all run gives k a x k-within =
@@ -249,37 +240,21 @@ all_given zs n o z f c d e within all run gives k a x k-within =
       | inr other ↦ ap lent_by (gives.others k x k-within other) ∙ run.others k x k-within other
     ]
 
--- before that as many were lent
-pub misses_after : (zs : Zones) (count : ℕ) (c d e : ZoneCore) (times later : ℕ) → EachLendsSame zs c d
-    → MissesSlot zs count d e times later → MissesSlot zs count c e times later
-misses_after zs count c d e times later same missed =
-    let most = missed.lent in
-    record {
-      counted = missed.counted;
-      lent = record {
-        zone = most.zone;
-        within = most.within;
-        more = most.more;
-        few = most.few;
-        here = λ x. most.here x ∙ ap (λ k. k +ℤ pos most.more) (same most.zone (some_zone zs most.zone most.within) x most.within);
-        others = λ k x within other. most.others k x within other ∙ same k (some_zone zs k within) x within;
-      };
-    }
-
 -- Refusals.
 
-pub refused_for : (zs : Zones) (count : ℕ) (c d : ZoneCore) (times later : ℕ) (contended : Bool) (fault : TakeFault)
-    → IsRunCount count → FindsNoRunFor zs count c d times later
-    → MatchBool contended (fault ≡ Contended) (fault ≡ NoBlock) → IsRefusedRun zs count c d times later fault
-refused_for zs count c d times later true fault is none why =
-    subst (λ e. IsRefusedRun zs count c d times later e) (sym why) (is, inl none)
-refused_for zs count c d times later false fault is none why =
-    subst (λ e. IsRefusedRun zs count c d times later e) (sym why) (is, none)
+pub refused_for : (zs : Zones) (count : ℕ) (c d : ZoneCore) (times later : ℕ) (back : Option GivenBack)
+    (contended : Bool) (fault : TakeFault) → IsRunCount count → FindsNoRunFor zs count c d times later
+    → MatchBool contended (fault ≡ Contended) (fault ≡ NoBlock) → IsRefusedRun zs count c d times later back fault
+refused_for zs count c d times later back true fault is none why =
+    subst (λ e. IsRefusedRun zs count c d times later back e) (sym why) (is, inl none)
+refused_for zs count c d times later back false fault is none why =
+    subst (λ e. IsRefusedRun zs count c d times later back e) (sym why) (is, none)
 
-pub refused_missed : (zs : Zones) (count : ℕ) (c d : ZoneCore) (times later : ℕ) (fault : TakeFault) → IsRunCount count
-    → fault ≡ Contended → MissesSlot zs count c d times later → IsRefusedRun zs count c d times later fault
-refused_missed zs count c d times later fault is why missed =
-    subst (λ e. IsRefusedRun zs count c d times later e) (sym why) (is, inr missed)
+pub refused_missed : (zs : Zones) (count : ℕ) (c d : ZoneCore) (times later : ℕ) (back : Option GivenBack)
+    (fault : TakeFault) → IsRunCount count → fault ≡ Contended → MissesSlot zs count c d times later back
+    → IsRefusedRun zs count c d times later back fault
+refused_missed zs count c d times later back fault is why missed =
+    subst (λ e. IsRefusedRun zs count c d times later back e) (sym why) (is, inr missed)
 
 -- Gives of runs.
 

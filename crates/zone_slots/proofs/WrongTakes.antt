@@ -99,14 +99,14 @@ pub fewer_moves_unsought : (n : ℕ) (s t : CoreState) → SkipsTrees s t → ¬
 fewer_moves_unsought n s t skips none =
     let a = zone_at_home s in
     let x = core_of s skips.0 skips.1 in
-    omega (arith, skips.2 a x, (none skips.0 a x skips.1).looked.moved)
+    omega (arith, skips.2 a x, (none.in_each skips.0 a x skips.1).looked.moved)
 
 -- and lost no exchange
 pub loss_unsought : (n : ℕ) (s t : CoreState) → LosesSome s t → ¬ FindsNothingAnywhere (zones_of s) n s.core t.core
 loss_unsought n s t loses none =
     let a = zone_at_home s in
     let x = core_of s loses.0 loses.1 in
-    omega (arith, loses.2 x, (none loses.0 a x loses.1).unlost)
+    omega (arith, loses.2 x, (none.in_each loses.0 a x loses.1).unlost)
 
 pub none_is_unsought : NoneIsUnsought
 none_is_unsought n s t = (
@@ -137,7 +137,7 @@ order_is_another n s t =
     let x = core_of s s.core.home home in (
       λ low why. absurd (omega (arith, low, why.0)),
       λ high. (
-        λ why. absurd (omega (arith, high, (why.0 s.core.home a x home).looked.order)),
+        λ why. absurd (omega (arith, high, (why.0.in_each s.core.home a x home).looked.order)),
         λ why. ⊎_elim (λ h. absurd (omega (arith, high, (h.0.looked s.core.home a x home).order)))
             (λ h. absurd (omega (arith, high, h.order))) why,
       ),

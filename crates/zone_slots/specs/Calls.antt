@@ -5,7 +5,8 @@ use Rattle.frame_words.specs.declared.fault.TakeFault.{TakeFault}
 use Rattle.frame_model.specs.Block.{block}
 use Rattle.frame_model.specs.declared.block.FrameBlock.{FrameBlock}
 use Rattle.frame_zones.specs.FreeCounts.{frames_among}
-use Rattle.frame_zones.specs.Zones.{zone_count}
+use Rattle.frame_zones.specs.Uses.{KeepsAll}
+use Rattle.frame_zones.specs.Zones.{zone_count, InEach}
 use Rattle.frame_zones.specs.declared.zones.Zones.{Zones}
 use Rattle.zone_slots.specs.ImageParts.{numbers_before}
 use Rattle.zone_slots.specs.Looks.{block_seen, HasBlockOf}
@@ -22,6 +23,10 @@ zones_of s = (arc_value s.shared).zones
 -- both share one memory and its slots
 abbrev pub SharesOne : CoreState → CoreState → Type 0
 SharesOne s t = t.shared ≡ s.shared
+
+-- what the core keeps in each zone is as before
+abbrev pub KeepsAllInEach : CoreState → CoreState → Type 0
+KeepsAllInEach s t = InEach (zones_of s) KeepsAll s.core t.core
 
 -- the frames of the core's memory, of all zones
 abbrev pub frames_by : CoreState → ℕ
@@ -78,9 +83,11 @@ pub record SeesFor (order frame : ℕ) (s t : CoreState) : Type 0 where
   pub is_block : HasBlockOf (zones_of s) order frame
   pub seen : last_sight t ≡ Some (block frame order)
 
--- why a split of a block of the order into blocks of another one through the core was refused
-abbrev pub RefusesSplitTo : (order to : ℕ) → CoreState → CoreState → Refusal → Type 0
-RefusesSplitTo n to s t refusal = IsRefusedSplitTo n to s.slotless t.slotless refusal
+-- why a split of this block into blocks of an order through the core was refused; what it keeps in each zone is as
+-- before
+abbrev pub RefusesSplitTo : (order to frame : ℕ) → CoreState → CoreState → Refusal → Type 0
+RefusesSplitTo n to frame s t refusal =
+    IsRefusedSplitTo (zones_of s) n to frame s.core t.core s.slotless t.slotless refusal × KeepsAllInEach s t
 
 -- the core is as it was in each zone
 abbrev pub KeepsCore : CoreState → CoreState → Type 0

@@ -6,7 +6,8 @@ use Rattle.frame_zones.specs.FreeCounts.{ReadsIn, IsCountIn, IsFewIn}
 use Rattle.frame_zones.specs.Zones.{zone_count, InEach}
 use Rattle.frame_zones.specs.declared.zones.Zones.{Zones}
 use Rattle.frame_zones.specs.declared.zones.ZoneCore.{ZoneCore}
-use Rattle.zone_slots.specs.Calls.{zones_of, SharesOne, CountsNone, last_laid}
+use Rattle.zone_slots.specs.Calls.{zones_of, CountsNone, last_laid}
+use Rattle.zone_slots.specs.FrameCalls.{LeavesRest}
 use Rattle.zone_slots.specs.declared.core_state.CoreState.{CoreState}
 
 -- so many frames are free in all zones together, by what was last read of the entry of each child, and
@@ -43,9 +44,9 @@ pub record IfThereIs (Counts : Zones → (z n : ℕ) → ZoneCore → ZoneCore �
   pub there : z < zone_count zs → Counts zs z n c d
   pub none : zone_count zs ≤ z → (n ≡ 0) × (d ≡ c)
 
--- no block was laid down, and none was counted that found no slot
+-- no block was laid down, and none was counted that found no slot; what rests with the core is as before
 pub record LaysNone (s t : CoreState) : Type 0 where
-  pub shared : SharesOne s t
+  pub rest : LeavesRest s t
   pub counted : CountsNone s t
   pub last : last_laid t ≡ last_laid s
 

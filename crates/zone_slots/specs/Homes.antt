@@ -5,7 +5,6 @@ use Rattle.frame_words.specs.declared.fault.Fault.TheVariants.{BadRange}
 use Rattle.frame_zones.specs.Homes.{MovesHome}
 use Rattle.frame_zones.specs.Zones.{zone_count}
 use Rattle.zone_slots.specs.Calls.{zones_of, last_given, last_halves}
-use Rattle.zone_slots.specs.FrameCalls.{KeepsRest}
 use Rattle.zone_slots.specs.FreeCounts.{LaysNone}
 use Rattle.zone_slots.specs.declared.core_state.CoreState.{CoreState}
 
@@ -24,7 +23,6 @@ pub record MovesHomeTo (z : ℕ) (s t : CoreState) : Type 0 where
   pub lays : LaysNone s t
   pub given : last_given t ≡ last_given s
   pub halves : last_halves t ≡ last_halves s
-  pub rest : KeepsRest s t
 
 -- why the home is not moved to this zone: there is none of the number, and nothing changes
 pub record HasNoZone (z : ℕ) (s t : CoreState) (fault : Fault) : Type 0 where

@@ -14,6 +14,7 @@ pub mod Refusals
 pub mod Blocks
 pub mod Places
 pub mod Runs
+pub mod GivenBack
 pub mod FrameCalls
 pub mod FrameNumbers
 pub mod FreeCounts

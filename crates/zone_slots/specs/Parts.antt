@@ -3,7 +3,7 @@ use Rattle.std.specs.Prelude.{◌≡◌, ℕ, pos, ◌+◌, ◌-◌, ◌*◌, �
 use Rattle.frame_model.specs.Block.{block}
 use Rattle.frame_model.specs.declared.block.FrameBlock.{FrameBlock}
 use Rattle.core_frames.specs.Bounds.{most_in_split}
-use Rattle.core_frames.specs.Cores.{lent_by}
+use Rattle.core_frames.specs.Cores.{kept_by, lent_by}
 use Rattle.core_frames.specs.declared.shared.allocator.Allocator.{Allocator}
 use Rattle.core_frames.specs.declared.shared.allocator.Core.{Core}
 use Rattle.frame_zones.specs.Uses.{OthersStay, moves_through}
@@ -54,11 +54,12 @@ pub record BeginsNext (p : Parts) (b : ZoneBlock) : Type 0 where
   pub few : p.count + count_of_parts b.block.order p.order ≤ 512
 
 -- there is such a block in the allocator's memory, of this order or a larger one, and the core lends a
--- block for each of its parts in place of one
+-- block for each of its parts in place of one; what it keeps is as before
 pub record SplitsToAt (a : Allocator) (order to frame : ℕ) (c d : Core) : Type 0 where
   pub block : HasBlock order frame a
   pub fits : to ≤ order
   pub lent : lent_by d +ℤ pos 1 ≡ lent_by c +ℤ pos (count_of_parts order to)
+  pub kept : kept_by d ≡ kept_by c
 
 -- the block was split in the zone, by a split less than it has parts, and in every other zone all is as
 -- before
@@ -77,14 +78,39 @@ pub record LaysParts (zs : Zones) (b : ZoneBlock) (p q : Parts) (c d : ZoneCore)
   pub parts : AreMore (count_of_parts b.block.order p.order) p q
   pub split : SplitsToInZone zs b.block.order p.order c d b.zone b.block.frame
 
+-- so many blocks of the zone are lent in place of one, and in every other zone all is as before
+pub record LendsInPlace (zs : Zones) (laid : ℕ) (c d : ZoneCore) (z : ℕ) : Type 0 where
+  pub here : (x : Core) → lent_by (core_at d z x) +ℤ pos 1 ≡ lent_by (core_at c z x) +ℤ pos laid
+  pub others : OthersStay zs z c d
+
+-- the block was split in its zone, and only its first parts, not all, were laid down behind those before; what is
+-- behind them was given
+pub record LaysFirstParts (zs : Zones) (b : ZoneBlock) (p q : Parts) (c d : ZoneCore) : Type 0 where
+  pub laid : ℕ
+  pub fewer : laid < count_of_parts b.block.order p.order
+  pub parts : AreMore laid p q
+  pub lends : LendsInPlace zs laid c d b.zone
+
+-- the zone has such a block, and in its place fewer blocks are lent than so many; in every other zone all is as before
+pub record SplitsToFewer (zs : Zones) (order parts : ℕ) (c d : ZoneCore) (z local : ℕ) : Type 0 where
+  pub is_block : (a : Allocator) → HasBlock order local (zone_at zs z a)
+  pub laid : ℕ
+  pub fewer : laid < parts
+  pub lends : LendsInPlace zs laid c d z
+
+-- of so many parts of the block that begins at the frame of this number some were not laid down
+abbrev pub LeavesPartsOut : Zones → (order parts frame : ℕ) → ZoneCore → ZoneCore → Type 0
+LeavesPartsOut zs order parts frame c d = IsInZone zs frame (SplitsToFewer zs order parts c d)
+
 -- a block has parts of the order
 pub record HasPartsOf (order to : ℕ) : Type 0 where
   pub few : order ≤ 9
   pub fits : to ≤ order
 
 -- of an order above 9 there are no blocks, and of an order above its own a block has no parts; else it was
--- not held, or a part found no slot, which alone is counted
-abbrev pub IsRefusedSplitTo : (order to count later : ℕ) → Refusal → Type 0
-IsRefusedSplitTo n to count later NoParts = (¬ HasPartsOf n to) × (later ≡ count)
-IsRefusedSplitTo n to count later NotHeld = HasPartsOf n to × (later ≡ count)
-IsRefusedSplitTo n to count later NoSlot = HasPartsOf n to × (later ≡ one_more count)
+-- not held, or a part found no slot, which alone is counted: then fewer blocks are lent than it has parts
+abbrev pub IsRefusedSplitTo : Zones → (order to frame : ℕ) → ZoneCore → ZoneCore → (count later : ℕ) → Refusal → Type 0
+IsRefusedSplitTo zs n to frame c d count later NoParts = (¬ HasPartsOf n to) × (later ≡ count)
+IsRefusedSplitTo zs n to frame c d count later NotHeld = HasPartsOf n to × (later ≡ count)
+IsRefusedSplitTo zs n to frame c d count later NoSlot =
+    HasPartsOf n to × (later ≡ one_more count) × LeavesPartsOut zs n (count_of_parts n to) frame c d

@@ -6,7 +6,8 @@ use Rattle.core_frames.specs.declared.shared.allocator.Core.{Core}
 use Rattle.frame_table.specs.declared.block.Block.{Block}
 use Rattle.frame_words.specs.Geometry.{child_frames}
 use Rattle.frame_zones.specs.Fills.{TakesMoreIn}
-use Rattle.frame_zones.specs.Zones.{zone_count, core_at, first_frame_of, first_frame_in, AreCoresOf, IsOutOfItsZone}
+use Rattle.frame_zones.specs.Uses.{KeepsAll}
+use Rattle.frame_zones.specs.Zones.{zone_count, core_at, first_frame_of, first_frame_in, InEach, AreCoresOf, IsOutOfItsZone}
 use Rattle.frame_zones.specs.declared.block.ZoneBlock.{ZoneBlock}
 use Rattle.frame_zones.specs.declared.zones.Zones.{Zones}
 use Rattle.frame_zones.specs.declared.zones.ZoneCore.{ZoneCore}
@@ -72,12 +73,13 @@ abbrev pub lent_besides : Zones → ZoneCore → List SingleFrame → ℕ → Co
 lent_besides zs c frames z x = lent_by (core_at c z x) -ℤ pos (singles_in zs frames z)
 
 -- the cores are of these zones, all that rests are rights to single frames of them, and each zone lends as many
--- blocks besides as before
+-- blocks besides as before; what the core keeps in each is as before
 pub record LendAsManyBesides (zs : Zones) (c : ZoneCore) (before : List SingleFrame) (d : ZoneCore)
     (after : List SingleFrame) : Type 0 where
   pub are_cores : AreCoresOf zs d
   pub are_singles : AreSingles zs after
   pub lent : (z : ℕ) (x : Core) → z < zone_count zs → lent_besides zs d after z x ≡ lent_besides zs c before z x
+  pub kept : InEach zs KeepsAll c d
 
 -- 1 for the zone of the block, and 0 for each other
 abbrev pub block_in_zone : Zones → ZoneBlock → ℕ → ℕ
@@ -89,7 +91,7 @@ in_hand zs None z = 0
 in_hand zs (Some b) z = block_in_zone zs b z
 
 -- two blocks went back or were joined: the cores are of these zones, what is in hand then is out, and besides what
--- is in hand each zone lends as many blocks as before
+-- is in hand each zone lends as many blocks as before; what the core keeps in each is as before
 pub record GoBackOrJoin (zs : Zones) (c : ZoneCore) (first second : Option ZoneBlock) (d : ZoneCore)
     (r : Option ZoneBlock) : Type 0 where
   pub are_cores : AreCoresOf zs d
@@ -97,9 +99,10 @@ pub record GoBackOrJoin (zs : Zones) (c : ZoneCore) (first second : Option ZoneB
   pub lent : (z : ℕ) (x : Core) → z < zone_count zs
       → lent_by (core_at d z x) -ℤ pos (in_hand zs r z)
       ≡ (lent_by (core_at c z x) -ℤ pos (in_hand zs first z)) -ℤ pos (in_hand zs second z)
+  pub kept : InEach zs KeepsAll c d
 
--- some frames left the list: they went back, or are in hand as one block; and each zone lends as many blocks besides
--- as before
+-- some frames left the list: they went back, or are in hand as one block; each zone lends as many blocks besides
+-- as before, and what the core keeps there is as before
 pub record LeaveTheList (zs : Zones) (c : ZoneCore) (before : List SingleFrame) (d : ZoneCore)
     (after : List SingleFrame) (r : Option ZoneBlock) : Type 0 where
   pub are_cores : AreCoresOf zs d
@@ -107,6 +110,7 @@ pub record LeaveTheList (zs : Zones) (c : ZoneCore) (before : List SingleFrame) 
   pub out : IfSome r (IsOutOfItsZone zs)
   pub lent : (z : ℕ) (x : Core) → z < zone_count zs
       → lent_besides zs d after z x -ℤ pos (in_hand zs r z) ≡ lent_besides zs c before z x
+  pub kept : InEach zs KeepsAll c d
 
 -- the right to a single frame was taken through the core
 pub record HasTakenSingle (zs : Zones) (c d : ZoneCore) (f : SingleFrame) : Type 0 where

@@ -6,7 +6,8 @@ ghost use Rattle.frame_zones.specs.Uses.{IsGivenFor};
 ghost use Rattle.frame_zones.specs.Zones.{AreCoresOf, IsOutOfItsZone, first_frame_of, first_frame_in};
 ghost use Rattle.zone_slots.specs.Blocks.{HasTakenBlock, HasSplitBlock, TakesBlockFor, SplitsBlockFor, IsOutFor, frame_for, IsRightThrough};
 ghost use Rattle.zone_slots.specs.Rights.{IsRightFrom};
-ghost use Rattle.zone_slots.specs.Calls.{SharesOne, GivesFor, CountsNone, RemembersLast, KeepsCore, RefusesBlock};
+ghost use Rattle.zone_slots.specs.Calls.{GivesFor, CountsNone, RemembersLast, KeepsCore, RefusesBlock};
+ghost use Rattle.zone_slots.specs.FrameCalls.{LeavesRest};
 ghost use Rattle.zone_slots.specs.Memories.{IsFirstOf};
 ghost use Rattle.zone_slots.specs.Uses.{GivesInZone, IsRefusedBlock};
 
@@ -23,7 +24,7 @@ impl CoreState {
     /// Takes a block of `2^order` frames: of the core's home zone, else of the next one that has such a
     /// block. No memory is needed, and nobody waits.
     pub fn take_block(&mut self, order: u8) -> Result<ZoneBlock, TakeFault>
-        ensures shared { SharesOne self.old self.new }
+        ensures rest { LeavesRest self.old self.new }
         ensures taken { IfOk result (TakesBlockFor order self.old self.new) }
         ensures counted { CountsNone self.old self.new }
         ensures last { RemembersLast self.old self.new }
@@ -36,7 +37,7 @@ impl CoreState {
     /// nobody waits.
     pub fn give_block(&mut self, held: ZoneBlock)
         requires { IsOutFor self.old held }
-        ensures shared { SharesOne self.old self.new }
+        ensures rest { LeavesRest self.old self.new }
         ensures given { GivesFor held.block.order (frame_for self.old held) self.old self.new }
         ensures counted { CountsNone self.old self.new }
         ensures last { RemembersLast self.old self.new }
@@ -48,7 +49,7 @@ impl CoreState {
     /// The halves of the block, the lower first. A block of order 0 has none, and is handed back.
     pub fn split_block(&mut self, held: ZoneBlock) -> Result<(ZoneBlock, ZoneBlock), ZoneBlock>
         requires { IsOutFor self.old held }
-        ensures shared { SharesOne self.old self.new }
+        ensures rest { LeavesRest self.old self.new }
         ensures split { IfOk result (λ r. SplitsBlockFor held r.0 r.1 self.old self.new) }
         ensures counted { CountsNone self.old self.new }
         ensures last { RemembersLast self.old self.new }

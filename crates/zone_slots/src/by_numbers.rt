@@ -1,9 +1,10 @@
 //! Takes, gives and splits of blocks whose rights rest at their slots.
 
-ghost use Rattle.std.specs.Prelude.{◌≡◌, ◌≢◌, ◌+◌, ◌-◌, ◌^◌, ◌<◌, IfOk, IfErr, IfSome, IfNone};
+ghost use Rattle.std.specs.Prelude.{◌≡◌, ◌≢◌, ◌+◌, ◌-◌, ◌^◌, ◌<◌, ◌≤◌, IfOk, IfErr, IfSome, IfNone};
+ghost use Rattle.core_frames.specs.Bounds.{most_in_give};
 ghost use Rattle.frame_model.specs.Block.{block as block_at};
-ghost use Rattle.frame_zones.specs.Uses.{GivesIn};
-ghost use Rattle.frame_zones.specs.Zones.{zone_count, AreCoresOf, IsOutOfItsZone};
+ghost use Rattle.frame_zones.specs.Uses.{KeepsAll, GivesIn, moves_through};
+ghost use Rattle.frame_zones.specs.Zones.{zone_count, InEach, AreCoresOf, IsOutOfItsZone};
 ghost use Rattle.zone_slots.specs.Memories.{IsFirstOf, block_given, block_laid};
 ghost use Rattle.zone_slots.specs.Refusals.{IsRefusedSplit};
 ghost use Rattle.zone_slots.specs.Uses.{HasTakenFor, IsReceiptOf, GivesInZone, GivesByNumber, SplitsByNumber, IsRefusedTake};
@@ -127,7 +128,8 @@ impl Memory {
             ≡ block_at (frame + 2 ^ (order - 1)) (order - 1)) }
         ensures same { IfErr result (λ e. e ≢ Refusal.NoSlot → core.new ≡ core.old) }
         ensures counted { IfOk result (λ _. slotless.new ≡ slotless.old) }
-        ensures refused { IfErr result (IsRefusedSplit order slotless.old slotless.new) }
+        ensures refused { IfErr result (λ e. IsRefusedSplit self.now.zones order frame core.old core.new
+            slotless.old slotless.new e × InEach self.now.zones KeepsAll core.old core.new) }
     {
         if order == 0 {
             return Err(Refusal::NoParts);
@@ -162,6 +164,7 @@ impl Memory {
         ensures rests { IfSome result (λ _. core.new ≡ core.old) }
         ensures same { IfSome result (IsReceiptOf held) }
         ensures given { IfNone result (GivesIn self.now.zones held.zone core.old core.new) }
+        ensures moves { moves_through core.new ≤ moves_through core.old + most_in_give }
     {
         match self.rest(held) {
             Ok(receipt) => Some(receipt),

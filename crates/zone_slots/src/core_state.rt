@@ -7,6 +7,7 @@ ghost use Rattle.zone_slots.specs.Resting.{AreSingles};
 
 use crate::first_zone::FirstZone;
 use crate::frame_list::FrameList;
+use crate::given_back::GivenBack;
 use crate::looks::Sight;
 use crate::memory::Memory;
 use crate::parts::Parts;
@@ -31,6 +32,8 @@ pub struct CoreState {
     pub(crate) halves: Option<(ZoneReceipt, ZoneReceipt)>,
     // Of the blocks that its last split into all parts of one order, or its last take of a run, laid down.
     pub(crate) parts: Option<Parts>,
+    // Of what a take of a run last gave back, since others had fetched some of it or a huge frame found no slot.
+    pub(crate) back: Option<GivenBack>,
     // Of the run that its last give of one gave.
     pub(crate) run: Option<GivenRun>,
     // Of the block that its last look saw.
@@ -39,7 +42,7 @@ pub struct CoreState {
     // Single frames that were given to the core, and rest with it.
     pub(crate) rest: FrameList,
     // No two cores share a cache line.
-    pub(crate) apart: [u64; 13],
+    pub(crate) apart: [u64; 9],
     pub ghost is_core: { AreCoresOf (arc_value shared).zones core },
     pub ghost rests: { AreSingles (arc_value shared).zones rest.list.items },
     pub ghost known: { IsFirstOf (arc_value shared).zones first },

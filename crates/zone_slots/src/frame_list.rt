@@ -7,6 +7,7 @@ use crate::single_frame::SingleFrame;
 use frame_table::Block;
 use frame_words::{CHILD_FRAMES, Fault};
 use std::alloc::Global;
+use std::mem::swap;
 
 /// How many frames rest with a core at most.
 pub(crate) const MOST_RESTING: usize = 128;
@@ -143,8 +144,12 @@ fn move_back(frames: &mut [SingleFrame], times: usize)
     if times == 0 {
         return;
     }
-    let (first, others) = frames.split_at_mut(FLUSH);
-    let (next, _) = others.split_at_mut(FLUSH);
-    first.swap_with_slice(next);
+    let Some((first, others)) = frames.split_first_chunk_mut::<FLUSH>() else {
+        unreachable!()
+    };
+    let Some(next) = others.first_chunk_mut::<FLUSH>() else {
+        unreachable!()
+    };
+    swap(first, next);
     move_back(others, times - 1);
 }

@@ -1,9 +1,10 @@
 //! Takes and gives of single frames by number, of which some rest with a core.
 
-ghost use Rattle.std.specs.Prelude.{◌≡◌, IfOk, IfErr, IfSome, IfNone};
+ghost use Rattle.std.specs.Prelude.{◌≡◌, ◌+◌, ◌≤◌, IfOk, IfErr, IfSome, IfNone};
+ghost use Rattle.core_frames.specs.Bounds.{most_in_give};
 ghost use Rattle.frame_model.specs.Block.{block as block_at};
 ghost use Rattle.frame_words.specs.declared.fault.TakeFault.TheVariants.{Contended};
-ghost use Rattle.frame_zones.specs.Uses.{GivesIn};
+ghost use Rattle.frame_zones.specs.Uses.{GivesIn, moves_through};
 ghost use Rattle.frame_zones.specs.Zones.{AreCoresOf, IsOutOfItsZone};
 ghost use Rattle.zone_slots.specs.Calls.{SharesOne, CountsNone, RemembersLast};
 ghost use Rattle.zone_slots.specs.FrameCalls.{IsSingleFor};
@@ -112,6 +113,7 @@ impl Memory {
         requires out { IsOutOfItsZone self.now.zones held }
         ensures core { AreCoresOf self.now.zones core.new }
         ensures given { GivesIn self.now.zones held.zone core.old core.new }
+        ensures moves { moves_through core.new ≤ moves_through core.old + most_in_give }
     {
         self.zones.give(core, held);
     }

@@ -6,6 +6,7 @@ ghost use Rattle.frame_model.specs.Block.{block as block_at};
 ghost use Rattle.frame_zones.specs.Zones.{zone_count, zone_at};
 ghost use Rattle.zone_slots.specs.Looks.{block_seen, IsSightOf, HasBlockOf};
 ghost use Rattle.zone_slots.specs.Memories.{IsFirstOf};
+ghost use Rattle.zone_slots.specs.Runs.{IsNextSeen, SeesOneMore};
 ghost use Rattle.zone_slots.specs.Uses.{HasBlock};
 
 use crate::first_zone::FirstZone;
@@ -30,6 +31,37 @@ impl Sight {
         ensures { result ≡ self.now.order }
     {
         self.order
+    }
+}
+
+/// That so many huge frames, side by side in a zone, were each seen at its slot. Nothing else makes one.
+#[derive(Debug, Drop)]
+pub struct SeenRun {
+    pub(crate) zone: u32,
+    // The first frame of the first one.
+    pub(crate) frame: u32,
+    pub(crate) count: u32,
+}
+
+impl SeenRun {
+    /// None, where the first one is to begin at this frame of the zone.
+    pub(crate) fn none(zone: u32, frame: u32) -> SeenRun
+        ensures { result ≡ record { zone = zone; frame = frame; count = 0 } }
+    {
+        SeenRun {
+            zone,
+            frame,
+            count: 0,
+        }
+    }
+
+    /// The next one was seen.
+    pub(crate) fn add(&mut self, sight: Sight)
+        requires { IsNextSeen self.old sight }
+        ensures { SeesOneMore self.old self.new }
+    {
+        let _ = sight;
+        self.count += 1;
     }
 }
 

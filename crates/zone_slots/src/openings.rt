@@ -224,10 +224,11 @@ pub(crate) fn state_over(
         given: None,
         halves: None,
         parts: None,
+        back: None,
         run: None,
         seen: None,
         first,
         rest,
-        apart: [0; 13],
+        apart: [0; 9],
     })
 }

@@ -1,9 +1,10 @@
 //! Blocks that are split into all their blocks of one order.
 
-ghost use Rattle.std.specs.Prelude.{◌≡◌, ◌≢◌, ◌+◌, ◌^◌, ◌-◌, ◌<◌, IsTrue, IfOk, IfErr};
-ghost use Rattle.frame_zones.specs.Zones.{AreCoresOf, IsOutOfItsZone};
+ghost use Rattle.std.specs.Prelude.{◌≡◌, ◌≢◌, ◌+◌, ◌^◌, ◌-◌, ◌<◌, IsTrue, IsFalse, IfOk, IfErr};
+ghost use Rattle.frame_zones.specs.Uses.{KeepsAll};
+ghost use Rattle.frame_zones.specs.Zones.{InEach, AreCoresOf, IsOutOfItsZone};
 ghost use Rattle.zone_slots.specs.Memories.{IsFirstOf};
-ghost use Rattle.zone_slots.specs.Parts.{IsNextPart, AreMore, BeginsNext, LaysParts, parts_laid, parts_of, SplitsToByNumber, IsRefusedSplitTo};
+ghost use Rattle.zone_slots.specs.Parts.{IsNextPart, AreMore, BeginsNext, LaysParts, LaysFirstParts, parts_laid, parts_of, SplitsToByNumber, IsRefusedSplitTo};
 
 use crate::first_zone::FirstZone;
 use crate::memory::Memory;
@@ -66,7 +67,8 @@ impl Memory {
             parts_laid self.now.zones p ≡ parts_of frame order to) }
         ensures same { IfErr result (λ e. e ≢ Refusal.NoSlot → core.new ≡ core.old) }
         ensures counted { IfOk result (λ _. slotless.new ≡ slotless.old) }
-        ensures refused { IfErr result (IsRefusedSplitTo order to slotless.old slotless.new) }
+        ensures refused { IfErr result (λ e. IsRefusedSplitTo self.now.zones order to frame core.old core.new
+            slotless.old slotless.new e × InEach self.now.zones KeepsAll core.old core.new) }
     {
         if order > HUGE_ORDER || to > order {
             return Err(Refusal::NoParts);
@@ -89,8 +91,11 @@ impl Memory {
         requires out { IsOutOfItsZone self.now.zones held }
         requires next { BeginsNext parts.old held }
         ensures core { AreCoresOf self.now.zones core.new }
+        ensures kept { InEach self.now.zones KeepsAll core.old core.new }
         ensures laid { IsTrue result
             → LaysParts self.now.zones held parts.old parts.new core.old core.new }
+        ensures fewer { IsFalse result
+            → LaysFirstParts self.now.zones held parts.old parts.new core.old core.new }
     {
         if held.order() == parts.order {
             let Some(receipt) = self.lay_down(core, held) else {

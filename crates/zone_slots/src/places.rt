@@ -2,9 +2,10 @@
 
 ghost use Rattle.std.specs.Prelude.{◌≡◌, IfOk, IfErr};
 ghost use Rattle.frame_model.specs.Block.{block as block_at};
-ghost use Rattle.frame_zones.specs.Places.{TakesPlaceAmong};
+ghost use Rattle.frame_zones.specs.Places.{TakesPlaceAmong, MovesForPlace};
 ghost use Rattle.frame_zones.specs.Zones.{AreCoresOf};
-ghost use Rattle.zone_slots.specs.Calls.{SharesOne, CountsNone, RemembersLast};
+ghost use Rattle.zone_slots.specs.Calls.{CountsNone, RemembersLast};
+ghost use Rattle.zone_slots.specs.FrameCalls.{LeavesRest};
 ghost use Rattle.zone_slots.specs.Memories.{block_laid};
 ghost use Rattle.zone_slots.specs.Places.{TakesPlaceByNumber, TakesPlaceFor, TakesBlockAtFor};
 ghost use Rattle.zone_slots.specs.Places.{IsRefusedTakeAt, RefusesTakeAt, RefusesBlockAt};
@@ -21,7 +22,7 @@ impl CoreState {
     /// aligned to its size, or no zone has all of it. Its right rests at its slot until any core gives it. No memory
     /// is needed, and nobody waits.
     pub fn take_at(&mut self, frame: u32, order: u8) -> Result<(), TakeFault>
-        ensures shared { SharesOne self.old self.new }
+        ensures rest { LeavesRest self.old self.new }
         ensures taken { IfOk result (λ _. TakesPlaceFor order frame self.old self.new) }
         ensures counted { IfOk result (λ _. CountsNone self.old self.new) }
         ensures refused { IfErr result (RefusesTakeAt order frame self.old self.new) }
@@ -36,7 +37,7 @@ impl CoreState {
 
     /// Takes the same as a block whose right the caller keeps.
     pub fn take_block_at(&mut self, frame: u32, order: u8) -> Result<ZoneBlock, TakeFault>
-        ensures shared { SharesOne self.old self.new }
+        ensures rest { LeavesRest self.old self.new }
         ensures taken { IfOk result (TakesBlockAtFor order frame self.old self.new) }
         ensures counted { CountsNone self.old self.new }
         ensures last { RemembersLast self.old self.new }
@@ -76,6 +77,7 @@ impl Memory {
         requires { AreCoresOf self.now.zones core.old }
         ensures core { AreCoresOf self.now.zones core.new }
         ensures takes { TakesPlaceAmong self.now.zones frame order result core.old core.new }
+        ensures all_moves { MovesForPlace self.now.zones frame core.old core.new }
     {
         self.zones.take_at(core, frame as u64, order)
     }

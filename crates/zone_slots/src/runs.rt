@@ -4,42 +4,40 @@ ghost use Rattle.std.specs.Prelude.{◌≡◌, ◌+◌, ◌*◌, ◌^◌, ◌<�
 ghost use Rattle.frame_words.specs.Geometry.{child_frames, huge_order};
 ghost use Rattle.frame_zones.specs.Frames.{IsFrameIn};
 ghost use Rattle.frame_zones.specs.Looks.{most_in_run, LooksAmong, MayBeginRun};
-ghost use Rattle.frame_zones.specs.Zones.{zone_count, first_frame_of, AreCoresOf};
-ghost use Rattle.zone_slots.specs.Calls.{SharesOne, CountsNone, RemembersLast};
+ghost use Rattle.frame_zones.specs.Uses.{KeepsAll};
+ghost use Rattle.frame_zones.specs.Zones.{zone_count, first_frame_of, InEach, AreCoresOf};
+ghost use Rattle.zone_slots.specs.Calls.{CountsNone, RemembersLast};
+ghost use Rattle.zone_slots.specs.FrameCalls.{LeavesRest};
 ghost use Rattle.zone_slots.specs.Memories.{IsFirstOf};
 ghost use Rattle.zone_slots.specs.Runs.{LooksFor, IsRunCount, TakesRunInZone, TakesRunFor, IsRefusedRun, RefusesRun};
 ghost use Rattle.zone_slots.specs.Parts.{AreMore};
-ghost use Rattle.zone_slots.specs.Runs.{frame_in_run, HasTakenRun, LendsFewer, EndsAtMost, MissesSlot};
+ghost use Rattle.zone_slots.specs.Runs.{frame_in_run, HasTakenRun, EndsAtMost, MissesSlot};
 ghost use Rattle.zone_slots.specs.Uses.{TakesInZone, EachLendsSame};
 ghost use Rattle.zone_slots.specs.Runs.{GivesRunInZone, GivesRunFor, RefusesGiveRun, IsOneMore, IsNextGiven};
 
 use crate::core_state::CoreState;
 use crate::first_zone::FirstZone;
+use crate::given_back::{GivenBack, Miss};
+use crate::looks::SeenRun;
 use crate::memory::Memory;
 use crate::parts::Parts;
 use crate::refusal::Refusal;
 use frame_words::{CHILD_FRAMES, HUGE_ORDER, TakeFault};
 use frame_zones::{GivenBlock, MOST_IN_RUN, ZoneCore};
 
-/// That so many huge frames, side by side in a zone, were given.
+/// That huge frames of a zone were seen at their slots, side by side, and then so many of them given, the first first.
 #[derive(Debug, Drop)]
 pub struct GivenRun {
-    zone: u32,
-    // The first frame of the first one.
-    frame: u32,
+    seen: SeenRun,
     count: u32,
 }
 
 impl GivenRun {
-    // None, where the first one is to begin at this frame of the zone.
-    fn none(zone: u32, frame: u32) -> GivenRun
-        ensures { result ≡ record { zone = zone; frame = frame; count = 0 } }
+    // None, of those that were seen.
+    fn none(seen: SeenRun) -> GivenRun
+        ensures { result ≡ record { seen = seen; count = 0 } }
     {
-        GivenRun {
-            zone,
-            frame,
-            count: 0,
-        }
+        GivenRun { seen, count: 0 }
     }
 
     // The next one was given.
@@ -57,7 +55,7 @@ impl CoreState {
     /// is a look, which takes and changes nothing: exact where nobody else steps. False where the memory has no such
     /// block. A frame that rests with a core is held. No memory is needed, and nobody waits.
     pub fn is_free(&mut self, frame: u32, order: u8) -> bool
-        ensures shared { SharesOne self.old self.new }
+        ensures rest { LeavesRest self.old self.new }
         ensures looks { LooksFor order frame result self.old self.new }
         ensures counted { CountsNone self.old self.new }
         ensures last { RemembersLast self.old self.new }
@@ -70,7 +68,7 @@ impl CoreState {
     /// is a block of order 9 for itself, whose right rests at its slot until any core gives it. No memory is needed,
     /// and nobody waits.
     pub fn take_run(&mut self, count: u32) -> Result<u32, TakeFault>
-        ensures shared { SharesOne self.old self.new }
+        ensures rest { LeavesRest self.old self.new }
         ensures taken { IfOk result (λ frame. TakesRunFor count frame self.old self.new) }
         ensures counted { IfOk result (λ _. CountsNone self.old self.new) }
         ensures refused { IfErr result (RefusesRun count self.old self.new) }
@@ -78,7 +76,7 @@ impl CoreState {
     {
         let parts = self
             .shared
-            .take_run_at_slots(&mut self.core, &mut self.slotless, count)?;
+            .take_run_at_slots(&mut self.core, &mut self.slotless, &mut self.back, count)?;
         let frame = self.shared.number_at(self.first, parts.zone, parts.frame);
         self.parts = Some(parts);
         Ok(frame)
@@ -88,7 +86,7 @@ impl CoreState {
     /// took them. Where one of them is not held, none is given; one that another core gives or splits meanwhile ends
     /// the give before it. No memory is needed, and nobody waits.
     pub fn give_run(&mut self, frame: u32, count: u32) -> Result<(), Refusal>
-        ensures shared { SharesOne self.old self.new }
+        ensures rest { LeavesRest self.old self.new }
         ensures given { IfOk result (λ _. GivesRunFor count frame self.old self.new) }
         ensures counted { CountsNone self.old self.new }
         ensures refused { IfErr result (RefusesGiveRun count frame self.old self.new) }
@@ -97,11 +95,10 @@ impl CoreState {
         if !is_run_count(count) {
             return Err(Refusal::NoParts);
         }
-        let Some((zone, local)) = self.shared.run_at(self.first, self.core.home, frame, count)
-        else {
+        let Some(seen) = self.shared.run_at(self.first, self.core.home, frame, count) else {
             return Err(Refusal::NotHeld);
         };
-        let run = self.shared.give_each(&mut self.core, zone, local, count);
+        let run = self.shared.give_each(&mut self.core, seen);
         let given = run.count;
         self.run = Some(run);
         if given < count {
@@ -126,17 +123,6 @@ fn refusal_of(contended: bool) -> TakeFault
     TakeFault::NoBlock
 }
 
-// Why a place was no run after all.
-#[derive(Clone, Copy, PartialEq, Eq)]
-enum Miss {
-    // A huge frame of it was held.
-    Held,
-    // An exchange was lost.
-    Lost,
-    // A huge frame of it found no slot.
-    NoSlot,
-}
-
 impl Memory {
     // A look at the block.
     fn is_free_at(&self, core: &mut ZoneCore, frame: u32, order: u8) -> bool
@@ -152,16 +138,18 @@ impl Memory {
         &self,
         core: &mut ZoneCore,
         slotless: &mut u64,
+        last_back: &mut Option<GivenBack>,
         count: u32,
     ) -> Result<Parts, TakeFault>
         requires { AreCoresOf self.now.zones core.old }
         ensures core { AreCoresOf self.now.zones core.new }
+        ensures kept { InEach self.now.zones KeepsAll core.old core.new }
         ensures taken { IfOk result (HasTakenRun self.now.zones count core.old core.new) }
         ensures begins { IfOk result (λ p.
             MayBeginRun count (first_frame_of self.now.zones p.zone + p.frame)) }
         ensures counted { IfOk result (λ _. slotless.new ≡ slotless.old) }
         ensures refused { IfErr result (IsRefusedRun self.now.zones count core.old core.new
-            slotless.old slotless.new) }
+            slotless.old slotless.new last_back.new) }
     {
         if !is_run_count(count) {
             return Err(TakeFault::BadOrder);
@@ -169,7 +157,7 @@ impl Memory {
         let mut from = 0;
         let mut contended = false;
         while let Some(first) = self.zones.look_for_run(core, count, from) {
-            let taken = self.take_run_at(core, slotless, &mut contended, first, count)?;
+            let taken = self.take_run_at(core, slotless, last_back, &mut contended, first, count)?;
             if let Some(parts) = taken {
                 return Ok(parts);
             }
@@ -184,6 +172,7 @@ impl Memory {
         &self,
         core: &mut ZoneCore,
         slotless: &mut u64,
+        last_back: &mut Option<GivenBack>,
         contended: &mut bool,
         first: u64,
         count: u32,
@@ -191,12 +180,13 @@ impl Memory {
         requires core { AreCoresOf self.now.zones core.old }
         requires count { IsRunCount count }
         ensures core { AreCoresOf self.now.zones core.new }
+        ensures kept { InEach self.now.zones KeepsAll core.old core.new }
         ensures taken { IfOk result (λ r. IfSome r (HasTakenRun self.now.zones count core.old core.new)) }
         ensures first { IfOk result (λ r. IfSome r (λ p. first_frame_of self.now.zones p.zone + p.frame ≡ first)) }
         ensures none { IfOk result (λ r. IfNone r (EachLendsSame self.now.zones core.old core.new)) }
         ensures counted { IfOk result (λ _. slotless.new ≡ slotless.old) }
         ensures missed { IfErr result (λ e. (e ≡ TakeFault.Contended)
-            × MissesSlot self.now.zones count core.old core.new slotless.old slotless.new) }
+            × MissesSlot self.now.zones count core.old core.new slotless.old slotless.new last_back.new) }
     {
         let Some((zone, local)) = self.zones.zone_of(core.home, first) else {
             return Ok(None);
@@ -205,12 +195,13 @@ impl Memory {
         let Some(miss) = self.take_parts(core, first, count, &mut parts) else {
             return Ok(Some(parts));
         };
-        let given = self.give_parts(core, &parts);
-        if given < parts.count || miss == Miss::NoSlot {
+        let back = self.give_run_back(core, parts, miss);
+        if back.misses_slot() {
             *slotless = slotless.wrapping_add(1);
+            *last_back = Some(back);
             return Err(TakeFault::Contended);
         }
-        *contended = *contended || miss == Miss::Lost;
+        *contended = *contended || back.is_lost();
         Ok(None)
     }
 
@@ -227,6 +218,7 @@ impl Memory {
         requires none { (parts.old.order ≡ huge_order) × (parts.old.count ≡ 0) }
         requires few { count ≤ most_in_run }
         ensures core { AreCoresOf self.now.zones core.new }
+        ensures kept { InEach self.now.zones KeepsAll core.old core.new }
         ensures parts { AreMore parts.new.count parts.old parts.new }
         ensures few { parts.new.count ≤ count }
         ensures all { IfNone result (parts.new.count ≡ count) }
@@ -251,6 +243,7 @@ impl Memory {
         requires order { parts.old.order ≡ huge_order }
         requires few { parts.old.count < most_in_run }
         ensures core { AreCoresOf self.now.zones core.new }
+        ensures kept { InEach self.now.zones KeepsAll core.old core.new }
         ensures same { IfSome result (λ _. parts.new ≡ parts.old) }
         ensures lent { IfSome result (λ _. EachLendsSame self.now.zones core.old core.new) }
         ensures laid { IfNone result (AreMore 1 parts.old parts.new) }
@@ -267,69 +260,43 @@ impl Memory {
             self.zones.give(core, held);
             return Some(Miss::Held);
         }
-        let Some(receipt) = self.lay_down(core, held) else {
-            return Some(Miss::NoSlot);
+        let receipt = match self.lay_huge_down(core, held) {
+            Ok(receipt) => receipt,
+            Err(found) => return Some(Miss::Slotless(found)),
         };
         parts.add(receipt);
         None
     }
 
-    // Gives back those of them that still rest at their slots. How many do?
-    fn give_parts(&self, core: &mut ZoneCore, parts: &Parts) -> u32
-        requires core { AreCoresOf self.now.zones core.old }
-        requires zone { parts.now.zone < zone_count self.now.zones }
-        requires end { EndsAtMost parts.now }
-        ensures core { AreCoresOf self.now.zones core.new }
-        ensures lent { LendsFewer self.now.zones result core.old core.new parts.now.zone }
-        ensures few { result ≤ parts.now.count }
-    {
-        let mut given = 0;
-        for i in 0..parts.count {
-            given += self.give_part(core, parts.zone, parts.frame + CHILD_FRAMES * i);
-        }
-        given
-    }
-
-    // Gives back the huge frame at this frame of the zone, if it still rests at its slot. Did it?
-    fn give_part(&self, core: &mut ZoneCore, zone: u32, local: u32) -> u32
-        requires core { AreCoresOf self.now.zones core.old }
-        requires zone { zone < zone_count self.now.zones }
-        ensures core { AreCoresOf self.now.zones core.new }
-        ensures lent { LendsFewer self.now.zones result core.old core.new zone }
-        ensures few { result ≤ 1 }
-    {
-        match self.give_in(core, zone, local, HUGE_ORDER) {
-            Ok(_block) => 1,
-            Err(_) => 0,
-        }
-    }
-
-    // The zone and the first frame there of the run that begins at the frame of this number, where each of its huge
-    // frames rests at its slot as this looks.
-    fn run_at(&self, known: FirstZone, hint: u32, frame: u32, count: u32) -> Option<(u32, u32)>
+    // The run that begins at the frame of this number, where each of its huge frames rests at its slot as this looks.
+    fn run_at(&self, known: FirstZone, hint: u32, frame: u32, count: u32) -> Option<SeenRun>
         requires known { IsFirstOf self.now.zones known }
         requires few { count ≤ most_in_run }
-        ensures { IfSome result (λ r. IsFrameIn self.now.zones frame r.0 r.1) }
+        ensures begins { IfSome result (λ r. IsFrameIn self.now.zones frame r.zone r.frame) }
+        ensures all { IfSome result (λ r. r.count ≡ count) }
     {
         let (zone, local) = self.zone_of(known, hint, frame)?;
+        let mut seen = SeenRun::none(zone, local);
         for i in 0..count {
-            let _sight = self.look_at(zone, local + CHILD_FRAMES * i, HUGE_ORDER)?;
+            let sight = self.look_at(zone, local + CHILD_FRAMES * i, HUGE_ORDER)?;
+            seen.add(sight);
         }
-        Some((zone, local))
+        Some(seen)
     }
 
-    // Gives the huge frames of the run, up to the first one that is not at its slot.
-    fn give_each(&self, core: &mut ZoneCore, zone: u32, local: u32, count: u32) -> GivenRun
+    // Gives the huge frames of a run that was seen, up to the first one that is not at its slot.
+    fn give_each(&self, core: &mut ZoneCore, seen: SeenRun) -> GivenRun
         requires core { AreCoresOf self.now.zones core.old }
-        requires zone { zone < zone_count self.now.zones }
-        requires fits { local + child_frames * count < 2 ^ 32 }
-        requires few { count ≤ most_in_run }
+        requires zone { seen.zone < zone_count self.now.zones }
+        requires fits { seen.frame + child_frames * seen.count < 2 ^ 32 }
+        requires few { seen.count ≤ most_in_run }
         ensures core { AreCoresOf self.now.zones core.new }
-        ensures given { GivesRunInZone self.now.zones result.count core.old core.new zone local }
-        ensures run { (result.zone ≡ zone) × (result.frame ≡ local) }
-        ensures few { result.count ≤ count }
+        ensures given { GivesRunInZone self.now.zones result.count core.old core.new seen.zone seen.frame }
+        ensures run { result.seen ≡ seen }
+        ensures few { result.count ≤ seen.count }
     {
-        let mut run = GivenRun::none(zone, local);
+        let (zone, local, count) = (seen.zone, seen.frame, seen.count);
+        let mut run = GivenRun::none(seen);
         for i in 0..count {
             let Ok(given) = self.give_in(core, zone, local + CHILD_FRAMES * i, HUGE_ORDER) else {
                 return run;

@@ -12,5 +12,5 @@ returns-in-Err-NoBlock-clause-lends c =
         lent = same ∙ c.loop-i.invariant.lends.lent;
         kept = c.take.ensures.takes.kept ∙ c.loop-i.invariant.lends.kept;
       },
-      (c.loop-i.core, record { looked = refused.0; unlost = refused.1; lent = same }),
+      (c.loop-i.core, record { looked = refused.0; unlost = refused.1; lent = same; kept = c.take.ensures.takes.kept }),
     )

@@ -23,9 +23,12 @@ returns-clause-lent c =
     let gives : LendAsManyBesides (zones_of s) s.core c.turn.new.self.list.items c.give_together.new.core c.give_together.new.rest.list.items =
     subst (λ (m : Memory). LendAsManyBesides m.zones s.core c.turn.new.self.list.items c.give_together.new.core c.give_together.new.rest.list.items)
     c.deref.ensures c.give_together.ensures.gives in
-    λ z x within. gives.lent z x within
-    ∙ ap (λ n. lent_by (core_at s.core z x) -ℤ pos n)
-    (turned_count (zones_of s) 8 z (resting_in s) c.turn.new.self.list.items c.turn.ensures.turned)
+    record {
+      lent = λ z x within. gives.lent z x within
+          ∙ ap (λ n. lent_by (core_at s.core z x) -ℤ pos n)
+          (turned_count (zones_of s) 8 z (resting_in s) c.turn.new.self.list.items c.turn.ensures.turned);
+      kept = gives.kept;
+    }
 
 pub returns-clause-rest : goal.returns-clause-rest
 returns-clause-rest c =

@@ -1,3 +1,4 @@
+use Rattle.std.proofs.Common.{refl}
 use Rattle.zone_slots.specs.Calls.{zones_of}
 use Rattle.zone_slots.specs.FrameCalls.{resting_in}
 use Rattle.zone_slots.proofs.Rested.{came_to_rest, pushed_all}
@@ -11,6 +12,8 @@ invariant_of-self-clause-rests c =
     (right_from (zones_of c.args.self.now) f.frame 0 f.seat.table_id f.seat.me c.requires.single)
 
 pub returns-clause-lent : goal.returns-clause-lent
-returns-clause-lent c =
-    λ z x within. came_to_rest (zones_of c.args.self.now) c.args.self.now.core (resting_in c.args.self.now) c.push.new.self.list.items
-    c.args.frame c.push.ensures z x
+returns-clause-lent c = record {
+  lent = λ z x within. came_to_rest (zones_of c.args.self.now) c.args.self.now.core (resting_in c.args.self.now)
+      c.push.new.self.list.items c.args.frame c.push.ensures z x;
+  kept = λ z a x within. refl;
+}

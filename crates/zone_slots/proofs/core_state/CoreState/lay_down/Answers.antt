@@ -7,6 +7,7 @@ use Rattle.zone_slots.specs.Resting.{IsSingleIn}
 use Rattle.zone_slots.specs.Uses.{GivesByNumber}
 use Rattle.zone_slots.specs.declared.memory.Memory.{Memory}
 use Rattle.zone_slots.proofs.FrameNumbers.{given_besides}
+use Rattle.zone_slots.proofs.Rested.{gives_keep_all}
 use Rattle.zone_slots.proofs.Rights.{right_from}
 use Rattle.zone_slots.proofs.core_state.CoreState.lay_down.Goals as goal
 
@@ -19,11 +20,15 @@ lay_single_down-requires-clause-single c =
 pub returns-in_default-clause-back : goal.returns-in_default-clause-back
 returns-in_default-clause-back c =
     let s = c.args.self.now in
+    let given : GivesByNumber (zones_of s) 0 c.args.frame.frame s.core c.lay_single_down.new.core =
+    subst (λ (m : Memory). GivesByNumber m.zones 0 c.args.frame.frame s.core c.lay_single_down.new.core) c.deref.ensures
+    c.in_default.ensures.given in
     record {
       counted = refl;
-      lent = given_besides (zones_of s) s.core c.lay_single_down.new.core (resting_in s) c.args.frame.frame
-          (subst (λ (m : Memory). GivesByNumber m.zones 0 c.args.frame.frame s.core c.lay_single_down.new.core) c.deref.ensures
-          c.in_default.ensures.given);
+      lent = record {
+        lent = given_besides (zones_of s) s.core c.lay_single_down.new.core (resting_in s) c.args.frame.frame given;
+        kept = gives_keep_all (zones_of s) c.args.frame.frame s.core c.lay_single_down.new.core given;
+      };
       rest = refl;
     }
 

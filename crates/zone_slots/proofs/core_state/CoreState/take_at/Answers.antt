@@ -24,4 +24,5 @@ returns-clause-taken c =
     record {
       takes = record { taken = placed.taken; laid = ap Some laid };
       others = placed.others;
+      moves = placed.moves;
     }

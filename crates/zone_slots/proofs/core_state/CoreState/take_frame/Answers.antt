@@ -25,5 +25,9 @@ returns-clause-taken c =
     let f = c.in-Some.frame in record {
       is_single = right_in (zones_of s) f.frame 0 f.seat.table_id f.seat.me
           (popped_all (zones_of s) (resting_in s) c.pop.new.self.list.items f c.in-Some.ensures.some s.rests).1;
-      lent = λ z x within. left_rest (zones_of s) s.core (resting_in s) c.pop.new.self.list.items f c.in-Some.ensures.some z x;
+      lent = record {
+        lent = λ z x within.
+            left_rest (zones_of s) s.core (resting_in s) c.pop.new.self.list.items f c.in-Some.ensures.some z x;
+        kept = λ z a x within. refl;
+      };
     }

@@ -1,4 +1,4 @@
-use Rattle.std.proofs.Common.{rules, inl, ◌∙◌}
+use Rattle.std.proofs.Common.{rules, inl}
 use Rattle.zone_slots.specs.FrameNumbers.{RefusesNumber}
 use Rattle.zone_slots.proofs.FrameNumbers.{single_still, taken_number, refused_number, counted_still, last_still}
 use Rattle.zone_slots.proofs.core_state.CoreState.take_number.Goals as goal

@@ -7,9 +7,8 @@ loop-i-preserved c =
     let inv = c.loop-i.invariant in
     record {
       cores = c.give_in.ensures.core;
-      zone = c.add.ensures.zone ∙ inv.zone;
-      frame = c.add.ensures.frame ∙ inv.frame;
+      seen = c.add.ensures.seen ∙ inv.seen;
       count = omega (arith, c.add.ensures.count, inv.count);
-      given = one_more_given c.args.self.now.zones c.loop-i.i c.args.zone c.args.local c.args.core.now c.loop-i.core
+      given = one_more_given c.args.self.now.zones c.loop-i.i c.args.seen.zone c.args.seen.frame c.args.core.now c.loop-i.core
           c.give_in.new.core inv.given c.in-Ok.ensures.given;
     }

@@ -6,8 +6,7 @@ use Rattle.zone_slots.proofs.memory.Memory.give_each.Given as goal
 abbrev pub invariant-loop-i : goal.invariant-loop-i
 invariant-loop-i l = record {
   cores : AreCoresOf l.self.zones l.core;
-  zone : l.run.zone ≡ l.zone;
-  frame : l.run.frame ≡ l.local;
+  seen : l.run.seen ≡ l.fn.seen;
   count : l.run.count ≡ l.i;
   given : GivesRunInZone l.self.zones l.i l.fn.core l.core l.zone l.local;
 }

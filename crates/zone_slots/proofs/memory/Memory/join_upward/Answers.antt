@@ -7,7 +7,8 @@ use Rattle.zone_slots.proofs.memory.Memory.join_upward.Goals as goal
 pub returns-in-Ok : goal.returns-in-Ok
 returns-in-Ok c =
     joined_up c.args.self.now.zones c.args.first c.args.second c.in-Ok.block c.args.core.now c.join.new.core
-    c.requires.first c.requires.second c.in-Ok.ensures.core.are_cores c.in-Ok.ensures.joins.ok c.in-Ok.ensures.joins.others
+    c.requires.first c.requires.second c.in-Ok.ensures.core.are_cores c.in-Ok.ensures.joins.kept
+    c.in-Ok.ensures.joins.ok c.in-Ok.ensures.joins.others
 
 pub returns-in-Err : goal.returns-in-Err
 returns-in-Err c =

@@ -12,5 +12,5 @@ pub returns-in-Err-clause-given : goal.returns-in-Err-clause-given
 returns-in-Err-clause-given c =
     let zs = c.args.self.now.zones in
     single_back zs c.block_at-held.result c.args.frame.frame None c.args.core.now c.give_back.new.core
-    c.block_at-held.ensures.out c.block_at-held.ensures.frame c.block_at-held.ensures.order
+    c.block_at-held.ensures.out c.block_at-held.ensures.frame c.block_at-held.ensures.order c.give_back.ensures.moves
     (subst (λ z. GivesIn zs z c.args.core.now c.give_back.new.core) c.in-Err.ensures.zone c.give_back.ensures.given)

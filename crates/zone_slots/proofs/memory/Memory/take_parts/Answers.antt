@@ -1,8 +1,9 @@
-use Rattle.std.proofs.Common.{◌≡◌, ℕ, ◌+◌, ◌∙◌, ap, sym, subst, arith}
+use Rattle.std.proofs.Common.{◌≡◌, ◌∙◌, ap, sym, subst, arith}
 use Rattle.zone_slots.specs.Parts.{AreMore}
 use Rattle.zone_slots.specs.Runs.{TakesRunInZone, frame_in_run}
 use Rattle.zone_slots.specs.Uses.{TakesInZone}
 use Rattle.zone_slots.proofs.Running.{is_number, then_same, one_more_taken, ends_inside}
+use Rattle.zone_slots.proofs.RunsKept.{kept_twice}
 use Rattle.zone_slots.proofs.memory.Memory.take_parts.Goals as goal
 
 pub overflow_add-frame : goal.overflow_add-frame
@@ -40,6 +41,7 @@ loop-i-preserved c =
     (subst (λ f. TakesInZone zs 9 c.loop-i.core c.take_part.new.core q.zone f) place c.in_default.ensures.taken) in
     record {
       cores = c.take_part.ensures.core;
+      kept = kept_twice zs c.args.core.now c.loop-i.core c.take_part.new.core inv.kept c.take_part.ensures.kept;
       parts = record {
         zone = more.zone ∙ inv.parts.zone;
         frame = more.frame ∙ inv.parts.frame;
@@ -58,3 +60,8 @@ loop-i-preserved c =
         );
       };
     }
+
+pub returns-in-Some-clause-kept : goal.returns-in-Some-clause-kept
+returns-in-Some-clause-kept c =
+    kept_twice c.args.self.now.zones c.args.core.now c.loop-i.core c.take_part.new.core c.loop-i.invariant.kept
+    c.take_part.ensures.kept

@@ -1,5 +1,6 @@
 use Rattle.std.specs.Prelude.{◌≡◌, ◌⊎◌, ◌+◌, ◌-◌, ◌≤◌}
-use Rattle.frame_zones.specs.Zones.{AreCoresOf}
+use Rattle.frame_zones.specs.Uses.{KeepsAll}
+use Rattle.frame_zones.specs.Zones.{InEach, AreCoresOf}
 use Rattle.zone_slots.specs.Layouts.{most_numbers}
 use Rattle.zone_slots.specs.Runs.{IsBehindRun}
 use Rattle.zone_slots.specs.Uses.{EachLendsSame}
@@ -8,6 +9,7 @@ use Rattle.zone_slots.proofs.memory.Memory.take_run_at_slots.Given as goal
 abbrev pub invariant-loop-first : goal.invariant-loop-first
 invariant-loop-first l = record {
   cores : AreCoresOf l.self.zones l.core;
+  kept : InEach l.self.zones KeepsAll l.fn.core l.core;
   lent : EachLendsSame l.self.zones l.fn.core l.core;
   counted : l.slotless ≡ l.fn.slotless;
   begins : ((l.from ≡ 0) × (l.core ≡ l.fn.core)) ⊎ IsBehindRun l.self.zones l.count l.from;
