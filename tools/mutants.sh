@@ -1,6 +1,7 @@
 #!/usr/bin/env bash
 # What tools/mutants.py says of five mutants of a small crate. Two change one function, and two another one that calls it,
-# so one check cannot try all. One of these survives, and is not refused. The last line counts.
+# so one check cannot try all. One of these survives, and is not refused. The crate is another one in each run, since rt
+# keeps what it tried. The last line counts.
 set -u
 . "$(dirname "$0")/holds.sh"
 tools=$(cd "$(dirname "$0")" && pwd)
@@ -13,8 +14,8 @@ says() { grep -q "^rt: $1" "$folder/told" || { cat "$folder/told"; false; }; }
 mkdir -p "$folder"/crates/doubles/{src,must-fail}
 echo 'doubles:' >"$folder/crates.txt"
 echo 'Handles allowed: none.' >"$folder/HANDLES"
-cat >"$folder/crates/doubles/src/lib.rt" <<'END'
-//! Numbers twice and four times over.
+echo "//! Numbers twice and four times over, of ${folder##*/}." >"$folder/crates/doubles/src/lib.rt"
+cat >>"$folder/crates/doubles/src/lib.rt" <<'END'
 
 #![tactic(auto)]
 

@@ -128,8 +128,9 @@ impl Memory {
             ≡ block_at (frame + 2 ^ (order - 1)) (order - 1)) }
         ensures same { IfErr result (λ e. e ≢ Refusal.NoSlot → core.new ≡ core.old) }
         ensures counted { IfOk result (λ _. slotless.new ≡ slotless.old) }
-        ensures refused { IfErr result (λ e. IsRefusedSplit self.now.zones order frame core.old core.new
-            slotless.old slotless.new e × InEach self.now.zones KeepsAll core.old core.new) }
+        ensures refused { IfErr result (IsRefusedSplit self.now.zones order frame core.old core.new
+            slotless.old slotless.new) }
+        ensures kept { IfErr result (λ _. InEach self.now.zones KeepsAll core.old core.new) }
     {
         if order == 0 {
             return Err(Refusal::NoParts);

@@ -67,8 +67,9 @@ impl Memory {
             parts_laid self.now.zones p ≡ parts_of frame order to) }
         ensures same { IfErr result (λ e. e ≢ Refusal.NoSlot → core.new ≡ core.old) }
         ensures counted { IfOk result (λ _. slotless.new ≡ slotless.old) }
-        ensures refused { IfErr result (λ e. IsRefusedSplitTo self.now.zones order to frame core.old core.new
-            slotless.old slotless.new e × InEach self.now.zones KeepsAll core.old core.new) }
+        ensures refused { IfErr result (IsRefusedSplitTo self.now.zones order to frame core.old core.new
+            slotless.old slotless.new) }
+        ensures kept { IfErr result (λ _. InEach self.now.zones KeepsAll core.old core.new) }
     {
         if order > HUGE_ORDER || to > order {
             return Err(Refusal::NoParts);

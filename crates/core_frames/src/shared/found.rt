@@ -2,6 +2,7 @@
 
 ghost use Rattle.std.specs.Prelude.{◌≡◌, [], None, ◌+◌, ◌<◌, ◌≤◌, ◌||◌, nat_lt, MatchBool, IfSome, IfNone, IfOk, IfErr};
 ghost use Rattle.frame_words.specs.Geometry.{huge_order};
+ghost use Rattle.frame_words.specs.Runs.{word_order};
 ghost use Rattle.frame_model.specs.Block.{block as block_at};
 ghost use Rattle.frame_model.specs.View.{holder};
 ghost use Rattle.frame_table.specs.Rule.{watch};
@@ -16,7 +17,7 @@ use crate::takes::search_elsewhere;
 use atomic_table::Seat;
 use frame_core::{HeldBlock, Moves};
 use frame_table::{Block, SharedMoves, Watch};
-use frame_words::HUGE_ORDER;
+use frame_words::{HUGE_ORDER, WORD_ORDER};
 
 /// A block of an order that the caller knows: its first frame, and its seat, which has no bytes.
 // So the answer of a search is two numbers with what tells whether there is one, and comes back in
@@ -53,7 +54,8 @@ impl Allocator {
     /// A take without the block's order. Where there is no block, the answer is whether an exchange
     /// was lost: 1, else 0, a number as wide as that of a frame.
     // Kernels take mostly base frames and huge frames: each of these two has a body of its own, in
-    // which masks, shifts and the kind of the block are constants.
+    // which masks, shifts and the kind of the block are constants. Blocks of several words have theirs
+    // apart, since their takes are calls, for which the moves of all the others would lie in memory.
     #[inline(always)]
     pub(crate) fn find(&self, core: &mut Core, order: u8) -> Result<Found, u32>
         requires core { IsCoreOf self.now core.old }
@@ -63,7 +65,8 @@ impl Allocator {
         match order {
             0 => self.find_base(core),
             HUGE_ORDER => self.find_huge(core),
-            _ => self.find_any(core, order),
+            _ if order > WORD_ORDER => self.find_wide(core, order),
+            _ => self.find_small(core, order),
         }
     }
 
@@ -84,12 +87,22 @@ impl Allocator {
     }
 
     #[inline(never)]
-    fn find_any(&self, core: &mut Core, order: u8) -> Result<Found, u32>
+    fn find_wide(&self, core: &mut Core, order: u8) -> Result<Found, u32>
         requires core { IsCoreOf self.now core.old }
         requires order { order ≤ huge_order }
         ensures { FindsAsCore self.now order result core.old core.new }
     {
         self.find_of(core, order)
+    }
+
+    // The compiler leaves out what is for larger orders where it sees the bound.
+    #[inline(never)]
+    fn find_small(&self, core: &mut Core, order: u8) -> Result<Found, u32>
+        requires core { IsCoreOf self.now core.old }
+        requires order { order ≤ word_order }
+        ensures { FindsAsCore self.now order result core.old core.new }
+    {
+        self.find_of(core, order.min(WORD_ORDER))
     }
 
     // The own tree, and then the others.

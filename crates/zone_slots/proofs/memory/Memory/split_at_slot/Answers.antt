@@ -68,11 +68,15 @@ returns-in_default-2-clause-refused c =
           w.in_default-2.is-0 c.lay_down-lower_rests.ensures.given)
           c.lay_down-upper_rests.ensures.rests c.lay_down-upper_rests.ensures.given
     ] in
+    (omega (arith, c.if-order-eq0.false), refl, left)
+
+pub returns-in_default-2-clause-kept : goal.returns-in_default-2-clause-kept
+returns-in_default-2-clause-kept c =
+    let zs = c.args.self.now.zones in
     let lower = c.lay_down-lower_rests in
     let upper = c.lay_down-upper_rests in
-    let kept = kept_twice zs c.args.core.now lower.new.core upper.new.core
+    kept_twice zs c.args.core.now lower.new.core upper.new.core
     (kept_twice zs c.args.core.now c.split.new.core lower.new.core
     (split_keeps zs c.in-Some.held c.split.result c.args.core.now c.split.new.core c.split.ensures.splits)
     (laid_keeps zs c.in-Ok.lower.zone lower.result c.split.new.core lower.new.core lower.ensures.rests lower.ensures.given))
-    (laid_keeps zs c.in-Ok.upper.zone upper.result lower.new.core upper.new.core upper.ensures.rests upper.ensures.given) in
-    ((omega (arith, c.if-order-eq0.false), refl, left), kept)
+    (laid_keeps zs c.in-Ok.upper.zone upper.result lower.new.core upper.new.core upper.ensures.rests upper.ensures.given)

@@ -14,12 +14,9 @@ lay_parts-requires-clause-next c =
 
 pub returns-then-not-lay_parts-clause-refused : goal.returns-then-not-lay_parts-clause-refused
 returns-then-not-lay_parts-clause-refused c = (
-  (
-    record { few = omega (arith, c.if-order-gt-HUGE_ORDER.false); fits = omega (arith, c.if-to-order.false) },
-    refl,
-    parts_left_out c.args.self.now.zones c.args.frame c.args.order c.args.to c.in-Some.held c.none-parts.result
-        c.lay_parts.new.parts c.args.core.now c.lay_parts.new.core c.in-Some.ensures.out c.in-Some.ensures.frame
-        c.in-Some.ensures.order (ap (λ (p : Parts). p.order) c.none-parts.ensures) (c.if-not-lay_parts.ensures.fewer refl),
-  ),
-  c.lay_parts.ensures.kept,
+  record { few = omega (arith, c.if-order-gt-HUGE_ORDER.false); fits = omega (arith, c.if-to-order.false) },
+  refl,
+  parts_left_out c.args.self.now.zones c.args.frame c.args.order c.args.to c.in-Some.held c.none-parts.result
+      c.lay_parts.new.parts c.args.core.now c.lay_parts.new.core c.in-Some.ensures.out c.in-Some.ensures.frame
+      c.in-Some.ensures.order (ap (λ (p : Parts). p.order) c.none-parts.ensures) (c.if-not-lay_parts.ensures.fewer refl),
 )
