@@ -1,8 +1,8 @@
 //! What bounds come to, and what would be wrong, and is told: laws, proved as contracts of functions
 //! that do nothing.
 
-ghost use Rattle.core_frames.specs.BoundNumbers.{TakeInNumbers, PlaceInNumbers, GiveInNumbers};
-ghost use Rattle.core_frames.specs.BoundNumbers.{SplitInNumbers, JoinInNumbers, LookInNumbers};
+ghost use Rattle.core_frames.specs.BoundNumbers.{TakeInNumbers, PlaceInNumbers, FillInNumbers};
+ghost use Rattle.core_frames.specs.BoundNumbers.{GiveInNumbers, SplitInNumbers, JoinInNumbers, LookInNumbers};
 ghost use Rattle.core_frames.specs.BoundNumbers.{TellingInNumbers, TreeInNumbers, DeskMovesTooMuch};
 ghost use Rattle.core_frames.specs.Missed.{MissesTheWithheld, NobodyWithholds};
 ghost use Rattle.core_frames.specs.Uses.{GivesFreeTheirBlock};
@@ -27,6 +27,7 @@ use frame_model::every_run_from_an_opening_fits;
 pub fn bounds_are_these()
     ensures take { TakeInNumbers }
     ensures place { PlaceInNumbers }
+    ensures fill { FillInNumbers }
     ensures give { GiveInNumbers }
     ensures split { SplitInNumbers }
     ensures join { JoinInNumbers }

@@ -1,3 +1,4 @@
 pub mod Bounds
+pub mod BoundNumbers
 pub mod Caches
 pub mod Uses

@@ -3,9 +3,11 @@
 
 mod cached_core;
 mod gives;
+mod laws;
 mod openings;
 mod rests;
 mod takes;
 mod through;
 
 pub use cached_core::{CachedCore, MOST_CACHED};
+pub use laws::cached_bounds_are_these;

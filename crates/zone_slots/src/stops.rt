@@ -32,8 +32,8 @@ impl CoreState {
     /// The words of each zone, in order, from the one core that is left, once the frames that rest with it
     /// have gone back: they fit some views, of which one is that core's own there, and all that it keeps
     /// there is held. That blocks which rest at their slots are held too is by the body, which writes no
-    /// word. Refused as `MissingCores` where
-    /// other cores are open, else for lack of memory; no zone is stopped then.
+    /// word. Refused as `MissingCores` where other cores are open, else for lack of memory (which of the
+    /// two is tested); no zone is stopped then.
     pub fn stop(self, alloc: Global) -> Result<Vec<ZoneImage>, StopFault>
         ensures images { IfOk result (λ images. StopsWithout self images.items) }
         ensures same { IfErr result (λ e. e.core ≡ self) }
