@@ -71,12 +71,14 @@ def refused_text(size):
 
 
 def threads_of(cores):
-    """Words, a text, and how many threads work at once: where a long text is read, and where answers are spelled."""
+    """Words, a text, and how many threads work at once: where a long text is read, and where answers are spelled; else
+    only a core with records has one."""
     several = cores if cores > 1 else 0
     yield f'run 1 {cores}', refused_text(80_000), several
     yield f'run 1 {cores}', refused_text(65_536), several
     yield f'run 1 {cores}', refused_text(65_535), 0
     yield f'run 1 {cores}', b'0,give,a,\n' * 4_096, several
+    yield f'run 1 {cores}', b'0,give,a,\n' * 4_095, min(several, 1)
 
 
 def is_alone(words):
