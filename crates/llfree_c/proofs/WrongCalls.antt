@@ -1,12 +1,13 @@
 -- What no exported call answers.
-use Rattle.std.proofs.Common.{ℕ, Some, None, ⊎_elim, inl, refl, sym, ◌∙◌, arith}
+use Rattle.std.proofs.Common.{ℕ, [], Some, None, ⊎_elim, inl, refl, sym, ap, ◌∙◌, ◌<◌, ◌≡◌, length, arith}
 use Rattle.std.proofs.lemmas.Bool.{true≢false}
 use Rattle.zone_slots.proofs.WrongTakes.{fewer_moves_unsought, loss_unsought, number_in_no_zone, taken_from_a_hole}
 use Rattle.zone_slots.specs.Calls.{zones_of}
+use Rattle.zone_slots.specs.FrameCalls.{resting_in}
 use Rattle.zone_slots.specs.Uses.{FindsNothingAnywhere}
 use Rattle.zone_slots.specs.WrongTakes.{SkipsTrees, LosesSome}
 use Rattle.zone_slots.specs.declared.core_state.CoreState.{CoreState}
-use Rattle.llfree_c.specs.WrongCalls.{NumberIsOfAHole, NoBlockIsUnsought, CountIsTooHigh, SplitIsRefusedForNothing, HalvesAreRefusedForNothing}
+use Rattle.llfree_c.specs.WrongCalls.{NumberIsOfAHole, NoBlockIsUnsought, CountIsTooHigh, SplitIsRefusedForNothing, HalvesAreRefusedForNothing, PartsAreRefusedForNothing, FrameIsRefusedForNothing}
 
 pub number_is_of_a_hole : NumberIsOfAHole
 number_is_of_a_hole order frame x h s t none = (
@@ -78,4 +79,47 @@ halves_are_refused_for_nothing held upper s t = (
   λ empty why. ⊎_elim (λ other. absurd (omega (arith, other.0)))
       (λ rest. ⊎_elim (λ other. absurd (omega (arith, other.0))) (λ is. absurd (true≢false (sym is.1 ∙ empty))) rest) why.1,
   λ moved status why. moved why.0,
+)
+
+pub parts_are_refused_for_nothing : PartsAreRefusedForNothing
+parts_are_refused_for_nothing order to frame s t = (
+  λ none. inl (refl, none, refl, refl),
+  λ some why. ⊎_elim (λ is. is.1 some)
+      (λ rest. ⊎_elim (λ other. absurd (omega (arith, other.0))) (λ other. absurd (omega (arith, other.0))) rest) why,
+  λ none. (
+    λ why. ⊎_elim (λ other. absurd (omega (arith, other.0)))
+        (λ rest. ⊎_elim (λ is. none is.1) (λ other. absurd (omega (arith, other.0))) rest) why,
+    λ why. ⊎_elim (λ other. absurd (omega (arith, other.0)))
+        (λ rest. ⊎_elim (λ other. absurd (omega (arith, other.0))) (λ is. none is.1) rest) why,
+  ),
+  λ moved. (
+    λ why. ⊎_elim (λ is. moved is.2)
+        (λ rest. ⊎_elim (λ other. absurd (omega (arith, other.0))) (λ other. absurd (omega (arith, other.0))) rest) why,
+    λ why. ⊎_elim (λ other. absurd (omega (arith, other.0)))
+        (λ rest. ⊎_elim (λ is. moved is.2) (λ other. absurd (omega (arith, other.0))) rest) why,
+  ),
+  λ uncounted why. ⊎_elim (λ other. absurd (omega (arith, other.0)))
+      (λ rest. ⊎_elim (λ other. absurd (omega (arith, other.0))) (λ is. uncounted is.2) rest) why,
+)
+
+-- where frames rest, there is not none
+none_rest : (s : CoreState) → 0 < length (resting_in s) → ¬ (resting_in s ≡ [])
+none_rest s some none = absurd (omega (arith, some, ap length none))
+
+pub frame_is_refused_for_nothing : FrameIsRefusedForNothing
+frame_is_refused_for_nothing held s t = (
+  λ live. (refl, inl (refl, live, refl)),
+  λ empty why. ⊎_elim (λ is. absurd (true≢false (sym is.1 ∙ empty)))
+      (λ rest. ⊎_elim (λ other. absurd (omega (arith, other.0))) (λ other. absurd (omega (arith, other.0))) rest) why.1,
+  λ some. (
+    λ why. ⊎_elim (λ other. absurd (omega (arith, other.0)))
+        (λ rest. ⊎_elim (λ is. none_rest s some is.1) (λ other. absurd (omega (arith, other.0))) rest) why.1,
+    λ why. ⊎_elim (λ other. absurd (omega (arith, other.0)))
+        (λ rest. ⊎_elim (λ other. absurd (omega (arith, other.0))) (λ is. none_rest s some is.1) rest) why.1,
+  ),
+  λ changed status why. changed why.0,
+  λ some why. ⊎_elim (λ is. none_rest s some is.1)
+      (λ rest. ⊎_elim (λ other. absurd (omega (arith, other.0))) (λ other. absurd (omega (arith, other.0))) rest) why,
+  λ counted why. ⊎_elim (λ is. counted is.4)
+      (λ rest. ⊎_elim (λ other. absurd (omega (arith, other.0))) (λ other. absurd (omega (arith, other.0))) rest) why,
 )

@@ -1,14 +1,18 @@
 -- Answers of exported calls that would be wrong.
-use Rattle.std.specs.Prelude.{◌≡◌, ℕ, ◌*◌, ◌<◌, Option, Some, None, true, false}
+use Rattle.std.specs.Prelude.{◌≡◌, ℕ, ◌*◌, ◌<◌, Option, Some, None, true, false, length}
 use Rattle.frame_words.specs.Geometry.{child_frames}
 use Rattle.frame_zones.specs.Frames.{IsInNoZone}
-use Rattle.zone_slots.specs.Calls.{zones_of, TakesFor, frames_by, CountsOne, KeepsCore}
+use Rattle.zone_slots.specs.Calls.{zones_of, TakesFor, frames_by, CountsNone, CountsOne, KeepsCore}
+use Rattle.zone_slots.specs.FrameCalls.{resting_in, KeepsRest}
 use Rattle.zone_slots.specs.FreeCounts.{CountsFrames, CountsHuge}
+use Rattle.zone_slots.specs.Parts.{HasPartsOf}
 use Rattle.zone_slots.specs.WrongTakes.{LiesFrom, SkipsTrees, LosesSome}
 use Rattle.zone_slots.specs.declared.core_state.CoreState.{CoreState}
 use Rattle.llfree_c.specs.Blocks.{TakesHeld}
 use Rattle.llfree_c.specs.FreeCounts.{CountsBehind}
-use Rattle.llfree_c.specs.RefusedCalls.{RefusesTakeAs, RefusesBlockAs, RefusesSplitAs, RefusesHalvesAs}
+use Rattle.llfree_c.specs.FrameNumbers.{RefusesNumberAs}
+use Rattle.llfree_c.specs.Frames.{RefusesFrameAs}
+use Rattle.llfree_c.specs.RefusedCalls.{RefusesTakeAs, RefusesBlockAs, RefusesSplitAs, RefusesSplitToAs, RefusesHalvesAs}
 use Rattle.llfree_c.specs.SeenCores.{OnCores}
 use Rattle.llfree_c.specs.Status.{no_block, bad_order, not_held, not_closed, contended}
 use Rattle.llfree_c.specs.declared.block_handle.BlockHandle.{BlockHandle}
@@ -56,3 +60,26 @@ HalvesAreRefusedForNothing = (held upper : BlockHandle) (s t : CoreState)
     × (held.live ≡ true → ¬ RefusesHalvesAs held upper not_held s t)
     × (upper.live ≡ false → ¬ RefusesHalvesAs held upper not_closed s t)
     × (¬ KeepsCore s t → (status : ℕ) → ¬ RefusesHalvesAs held upper status s t)
+
+-- a split into parts by numbers is refused as a bad order where there are no such parts, and only there; none is
+-- refused as not held or as a bad order after a move, and none as contended with no block counted that found no slot
+abbrev pub PartsAreRefusedForNothing : Type 0
+PartsAreRefusedForNothing = (order to frame : ℕ) (s t : CoreState)
+    → (¬ HasPartsOf order to → RefusesSplitToAs order to frame bad_order s s)
+    × (HasPartsOf order to → ¬ RefusesSplitToAs order to frame bad_order s t)
+    × (¬ HasPartsOf order to → (¬ RefusesSplitToAs order to frame not_held s t)
+    × (¬ RefusesSplitToAs order to frame contended s t))
+    × (¬ KeepsCore s t → (¬ RefusesSplitToAs order to frame bad_order s t)
+    × (¬ RefusesSplitToAs order to frame not_held s t))
+    × (¬ CountsOne s t → ¬ RefusesSplitToAs order to frame contended s t)
+
+-- a take of a single frame that rests is refused only for the struct, which carries a block then; none is refused and
+-- changes what rests; and none by number says that it found no block while one rests, or counts one
+abbrev pub FrameIsRefusedForNothing : Type 0
+FrameIsRefusedForNothing = (held : BlockHandle) (s t : CoreState)
+    → (held.live ≡ true → RefusesFrameAs held not_closed s s)
+    × (held.live ≡ false → ¬ RefusesFrameAs held not_closed s t)
+    × (0 < length (resting_in s) → (¬ RefusesFrameAs held no_block s t) × (¬ RefusesFrameAs held contended s t))
+    × (¬ KeepsRest s t → (status : ℕ) → ¬ RefusesFrameAs held status s t)
+    × (0 < length (resting_in s) → ¬ RefusesNumberAs no_block s t)
+    × (¬ CountsNone s t → ¬ RefusesNumberAs no_block s t)

@@ -3,6 +3,7 @@
 
 ghost use Rattle.llfree_c.specs.WrongCalls.{CountIsTooHigh, NoBlockIsUnsought, NumberIsOfAHole};
 ghost use Rattle.llfree_c.specs.WrongCalls.{HalvesAreRefusedForNothing, SplitIsRefusedForNothing};
+ghost use Rattle.llfree_c.specs.WrongCalls.{PartsAreRefusedForNothing, FrameIsRefusedForNothing};
 ghost use Rattle.llfree_c.specs.WrongImages.{BootFrameIsClearInImage, CountersAreOff, ImageIsOfNoState};
 ghost use Rattle.llfree_c.specs.WrongImages.{ZoneStandsAtAnothersPlace};
 
@@ -18,11 +19,14 @@ pub fn wrong_images_are_not_left()
 {}
 
 /// No call answers what is wrong: no take a block with a frame in a hole, or that none was found after fewer
-/// moves in a zone than it has trees; no count is above all frames; and no split is refused for what is not so.
+/// moves in a zone than it has trees; no count is above all frames; and no split and no take of a single frame is
+/// refused for what is not so.
 pub fn wrong_answers_are_not_given()
     ensures holes { NumberIsOfAHole }
     ensures unsought { NoBlockIsUnsought }
     ensures counts { CountIsTooHigh }
     ensures splits { SplitIsRefusedForNothing }
     ensures halves { HalvesAreRefusedForNothing }
+    ensures parts { PartsAreRefusedForNothing }
+    ensures frames { FrameIsRefusedForNothing }
 {}

@@ -1,4 +1,4 @@
-use Rattle.llfree_c.proofs.WrongCalls.{number_is_of_a_hole, no_block_is_unsought, count_is_too_high, split_is_refused_for_nothing, halves_are_refused_for_nothing}
+use Rattle.llfree_c.proofs.WrongCalls.{number_is_of_a_hole, no_block_is_unsought, count_is_too_high, split_is_refused_for_nothing, halves_are_refused_for_nothing, parts_are_refused_for_nothing, frame_is_refused_for_nothing}
 use Rattle.llfree_c.proofs.laws.wrong_answers_are_not_given.Goals as goal
 
 pub returns : goal.returns
@@ -8,4 +8,6 @@ returns c = record {
   counts = count_is_too_high;
   splits = split_is_refused_for_nothing;
   halves = halves_are_refused_for_nothing;
+  parts = parts_are_refused_for_nothing;
+  frames = frame_is_refused_for_nothing;
 }
