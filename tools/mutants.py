@@ -9,9 +9,13 @@ Together are mutants of different functions, each of nothing but bodies. The pro
 so a goal of one is refused whatever stands in the others. A mutant is refused where a goal of its own function is: left
 open, or not met by the answer that stands for it. Where its function calls one that is not proved, the prover does not
 come to it: the next check tries it again. Each mutant that was not refused so is tried alone, by rt, which judges then.
+
+A crate is proved once for both: its library holds what its proof checked, and the mutants are tried over that.
 """
+import contextlib
 import functools
 import inspect
+import json
 import os
 import re
 import shutil
@@ -24,7 +28,8 @@ import types
 FORMS = {'must_fail': 'crate edit flags kept', 'read_edit': 'edit folder', 'checked': 'crate texts flags kept',
          'unread': 'line changed'}
 ALL, TASKS = ({'must_fail_all': 'crate edits flags'},
-              {'add_edits': 'tasks crate edits first waits is_well kept start in_ci', 'linked': 'folder to'})
+              {'add_edits': 'tasks crate edits first waits is_well kept start in_ci', 'linked': 'folder to',
+               'seeded': 'crate flags start', 'edits_of': 'crate'})
 HEAD = re.compile(r'( *)(?:pub(?:\(.*?\))? )?(?:unsafe )?(?:extern "C" )?fn (\w+)')
 CLAUSE = re.compile(r' *(requires|ensures|ghost)\b')
 GOAL = re.compile(r'note: (?:\./)?(src/\S+?):(\d+):\d+: (?:it is not proved that|`search` found no proof)')
@@ -169,10 +174,62 @@ def must_fail_all(rt, crate, edits, flags):
     return [tried[it] if is_sound and tried[it][0] else rt.must_fail(crate, it, flags) for it in edits]
 
 
+def keeping_what_is_checked(rt):
+    """rt's crate, but a library with mutants is built with all that its proof checked, not with its statements alone.
+    Of an archive and its proof that stays too from which make compiles it."""
+    class Crate(rt.Crate):
+        def build_rlib(self, flags, anew):
+            self.cuts_libraries = self.cuts_libraries and not (anew and rt.edits_of(self)[0])
+            status = super().build_rlib(flags, anew)
+            if anew:
+                # as of one with statements: no other command counts it as its own
+                with contextlib.suppress(FileNotFoundError):
+                    os.remove(f'{self.folder}/out/rlib/stamp')
+            return status
+
+        def prove(self, *commands):
+            if not self.is_static or len(commands) > 1:
+                return super().prove(*commands)
+            with open(f'{self.folder}/out/words', 'w', encoding='utf-8') as file:
+                json.dump(commands[0], file)
+            return super().prove([*commands[0], '-o', 'out/checked'])
+
+    return Crate
+
+
+def lay_checked(library, to):
+    """Lays what a library holds of its proof where a check looks for what earlier checks proved. Of one that holds
+    none, nothing: the check then begins from nothing."""
+    with contextlib.suppress(OSError, ValueError, IndexError):
+        build = [it.split()[1].replace('/', '_') for it in lines_of(f'{library}/format') if it.startswith('rattle-build ')]
+        os.makedirs(f'{to}/{build[0]}')
+        with open(f'{library}/toolchain/checked.a', 'rb') as file:
+            held = file.read()
+        for name, at, size in map(json.loads, filter(None, lines_of(f'{library}/toolchain/checked.json'))):
+            if '/' not in name:
+                with open(f'{to}/{build[0]}/{name}.oantt', 'wb') as file:
+                    file.write(held[at:at + size])
+
+
 def add_edits(rt, own, tasks, crate, edits, first, waits, is_well, kept, *rest, **named):
     """Around rt's function of this name, whose tasks try each mutant over a copy of what a check of the crate proved.
-    One task more tries many by one check over such a copy, and each of the others takes its answer, if it has one."""
+    That check begins with what the crate's proof did, where there is one. One task more tries many by one check over
+    such a copy, and each of the others takes its answer, if it has one."""
+    proof = (crate.name, 'proof')
+    if proof in tasks and not rest and not named:
+        first, named = [*first, proof], {'start': f'{crate.folder}/out/checked_before'}
     given_back = own(tasks, crate, edits, first, waits, is_well, kept, *rest, **named)
+    if proof in tasks and (crate.name, 'seed') in tasks:
+        after, lines, memory, seed = tasks[crate.name, 'seed']
+
+        def seed_of_proof(given, jobs):
+            lay_checked(crate.rlib, named['start'])
+            try:
+                return seed(given, jobs)
+            finally:
+                shutil.rmtree(named['start'], ignore_errors=True)
+
+        tasks[crate.name, 'seed'] = after, lines, memory, seed_of_proof
     found, key = may_be_together(rt, crate, edits), (crate.name, 'edits', 'together')
     if len(found) < 2 or (crate.name, 'seed') not in tasks:
         return given_back
@@ -218,4 +275,5 @@ if __name__ == '__main__':
         kit.must_fail_all = functools.partial(must_fail_all, kit)
     elif has({**FORMS, **TASKS}):
         kit.add_edits = functools.partial(add_edits, kit, kit.add_edits)
+        kit.Crate = keeping_what_is_checked(kit)
     sys.exit(kit.main(sys.argv[1:]))

@@ -255,12 +255,12 @@ class Build:
 
     def take(self):
         for name in self.below(*self.line):
-            left, new = f'crates/{name}/out/rlib/{name}.rlib', f'{ROOM}/{name}.new/crates/{name}'
-            if os.path.isdir(left):
-                lock(name)
+            out, new = f'crates/{name}/out', f'{ROOM}/{name}.new/crates/{name}'
+            for made in (it for it in (f'rlib/{name}.rlib', 'checked') if os.path.isdir(f'{out}/{it}') and lock(name)):
                 shutil.rmtree(f'{ROOM}/{name}.new', ignore_errors=True)
                 copy(f'crates/{name}', new)
-                shutil.copytree(left, f'{new}/out/rlib/{name}.rlib')
+                shutil.copytree(f'{out}/{made}', f'{new}/out/{made}')
+                write(f'{new}/words', text_of(f'{out}/words').replace(f'{TOP}/crates/', f'{ROOM}/'))
                 self.keep(name, new, self.key(name, new))
 
 
