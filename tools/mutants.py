@@ -197,21 +197,18 @@ def keeping_what_is_checked(rt):
     return Crate
 
 
-def lay_checked(crate, to):
-    """Lays what a crate's proof checked, as its library or what make compiles it from holds it, where a check looks for
-    what earlier ones proved: in a folder for this build of rattle. Of a crate that holds none, nothing: the check then
-    begins from nothing."""
+def lay_checked(library, to):
+    """Lays what a library holds of its proof where a check looks for what earlier checks proved. Of one that holds
+    none, nothing: the check then begins from nothing."""
     with contextlib.suppress(OSError, ValueError, IndexError):
-        held = crate.rlib if os.path.isdir(crate.rlib) else f'{crate.folder}/out/checked'
-        said = [line for it in [crate, *crate.below()] for line in lines_of(f'{it.rlib}/format')]
-        build = [it.split()[1].replace('/', '_') for it in said if it.startswith('rattle-build ')]
+        build = [it.split()[1].replace('/', '_') for it in lines_of(f'{library}/format') if it.startswith('rattle-build ')]
         os.makedirs(f'{to}/{build[0]}')
-        with open(f'{held}/toolchain/checked.a', 'rb') as file:
-            every = file.read()
-        for name, at, size in map(json.loads, filter(None, lines_of(f'{held}/toolchain/checked.json'))):
+        with open(f'{library}/toolchain/checked.a', 'rb') as file:
+            held = file.read()
+        for name, at, size in map(json.loads, filter(None, lines_of(f'{library}/toolchain/checked.json'))):
             if '/' not in name:
                 with open(f'{to}/{build[0]}/{name}.oantt', 'wb') as file:
-                    file.write(every[at:at + size])
+                    file.write(held[at:at + size])
 
 
 def add_edits(rt, own, tasks, crate, edits, first, waits, is_well, kept, *rest, **named):
@@ -226,7 +223,7 @@ def add_edits(rt, own, tasks, crate, edits, first, waits, is_well, kept, *rest, 
         after, lines, memory, seed = tasks[crate.name, 'seed']
 
         def seed_of_proof(given, jobs):
-            lay_checked(crate, named['start'])
+            lay_checked(crate.rlib, named['start'])
             try:
                 return seed(given, jobs)
             finally:

@@ -183,7 +183,7 @@ class Build:
             """What an archive is compiled from stays, and programs are compiled by LLVM alone."""
 
             def prove(self, command):
-                write(f'{new}/out/words', json.dumps([it.replace(f'{stage}/crates/', f'{ROOM}/') for it in command]))
+                write(f'{new}/words', json.dumps([it.replace(f'{stage}/crates/', f'{ROOM}/') for it in command]))
                 return super().prove([*command, *['-o', 'out/checked'] * self.is_static])
 
             def compile_by(self, backend, words, to):
@@ -241,8 +241,7 @@ class Build:
             shutil.copytree(f'{self.kit}/toolchain', tools, copy_function=os.symlink)
             write(f'{tools}/bin/clang', f'#!/bin/sh\nexec "{self.kit}/toolchain/bin/clang" "$@" {ARCHIVES[file]}\n')
             os.chmod(f'{tools}/bin/clang', 0o755)
-            said = text_of(f'{folder}/out/words').replace(f'{TOP}/crates/', f'{ROOM}/')
-            words = [f'{self.kit}/bin/rattle', 'build', *json.loads(said)[1:]]
+            words = [f'{self.kit}/bin/rattle', 'build', *json.loads(text_of(f'{folder}/words'))[1:]]
             for it in ('--logic-built', '--jobs'):
                 del words[words.index(it):words.index(it) + 2]
             words += ['--crate-checked', 'out/checked', '--toolchain', tools, '--backend', 'llvm', '-o', f'{made}.part']
@@ -257,10 +256,11 @@ class Build:
     def take(self):
         for name in self.below(*self.line):
             out, new = f'crates/{name}/out', f'{ROOM}/{name}.new/crates/{name}'
-            if any(os.path.exists(f'{out}/{it}') for it in (f'rlib/{name}.rlib', 'checked', name)) and lock(name):
+            for made in (it for it in (f'rlib/{name}.rlib', 'checked') if os.path.isdir(f'{out}/{it}') and lock(name)):
                 shutil.rmtree(f'{ROOM}/{name}.new', ignore_errors=True)
                 copy(f'crates/{name}', new)
-                shutil.copytree(out, f'{new}/out')
+                shutil.copytree(f'{out}/{made}', f'{new}/out/{made}')
+                write(f'{new}/words', text_of(f'{out}/words').replace(f'{TOP}/crates/', f'{ROOM}/'))
                 self.keep(name, new, self.key(name, new))
 
 
