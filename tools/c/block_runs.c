@@ -276,6 +276,8 @@ static void lost(void)
 
 static llfree_core cores[CORES];
 static _Atomic unsigned char owner[3 * TREE];
+/* Runs of several huge frames that were had by any thread: while others hold all, one may have none. */
+static _Atomic int long_runs;
 
 static void mark(uint32_t first, uint32_t frames, unsigned char from)
 {
@@ -298,7 +300,7 @@ static void *work(void *handle)
     uint64_t x = 88172645463325252ull + (uint64_t)(me - cores) * 7919;
     llfree_block held[6][6];
     uint32_t count[6];
-    int n = 0, had = 0;
+    int n = 0;
 
     memset(held, 0, sizeof held);
     for (int round = 0; round < ROUNDS; round++) {
@@ -315,7 +317,7 @@ static void *work(void *handle)
                 continue;
             CHECK(count[n] == 0 || held[n][0].frame % (CHILD * rounded_up(count[n])) == 0);
             mark(held[n][0].frame, count[n] ? CHILD * count[n] : 1u << held[n][0].order, 0);
-            had += count[n] > 1;
+            long_runs += count[n] > 1;
             n++;
         } else if (n > 0) {
             give(me, held[i], count[i]);
@@ -326,7 +328,6 @@ static void *work(void *handle)
             count[i] = count[n];
         }
     }
-    CHECK(had > 0);
     while (n-- > 0)
         give(me, held[n], count[n]);
     return NULL;
@@ -344,6 +345,7 @@ static void threads(void)
         CHECK(pthread_create(&threads[i], NULL, work, &cores[i]) == 0);
     for (int i = 0; i < CORES; i++)
         CHECK(pthread_join(threads[i], NULL) == 0);
+    CHECK(long_runs > 0);
     CHECK(llfree_free_frames(&cores[0]) == 3 * TREE && llfree_free_huge(&cores[1]) == 3 * TREE / CHILD);
     CHECK(llfree_take_block_run(&cores[2], all, run, 3 * TREE / CHILD) == LLFREE_OK && run[0].frame == 0);
     CHECK(llfree_give_block_run(&cores[3], run, 3 * TREE / CHILD) == LLFREE_OK);

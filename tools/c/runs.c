@@ -402,6 +402,8 @@ static void random_runs(void)
 
 static llfree_core cores[CORES];
 static _Atomic unsigned char owner[3 * TREE];
+/* Runs of several huge frames that were had by any thread: while others hold all, one may have none. */
+static _Atomic int long_runs;
 
 static void mark(uint32_t first, uint32_t frames, unsigned char from)
 {
@@ -416,7 +418,7 @@ static void *work(void *handle)
     uint64_t x = 88172645463325252ull + (uint64_t)(me - cores) * 7919;
     uint32_t frame[6], count[6];
     uint8_t orders[6];
-    int n = 0, had = 0;
+    int n = 0;
 
     for (int round = 0; round < ROUNDS; round++) {
         uint64_t r = next_random(&x);
@@ -431,7 +433,7 @@ static void *work(void *handle)
                 continue;
             CHECK(count[n] == 0 || frame[n] % (CHILD * rounded_up(count[n])) == 0);
             mark(frame[n], count[n] ? CHILD * count[n] : 1u << orders[n], 0);
-            had += count[n] > 1;
+            long_runs += count[n] > 1;
             CHECK(!llfree_is_free(me, frame[n], 0));
             n++;
         } else if (n > 0) {
@@ -446,7 +448,6 @@ static void *work(void *handle)
             orders[i] = orders[n];
         }
     }
-    CHECK(had > 0);
     while (n-- > 0) {
         mark(frame[n], count[n] ? CHILD * count[n] : 1u << orders[n], 1);
         CHECK((count[n] ? llfree_give_run(me, frame[n], count[n]) : llfree_give(me, frame[n], orders[n])) == LLFREE_OK);
@@ -465,6 +466,7 @@ static void threads(void)
         CHECK(pthread_create(&all[i], NULL, work, &cores[i]) == 0);
     for (int i = 0; i < CORES; i++)
         CHECK(pthread_join(all[i], NULL) == 0);
+    CHECK(long_runs > 0);
     CHECK(llfree_free_frames(&cores[0]) == 3 * TREE && llfree_free_huge(&cores[1]) == 3 * TREE / CHILD);
     CHECK(llfree_take_run(&cores[2], 3 * TREE / CHILD, &frame) == LLFREE_OK && frame == 0);
     CHECK(llfree_give_run(&cores[3], 0, 3 * TREE / CHILD) == LLFREE_OK);
