@@ -3,8 +3,6 @@
 ghost use Rattle.std.specs.Prelude.{◌≡◌, ◌+◌, ◌≤◌, true, false};
 ghost use Rattle.core_frames.specs.declared.search.trail.Start.{Start};
 
-use frame_words::HUGE_ORDER;
-
 /// Where the pass of a core over all trees begins.
 #[derive(Clone, Copy, Debug, PartialEq, Eq)]
 pub enum Start {
@@ -27,8 +25,8 @@ pub struct Trail {
     start: Start,
     // How many searches for single frames more leave the pass over partly free trees out.
     left_out: u8,
-    // The first tree that this pass found nearly free when it was made last.
-    nearly_free: Option<u32>,
+    // Whether that pass found a tree nearly free when it was made last.
+    nearly_free: bool,
     // The tree in which a pass over all trees found a block last.
     last: Option<u32>,
     pub ghost few: { left_out ≤ 15 },
@@ -40,7 +38,7 @@ impl Trail {
         Trail {
             start,
             left_out: 0,
-            nearly_free: None,
+            nearly_free: false,
             last: None,
         }
     }
@@ -62,17 +60,17 @@ impl Trail {
         true
     }
 
-    /// Records that this pass found no block of the order, and the first tree that it found nearly free.
+    /// Records that this pass found no block of the order, and whether it found a tree nearly free.
     #[inline(always)]
-    pub(crate) fn passed(&mut self, order: u8, nearly_free: Option<u32>) {
+    pub(crate) fn passed(&mut self, order: u8, nearly_free: bool) {
         if order == 0 && self.start == Start::Last {
             self.left_out = LEFT_OUT;
         }
         self.nearly_free = nearly_free;
     }
 
-    /// The first tree that this pass found nearly free when it was made last.
-    pub(crate) fn nearly_free(&self) -> Option<u32> {
+    /// Whether this pass found a tree nearly free when it was made last.
+    pub(crate) fn nearly_free(&self) -> bool {
         self.nearly_free
     }
 
@@ -84,16 +82,14 @@ impl Trail {
     }
 
     /// The tree that the pass over all trees begins with: `first` where one is nearly free, or none is
-    /// remembered. For a huge frame the trees before a nearly free one were all just tried.
-    pub(crate) fn start(&self, order: u8, first: u32, trees: u32, nearly_free: Option<u32>) -> u32
+    /// remembered.
+    pub(crate) fn start(&self, first: u32, trees: u32, nearly_free: bool) -> u32
         requires { first ≤ trees }
         ensures { result ≤ trees }
     {
-        let tree = match (nearly_free, self.last) {
-            (Some(tree), _) if order == HUGE_ORDER && !self.is_fixed() => tree,
-            (None, Some(tree)) => tree,
+        match self.last {
+            Some(tree) if tree < trees && !nearly_free => tree,
             _ => first,
-        };
-        tree.min(trees)
+        }
     }
 }
