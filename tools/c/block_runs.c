@@ -333,7 +333,7 @@ static void *work(void *handle)
     return NULL;
 }
 
-/* Four threads; at the end all is free, and one run has all of it. */
+/* Four threads; at the end all is free, and a run of each core has all of it. */
 static void threads(void)
 {
     static llfree_block run[3 * TREE / CHILD];
@@ -347,8 +347,10 @@ static void threads(void)
         CHECK(pthread_join(threads[i], NULL) == 0);
     CHECK(long_runs > 0);
     CHECK(llfree_free_frames(&cores[0]) == 3 * TREE && llfree_free_huge(&cores[1]) == 3 * TREE / CHILD);
-    CHECK(llfree_take_block_run(&cores[2], all, run, 3 * TREE / CHILD) == LLFREE_OK && run[0].frame == 0);
-    CHECK(llfree_give_block_run(&cores[3], run, 3 * TREE / CHILD) == LLFREE_OK);
+    for (int i = 0; i < CORES; i++) {
+        CHECK(llfree_take_block_run(&cores[i], all, run, 3 * TREE / CHILD) == LLFREE_OK && run[0].frame == 0);
+        CHECK(llfree_give_block_run(&cores[(i + 1) % CORES], run, 3 * TREE / CHILD) == LLFREE_OK);
+    }
     close_all(cores, CORES);
 }
 

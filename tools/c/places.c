@@ -562,11 +562,12 @@ static void threads(void)
 {
     for (int kind = 0; kind < 2; kind++) {
         CHECK(llfree_open(cores, CORES, 2 * TREE, NULL, 0) == LLFREE_OK);
-        if (kind == 0)
+        if (kind == 0) {
             on_threads(work);
-        else
+            CHECK(at_places > 0);
+        } else {
             races();
-        CHECK(at_places > 0);
+        }
         CHECK(llfree_free_frames(&cores[0]) == 2 * TREE && llfree_free_huge(&cores[1]) == 2 * TREE / 512);
         for (uint32_t child = 0; child < 2 * TREE / 512; child++)
             CHECK(llfree_take_at(&cores[child % CORES], 512 * child, LARGEST) == LLFREE_OK);

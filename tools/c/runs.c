@@ -455,7 +455,7 @@ static void *work(void *handle)
     return NULL;
 }
 
-/* Four threads; at the end all is free, and one run has all of it. */
+/* Four threads; at the end all is free, and a run of each core has all of it. */
 static void threads(void)
 {
     pthread_t all[CORES];
@@ -468,8 +468,10 @@ static void threads(void)
         CHECK(pthread_join(all[i], NULL) == 0);
     CHECK(long_runs > 0);
     CHECK(llfree_free_frames(&cores[0]) == 3 * TREE && llfree_free_huge(&cores[1]) == 3 * TREE / CHILD);
-    CHECK(llfree_take_run(&cores[2], 3 * TREE / CHILD, &frame) == LLFREE_OK && frame == 0);
-    CHECK(llfree_give_run(&cores[3], 0, 3 * TREE / CHILD) == LLFREE_OK);
+    for (int i = 0; i < CORES; i++) {
+        CHECK(llfree_take_run(&cores[i], 3 * TREE / CHILD, &frame) == LLFREE_OK && frame == 0);
+        CHECK(llfree_give_run(&cores[(i + 1) % CORES], 0, 3 * TREE / CHILD) == LLFREE_OK);
+    }
     close_all(cores, CORES);
 }
 
